@@ -1,0 +1,142 @@
+-- What an opening and a step answer: accepted, what they give; refused, that the state stays. An accepted call gives a valid state.
+use mathlib.Core.Path.{_≡_, refl, ap, _∙_, sym, subst}
+use mathlib.Core.Bool.{Bool, true, false, cond}
+use mathlib.Core.Logic.{_≢_}
+use mathlib.Core.List.{List}
+use Prim.Native.Nat.{ℕ, _+_, _-_, _*_, _^_, _<_, _≤_}
+use native.Mathlib.Omega.{arith}
+use lib.ListN.{length}
+use lib.Dec.{eqb, ltb}
+use borrow.Author.Tests.{eq-eqb, eqb-true, eqb-false, lt-ltb}
+use Rattle.words.proofs.Truth.{cond-both, cond-true, clash}
+use Rattle.setup.specs.Verdict.{accepted, isAccepted, check, between}
+use Rattle.setup.specs.Check.{checkFields}
+use Rattle.setup.specs.declared.Verdict.{Verdict}
+use Rattle.setup.specs.declared.Setup.{Setup}
+use Rattle.setup.proofs.VerdictLaws.{check-ok, check-pass, between-is, between-of}
+use Rattle.setup.proofs.SetupLaws.{SetupFits, fields-pass, fields-ok}
+use Rattle.presence.specs.Hearing.{busWord, wordHeard, readingOf}
+use Rattle.presence.specs.Syndrome.{outgoingOf}
+use Rattle.presence.specs.Valid.{stateVerdict, Valid}
+use Rattle.presence.specs.Opening.{fresh, blank, checkOpening, openOf}
+use Rattle.presence.specs.Step.{skewOf, markOf, ownSyndrome, judgementFor, outgoingFor, afterRound, refusedStep, acceptedStep, testedStep, readStep, stepOf}
+use Rattle.presence.specs.Calls.{handedOut}
+use Rattle.presence.specs.declared.Reading.{Reading}
+use Rattle.presence.specs.declared.State.{State}
+use Rattle.presence.specs.declared.Opened.{Opened}
+use Rattle.presence.specs.declared.Stepped.{Stepped}
+use Rattle.presence.proofs.HearingLaws.{bus-heard}
+use Rattle.presence.proofs.SyndromeLaws.{syndrome-lt}
+use Rattle.presence.proofs.ValidLaws.{StateFits, valid-fits, fits-verdict, fits-valid, fresh-fits, after-fits}
+
+-- ---- rules 4, 7 and 9
+
+-- An empty vote of the next step falls back on the syndrome of one step before the last where u is 1, else on that of the last.
+pub own-after : (st : State) (this : Reading)
+    → ownSyndrome (afterRound st this) ≡ cond (skewOf st) (st .latest) (judgementFor st this .syndrome)
+unfolding ownSyndrome afterRound
+own-after st this = refl
+
+-- The word that a step hands out is told by the state that it leaves: a marked module delays its syndrome once.
+pub handed-out : (st : State) (this : Reading) → acceptedStep st this .word ≡ handedOut (acceptedStep st this .state)
+unfolding acceptedStep outgoingFor outgoingOf handedOut afterRound markOf
+handed-out st this = refl
+
+-- A valid state hands out no word that fails its test.
+pub outgoing-heard : (st : State) (this : Reading) → StateFits st → wordHeard (st .setup .n) (outgoingFor st this) ≡ true
+unfolding outgoingFor outgoingOf judgementFor
+outgoing-heard st this f =
+    bus-heard (st .setup .n) _ (f .setup .most)
+    (cond-both (λ v. v < 2 ^ st .setup .n) (markOf st) (st .latest) _ (f .latest) (syndrome-lt (st .setup .n) _ _))
+
+-- ---- the step
+
+-- a valid state, N read words and no controller bit at N or above
+pub step-accepts : (st : State) (read : List ℕ) (controller : ℕ) → StateFits st → length read ≡ st .setup .n * 4 → controller < 2 ^ st .setup .n
+    → stepOf st read controller ≡ acceptedStep st (readingOf (st .setup .n) read controller)
+unfolding stepOf readStep testedStep
+step-accepts st read controller f l h =
+    let this = readingOf (st .setup .n) read controller in
+    cond-true _ _ (ap isAccepted (fits-verdict st f))
+    ∙ cond-true _ _ (eq-eqb (length read) (st .setup .n * 4) l)
+    ∙ cond-true _ _ (lt-ltb controller (2 ^ st .setup .n) h)
+    ∙ cond-true _ _ (outgoing-heard st this f)
+
+-- by the tests of its state, its read, its controller bits and its word
+answered : State → Reading → Verdict → Bool → Bool → Bool → Bool → Stepped
+answered st this v a b c d =
+    cond a (cond b (cond c (cond d (acceptedStep st this) (refusedStep st 11 0)) (refusedStep st 10 0)) (refusedStep st 9 0))
+    (refusedStep st (v .number) (v .index))
+
+pub step-refused : (st : State) (read : List ℕ) (controller : ℕ) → stepOf st read controller .number ≢ 0
+    → stepOf st read controller .state ≡ st
+unfolding stepOf readStep testedStep acceptedStep refusedStep answered
+step-refused st read controller no-zero =
+    go (isAccepted v) (eqb (length read) (st .setup .n * 4)) (ltb controller (2 ^ st .setup .n))
+    (wordHeard (st .setup .n) (outgoingFor st this)) no-zero
+  where
+    v : Verdict
+    v = stateVerdict st
+
+    this : Reading
+    this = readingOf (st .setup .n) read controller
+
+    go : (a b c d : Bool) → answered st this v a b c d .number ≢ 0 → answered st this v a b c d .state ≡ st
+    go true true true true h = absurd (h refl)
+    go true true true false h = refl
+    go true true false d h = refl
+    go true false c d h = refl
+    go false b c d h = refl
+
+-- an accepted step is one of a valid state
+pub step-accepted : (st : State) (read : List ℕ) (controller : ℕ) → stepOf st read controller .number ≡ 0
+    → Valid st × (stepOf st read controller ≡ acceptedStep st (readingOf (st .setup .n) read controller))
+unfolding stepOf readStep testedStep acceptedStep refusedStep answered
+step-accepted st read controller zero =
+    go (isAccepted v) (eqb (length read) (st .setup .n * 4)) (ltb controller (2 ^ st .setup .n))
+    (wordHeard (st .setup .n) (outgoingFor st this)) refl zero
+  where
+    v : Verdict
+    v = stateVerdict st
+
+    this : Reading
+    this = readingOf (st .setup .n) read controller
+
+    go : (a b c d : Bool) → isAccepted v ≡ a → answered st this v a b c d .number ≡ 0
+        → (v .number ≡ 0) × (answered st this v a b c d ≡ acceptedStep st this)
+    go true true true true e z = (eqb-true (v .number) 0 e, refl)
+    go true true true false e z = absurd (omega arith)
+    go true true false d e z = absurd (omega arith)
+    go true false c d e z = absurd (omega arith)
+    go false b c d e z = absurd (eqb-false (v .number) 0 e z)
+
+-- and gives a valid state
+pub step-valid : (st : State) (read : List ℕ) (controller : ℕ) → stepOf st read controller .number ≡ 0
+    → Valid (stepOf st read controller .state)
+unfolding acceptedStep
+step-valid st read controller zero =
+    let (valid, e) = step-accepted st read controller zero in
+    rw e (fits-valid _ (after-fits st read controller (valid-fits st valid)))
+
+-- ---- opening
+
+pub open-accepts : (s : Setup) (own : ℕ) → SetupFits s → 1 ≤ own → own ≤ s .n
+    → openOf s own ≡ record { number = 0; index = 0; state = fresh s own }
+unfolding openOf checkOpening
+open-accepts s own f h l =
+    let v : checkOpening s own ≡ accepted
+    = fields-ok s _ f ∙ check-ok (between 1 (s .n) own) 7 0 accepted (between-of 1 (s .n) own h l) in
+    rw v
+
+pub open-valid : (s : Setup) (own : ℕ) → openOf s own .number ≡ 0 → Valid (openOf s own .state)
+unfolding openOf checkOpening
+open-valid s own zero =
+    let (f, e) = fields-pass s _ zero in
+    let (o, z) = check-pass (between 1 (s .n) own) 7 0 accepted (omega arith) e in
+    let (h, l) = between-is 1 (s .n) own o in
+    subst (λ (o : Opened). Valid (o .state)) (sym (open-accepts s own f h l)) (fits-valid (fresh s own) (fresh-fits s own f h l))
+
+-- what a refused opening holds cannot be stepped
+pub blank-refused : (read : List ℕ) (controller : ℕ) → stepOf blank read controller ≡ refusedStep blank 2 0
+unfolding stepOf stateVerdict checkFields check blank
+blank-refused read controller = refl

@@ -1,0 +1,38 @@
+-- Rules 4 to 6: the health vector and the syndrome, bit by bit.
+use mathlib.Core.Path.{_≡_, refl, sym, ap, _∙_}
+use mathlib.Core.Bool.{Bool, not, _&&_}
+use Prim.Native.Nat.{ℕ, _^_, _≤_, _<_}
+use lib.ListN.{getD}
+use lib.Dec.{eqb}
+use Rattle.words.specs.Bits.{bit}
+use Rattle.words.specs.Count.{any}
+use Rattle.words.proofs.BitLaws.{bit-pack, pack-lt}
+use Rattle.words.proofs.ArrayLaws.{array-at}
+use Rattle.presence.specs.Vote.{voteOf, healthOf}
+use Rattle.presence.specs.Accusation.{differsAt, accusationsOf}
+use Rattle.presence.specs.Syndrome.{syndromeOf, votersOf, judgementOf}
+use Rattle.presence.specs.declared.Reading.{Reading}
+use Rattle.presence.proofs.AccusationLaws.{unaccused}
+
+module _ (n : ℕ) (aligned : Reading) (own : ℕ) where
+  pub health-lt : judgementOf n aligned own .health < 2 ^ n
+  unfolding judgementOf healthOf
+  health-lt = pack-lt n _
+
+  pub syndrome-lt : judgementOf n aligned own .syndrome < 2 ^ n
+  unfolding judgementOf syndromeOf
+  syndrome-lt = pack-lt n _
+
+  module _ (j : ℕ) (h : j < n) where
+    pub health-bit : bit (judgementOf n aligned own .health) j ≡ voteOf n (votersOf aligned) (aligned .rows) own j
+    unfolding judgementOf healthOf
+    health-bit = bit-pack n _ j h
+
+    pub syndrome-bit : n ≤ 16 → bit (judgementOf n aligned own .syndrome) j
+        ≡ bit (aligned .heard) j
+        && not (bit (votersOf aligned) j && any n (differsAt (getD (aligned .rows) j 0) (judgementOf n aligned own .health) j))
+    unfolding judgementOf syndromeOf accusationsOf
+    syndrome-bit small =
+        bit-pack n _ j h
+        ∙ ap (λ (a : ℕ). bit (aligned .heard) j && eqb a 0) (array-at n _ j h small)
+        ∙ ap (λ (b : Bool). bit (aligned .heard) j && b) (unaccused n (votersOf aligned) (getD (aligned .rows) j 0) (judgementOf n aligned own .health) j)

@@ -1,0 +1,79 @@
+-- What C calls: the answer, and the output at exit, which a refusal leaves as it was. (document 01, "What runs"; "Answers and their order")
+use Prim.Native.Nat.{ℕ}
+use mathlib.Core.Bool.{Bool, cond}
+use mathlib.Core.List.{List}
+use lib.ListN.{length}
+use lib.Dec.{eqb}
+use Rattle.words.specs.Word.{wordAt}
+use Rattle.setup.specs.Verdict.{isAccepted}
+use Rattle.setup.specs.Setup.{sizeIn, setupOf}
+use Rattle.setup.specs.Check.{checkSetup}
+use Rattle.setup.specs.declared.Verdict.{Verdict}
+use Rattle.presence.specs.Hearing.{busWord}
+use Rattle.presence.specs.Opening.{openOf}
+use Rattle.presence.specs.Step.{markOf, stepOf}
+use Rattle.presence.specs.Image.{imageLength, imageOf, stateOf, checkImage}
+use Rattle.presence.specs.declared.Answer.{Answer}
+use Rattle.presence.specs.declared.Outgoing.{Outgoing}
+use Rattle.presence.specs.declared.State.{State}
+use Rattle.presence.specs.declared.Opened.{Opened}
+use Rattle.presence.specs.declared.Stepped.{Stepped}
+
+-- the answer and the output at exit
+pub record Called : Type 0 where
+  pub answer : Answer
+  pub out : List ℕ
+
+abbrev pub answer : ℕ → ℕ → ℕ → Answer
+answer number index health = record { number = number; index = index; health = health }
+
+unfoldable pub refusedCall : ℕ → ℕ → List ℕ → Called
+refusedCall number index out = record { answer = answer number index 0; out = out }
+
+-- a state written to the output, after 9 for an output of another length than its image
+unfoldable pub wrote : ℕ → State → List ℕ → Called
+wrote health st out =
+    cond (eqb (length out) (imageLength (st .setup .n))) (record { answer = answer 0 0 health; out = imageOf st })
+    (refusedCall 9 0 out)
+
+-- setup check: 1 to 6
+unfoldable pub checkCall : List ℕ → Answer
+checkCall setup = let v = checkSetup setup in answer (v .number) (v .index) 0
+
+-- opening: 1 to 6, 7, 9
+unfoldable pub openCall : List ℕ → ℕ → List ℕ → Called
+openCall setup own out =
+    let v = checkSetup setup in
+    let opened = openOf (setupOf setup) own in
+    cond (isAccepted v)
+    (cond (eqb (opened .number) 0) (wrote 0 (opened .state) out) (refusedCall (opened .number) (opened .index) out))
+    (refusedCall (v .number) (v .index) out)
+
+-- step: 1 to 8, 9 for the output or the read, 10, 11
+unfoldable pub stepCall : List ℕ → List ℕ → ℕ → List ℕ → Called
+stepCall image read controller out =
+    let v = checkImage image in
+    let st = stateOf image in
+    let stepped = stepOf st read controller in
+    cond (isAccepted v)
+    (cond (eqb (length out) (imageLength (st .setup .n)))
+    (cond (eqb (stepped .number) 0) (wrote (stepped .health) (stepped .state) out)
+    (refusedCall (stepped .number) (stepped .index) out))
+    (refusedCall 9 0 out))
+    (refusedCall (v .number) (v .index) out)
+
+-- saving: 1 to 8, 9
+unfoldable pub saveCall : List ℕ → List ℕ → Called
+saveCall image out =
+    let v = checkImage image in
+    cond (isAccepted v) (wrote 0 (stateOf image) out) (refusedCall (v .number) (v .index) out)
+
+-- The word handed out by the step or opening that left this state: the syndrome of the round before with the send mark, else the latest.
+unfoldable pub handedOut : State → ℕ
+handedOut st = busWord (cond (markOf st) (st .earlier) (st .latest))
+
+-- the outgoing word of an image: 1 to 8
+unfoldable pub outgoingCall : List ℕ → Outgoing
+outgoingCall image =
+    let v = checkImage image in
+    record { number = v .number; index = v .index; word = cond (isAccepted v) (handedOut (stateOf image)) 0 }

@@ -1,0 +1,46 @@
+-- Opening a module from a setup and its own number. (document 01, "One step", last paragraph; number 7)
+use Prim.Native.Nat.{ℕ}
+use mathlib.Core.Bool.{Bool, cond}
+use mathlib.Core.List.{List}
+use lib.ListN.{replicate}
+use Rattle.words.specs.Bits.{full}
+use Rattle.words.specs.Array.{array}
+use Rattle.setup.specs.Verdict.{accepted, isAccepted, check, between}
+use Rattle.setup.specs.Check.{checkFields}
+use Rattle.setup.specs.declared.Verdict.{Verdict}
+use Rattle.setup.specs.declared.Setup.{Setup}
+use Rattle.presence.specs.declared.State.{State}
+use Rattle.presence.specs.declared.Opened.{Opened}
+
+-- a fresh module: all-ones syndromes and rows, all heard, zero counters, full view
+unfoldable pub fresh : Setup → ℕ → State
+fresh s own = record {
+  setup = s;
+  own = own;
+  counters = record { view = full (s .n); penalty = replicate 16 0; reward = replicate 16 0 };
+  previous = record { heard = full (s .n); rows = array (s .n) (λ j. full (s .n)) };
+  latest = full (s .n);
+  earlier = full (s .n);
+}
+
+-- What a refused opening holds, which document 01 leaves free: nothing at all. A step of it is refused by 2 at 0, since no setup has N = 0.
+unfoldable pub blank : State
+blank =
+    let zeros : List ℕ = replicate 16 0 in
+    record {
+      setup = record { n = 0; p = 0; r = 0; marks = 0; places = zeros; criticality = zeros };
+      own = 0;
+      counters = record { view = 0; penalty = zeros; reward = zeros };
+      previous = record { heard = 0; rows = zeros };
+      latest = 0;
+      earlier = 0;
+    }
+
+-- numbers 1 to 6 of the setup, then 7 with index 0
+unfoldable pub checkOpening : Setup → ℕ → Verdict
+checkOpening s own = checkFields s (check (between 1 (s .n) own) 7 0 accepted)
+
+unfoldable pub openOf : Setup → ℕ → Opened
+openOf s own =
+    let v = checkOpening s own in
+    record { number = v .number; index = v .index; state = cond (isAccepted v) (fresh s own) blank }

@@ -1,0 +1,94 @@
+-- One step of a module: rules 1 to 9 in their order, and the answers 9, 10 and 11. (document 01, "One step, round k")
+use Prim.Native.Nat.{ℕ, _-_, _*_, _^_}
+use mathlib.Core.Bool.{Bool, cond}
+use mathlib.Core.List.{List}
+use lib.ListN.{getD, length, replicate}
+use lib.Dec.{eqb, ltb}
+use Rattle.words.specs.Bits.{bit}
+use Rattle.setup.specs.Verdict.{isAccepted}
+use Rattle.presence.specs.Lag.{skewed}
+use Rattle.presence.specs.Hearing.{wordHeard, readingOf}
+use Rattle.presence.specs.Alignment.{alignedOf}
+use Rattle.presence.specs.Syndrome.{judgementOf, outgoingOf}
+use Rattle.presence.specs.Account.{countersOf}
+use Rattle.presence.specs.Valid.{stateVerdict}
+use Rattle.presence.specs.declared.Reading.{Reading}
+use Rattle.presence.specs.declared.Judgement.{Judgement}
+use Rattle.presence.specs.declared.State.{State}
+use Rattle.presence.specs.declared.Stepped.{Stepped}
+
+-- ---- what a state says of its module
+
+-- rule 1: whether u is 1
+abbrev pub skewOf : State → Bool
+skewOf st = skewed (st .setup .n) (st .setup .places)
+
+-- the module's own read place and send mark
+unfoldable pub placeOf : State → ℕ
+placeOf st = getD (st .setup .places) (st .own - 1) 0
+
+unfoldable pub markOf : State → Bool
+markOf st = bit (st .setup .marks) (st .own - 1)
+
+-- its own syndrome computed in round k - u - 1, for empty votes
+unfoldable pub ownSyndrome : State → ℕ
+ownSyndrome st = cond (skewOf st) (st .earlier) (st .latest)
+
+-- ---- a round, from this read
+
+-- rule 3
+unfoldable pub alignedFor : State → Reading → Reading
+alignedFor st this = alignedOf (st .setup .n) (skewOf st) (placeOf st) (st .previous) this
+
+-- rules 4 to 6
+unfoldable pub judgementFor : State → Reading → Judgement
+judgementFor st this = judgementOf (st .setup .n) (alignedFor st this) (ownSyndrome st)
+
+-- rule 7
+unfoldable pub outgoingFor : State → Reading → ℕ
+outgoingFor st this = outgoingOf (markOf st) (st .latest) (judgementFor st this .syndrome)
+
+-- rule 8, and what the next step needs
+unfoldable pub afterRound : State → Reading → State
+afterRound st this = record {
+  setup = st .setup;
+  own = st .own;
+  counters = countersOf (st .setup) (judgementFor st this .health) (st .counters);
+  previous = this;
+  latest = judgementFor st this .syndrome;
+  earlier = st .latest;
+}
+
+-- ---- the answer
+
+-- a refusal leaves the state as it was
+unfoldable pub refusedStep : State → ℕ → ℕ → Stepped
+refusedStep st number index =
+    record { number = number; index = index; health = 0; accusations = replicate 16 0; word = 0; state = st }
+
+unfoldable pub acceptedStep : State → Reading → Stepped
+acceptedStep st this = record {
+  number = 0;
+  index = 0;
+  health = judgementFor st this .health;
+  accusations = judgementFor st this .accusations;
+  word = outgoingFor st this;
+  state = afterRound st this;
+}
+
+-- Rule 9: the outgoing word is tested as in rule 2.
+unfoldable pub testedStep : State → Reading → Stepped
+testedStep st this = cond (wordHeard (st .setup .n) (outgoingFor st this)) (acceptedStep st this) (refusedStep st 11 0)
+
+-- 9: a read of other than N words; 10: a controller bit at N or above
+unfoldable pub readStep : State → List ℕ → ℕ → Stepped
+readStep st read controller =
+    cond (eqb (length read) (st .setup .n * 4))
+    (cond (ltb controller (2 ^ st .setup .n)) (testedStep st (readingOf (st .setup .n) read controller)) (refusedStep st 10 0))
+    (refusedStep st 9 0)
+
+-- a state outside the limits is refused first
+unfoldable pub stepOf : State → List ℕ → ℕ → Stepped
+stepOf st read controller =
+    let v = stateVerdict st in
+    cond (isAccepted v) (readStep st read controller) (refusedStep st (v .number) (v .index))

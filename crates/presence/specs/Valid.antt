@@ -1,0 +1,58 @@
+-- Which states are accepted, and the number and index by which the others are refused: 1 to 8, as their image would be.
+-- (document 01, "Answers and their order", number 8)
+use Prim.Native.Nat.{ℕ, _+_, _*_, _^_}
+use mathlib.Core.Path.{_≡_}
+use mathlib.Core.Bool.{Bool, true, cond, not, _&&_, _||_, Bool·beq}
+use lib.ListN.{getD}
+use lib.Dec.{eqb, leb, ltb}
+use Rattle.words.specs.Bits.{bit}
+use Rattle.words.specs.Array.{clearFrom}
+use Rattle.setup.specs.Verdict.{accepted, isAccepted, check, checkEach, between}
+use Rattle.setup.specs.Check.{checkFields}
+use Rattle.setup.specs.declared.Verdict.{Verdict}
+use Rattle.presence.specs.declared.State.{State}
+
+-- ---- what holds of the fields
+
+-- no bit at N or above, and no row where the module was not heard
+unfoldable pub rowFits : ℕ → Bool → ℕ → Bool
+rowFits n heard row = ltb row (cond heard (2 ^ n) 1)
+
+-- at most P + criticality; in the view exactly where it is not over P
+unfoldable pub penaltyFits : ℕ → ℕ → Bool → ℕ → Bool
+penaltyFits p criticality present penalty = leb penalty (p + criticality) && Bool·beq present (leb penalty p)
+
+-- below R, and 0 where the penalty is 0
+unfoldable pub rewardFits : ℕ → ℕ → ℕ → Bool
+rewardFits r penalty reward = ltb reward r && (eqb reward 0 || not (eqb penalty 0))
+
+-- entries from N on are 0: no word of an image holds them
+unfoldable pub stateTidy : State → Bool
+stateTidy st =
+    let n = st .setup .n in
+    ltb (st .previous .heard) (2 ^ n) && clearFrom n (st .previous .rows) && clearFrom n (st .counters .penalty)
+    && clearFrom n (st .counters .reward)
+
+-- ---- the order of an image: the setup, own number and view, rows, two syndromes, penalties, rewards
+
+unfoldable pub checkState : State → Verdict
+checkState st =
+    let n = st .setup .n in
+    let c = st .counters in
+    check (between 1 n (st .own)) 7 (n + 3)
+    (check (ltb (c .view) (2 ^ n)) 8 (n + 3)
+    (checkEach n (λ j. rowFits n (bit (st .previous .heard) j) (getD (st .previous .rows) j 0)) 8 (n + 3)
+    (check (ltb (st .latest) (2 ^ n)) 8 (2 * n + 4)
+    (check (ltb (st .earlier) (2 ^ n)) 8 (2 * n + 5)
+    (checkEach n
+    (λ j. penaltyFits (st .setup .p) (getD (st .setup .criticality) j 0) (bit (c .view) j) (getD (c .penalty) j 0)) 8
+    (2 * n + 5)
+    (checkEach n (λ j. rewardFits (st .setup .r) (getD (c .penalty) j 0) (getD (c .reward) j 0)) 8 (3 * n + 5)
+    (check (stateTidy st) 8 0 accepted)))))))
+
+unfoldable pub stateVerdict : State → Verdict
+stateVerdict st = checkFields (st .setup) (checkState st)
+
+-- a state within the limits
+abbrev pub Valid : State → Type 0
+Valid st = stateVerdict st .number ≡ 0

@@ -1,0 +1,60 @@
+-- A setup as words: kinds 1, 2, 3, then 4 for modules 1..N. (document 01, "What runs")
+-- A module is its number less one here, as in a vector: module j + 1 is bit j.
+use Prim.Native.Nat.{ℕ, _+_, _*_, _/_, _%_, _^_}
+use mathlib.Core.Bool.{Bool}
+use mathlib.Core.List.{List, _++_}
+use lib.ListN.{getD}
+use Rattle.words.specs.Word.{wordAt, wordBytes, bytesOf, field}
+use Rattle.words.specs.Bits.{b2n, bit, pack}
+use Rattle.words.specs.Array.{array}
+use Rattle.setup.specs.declared.Setup.{Setup}
+
+-- kind 1: bits 4..0 N
+abbrev pub headWord : ℕ → ℕ
+headWord n = 1 * 2 ^ 28 + n
+
+abbrev pub sizeIn : ℕ → ℕ
+sizeIn w = w % 2 ^ 5
+
+-- kinds 2 and 3: a limit
+abbrev pub limitWord : ℕ → ℕ → ℕ
+limitWord kind limit = kind * 2 ^ 28 + limit
+
+abbrev pub limitIn : ℕ → ℕ
+limitIn w = w % 2 ^ 28
+
+-- kind 4: 27..23 number, 22 send mark, 21..17 read place, 16..0 criticality
+abbrev pub moduleWord : ℕ → Bool → ℕ → ℕ → ℕ
+moduleWord j mark place criticality = 4 * 2 ^ 28 + (j + 1) * 2 ^ 23 + b2n mark * 2 ^ 22 + place * 2 ^ 17 + criticality
+
+abbrev pub markIn : ℕ → Bool
+markIn w = bit w 22
+
+abbrev pub placeIn : ℕ → ℕ
+placeIn w = field 17 5 w
+
+abbrev pub criticalityIn : ℕ → ℕ
+criticalityIn w = w % 2 ^ 17
+
+-- the bytes of a setup of n modules
+abbrev pub setupLength : ℕ → ℕ
+setupLength n = (n + 3) * 4
+
+-- the setup that n module words and their head and limits hold
+unfoldable pub setupOf : List ℕ → Setup
+setupOf s =
+    let n = sizeIn (wordAt s 0) in
+    record {
+      n = n;
+      p = limitIn (wordAt s 1);
+      r = limitIn (wordAt s 2);
+      marks = pack n (λ j. markIn (wordAt s (3 + j)));
+      places = array n (λ j. placeIn (wordAt s (3 + j)));
+      criticality = array n (λ j. criticalityIn (wordAt s (3 + j)));
+    }
+
+-- the bytes that a setup is written as
+unfoldable pub setupBytes : Setup → List ℕ
+setupBytes s =
+    wordBytes (headWord (s .n)) ++ (wordBytes (limitWord 2 (s .p)) ++ (wordBytes (limitWord 3 (s .r))
+    ++ bytesOf (s .n) (λ j. moduleWord j (bit (s .marks) j) (getD (s .places) j 0) (getD (s .criticality) j 0))))
