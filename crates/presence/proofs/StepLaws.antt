@@ -10,6 +10,7 @@ use lib.Dec.{eqb, ltb}
 use borrow.Author.Tests.{eq-eqb, eqb-true, eqb-false, lt-ltb}
 use Rattle.words.proofs.Truth.{cond-both, cond-true, clash}
 use Rattle.setup.specs.Verdict.{accepted, isAccepted, check, between}
+use Rattle.setup.specs.Setup.{blankSetup}
 use Rattle.setup.specs.Check.{checkFields}
 use Rattle.setup.specs.declared.Verdict.{Verdict}
 use Rattle.setup.specs.declared.Setup.{Setup}
@@ -138,5 +139,5 @@ open-valid s own zero =
 
 -- what a refused opening holds cannot be stepped
 pub blank-refused : (read : List ℕ) (controller : ℕ) → stepOf blank read controller ≡ refusedStep blank 2 0
-unfolding stepOf stateVerdict checkFields check blank
+unfolding stepOf stateVerdict checkFields check blank blankSetup
 blank-refused read controller = refl

@@ -6,6 +6,7 @@ use lib.ListN.{replicate}
 use Rattle.words.specs.Bits.{full}
 use Rattle.words.specs.Array.{array}
 use Rattle.setup.specs.Verdict.{accepted, isAccepted, check, between}
+use Rattle.setup.specs.Setup.{blankSetup}
 use Rattle.setup.specs.Check.{checkFields}
 use Rattle.setup.specs.declared.Verdict.{Verdict}
 use Rattle.setup.specs.declared.Setup.{Setup}
@@ -28,7 +29,7 @@ unfoldable pub blank : State
 blank =
     let zeros : List ℕ = replicate 16 0 in
     record {
-      setup = record { n = 0; p = 0; r = 0; marks = 0; places = zeros; criticality = zeros };
+      setup = blankSetup;
       own = 0;
       counters = record { view = 0; penalty = zeros; reward = zeros };
       previous = record { heard = 0; rows = zeros };

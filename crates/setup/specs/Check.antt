@@ -9,9 +9,10 @@ use Rattle.words.specs.Word.{wordAt}
 use Rattle.words.specs.Bits.{bit}
 use Rattle.words.specs.Array.{clearFrom}
 use Rattle.setup.specs.Verdict.{accepted, isAccepted, check, checkEach, between}
-use Rattle.setup.specs.Setup.{headWord, sizeIn, limitWord, markIn, placeIn, criticalityIn, setupLength}
+use Rattle.setup.specs.Setup.{headWord, sizeIn, limitWord, markIn, placeIn, criticalityIn, setupLength, setupOf, setupBytes, blankSetup}
 use Rattle.setup.specs.declared.Verdict.{Verdict}
 use Rattle.setup.specs.declared.Setup.{Setup}
+use Rattle.setup.specs.declared.SetupRead.{SetupRead}
 
 -- ---- what holds of the fields
 
@@ -90,3 +91,18 @@ checkFields s next =
 
 unfoldable pub setupVerdict : Setup → Verdict
 setupVerdict s = checkFields s accepted
+
+-- ---- reading and writing
+
+unfoldable pub readSetup : List ℕ → SetupRead
+readSetup s =
+    let v = checkSetup s in
+    record { number = v .number; index = v .index; setup = cond (isAccepted v) (setupOf s) blankSetup }
+
+-- a setup outside the limits is refused first, then 9 for an output of another length
+unfoldable pub writeVerdict : Setup → List ℕ → Verdict
+writeVerdict s out = checkFields s (check (eqb (length out) (setupLength (s .n))) 9 0 accepted)
+
+-- the output at exit: a refusal leaves it as it was
+unfoldable pub writtenSetup : Setup → List ℕ → List ℕ
+writtenSetup s out = cond (isAccepted (writeVerdict s out)) (setupBytes s) out

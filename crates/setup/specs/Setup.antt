@@ -3,7 +3,7 @@
 use Prim.Native.Nat.{ℕ, _+_, _*_, _/_, _%_, _^_}
 use mathlib.Core.Bool.{Bool}
 use mathlib.Core.List.{List, _++_}
-use lib.ListN.{getD}
+use lib.ListN.{getD, replicate}
 use Rattle.words.specs.Word.{wordAt, wordBytes, bytesOf, field}
 use Rattle.words.specs.Bits.{b2n, bit, pack}
 use Rattle.words.specs.Array.{array}
@@ -58,3 +58,7 @@ unfoldable pub setupBytes : Setup → List ℕ
 setupBytes s =
     wordBytes (headWord (s .n)) ++ (wordBytes (limitWord 2 (s .p)) ++ (wordBytes (limitWord 3 (s .r))
     ++ bytesOf (s .n) (λ j. moduleWord j (bit (s .marks) j) (getD (s .places) j 0) (getD (s .criticality) j 0))))
+
+-- What is held where no setup was accepted, which document 01 leaves free: all zeros. No accepted setup has N = 0.
+unfoldable pub blankSetup : Setup
+blankSetup = record { n = 0; p = 0; r = 0; marks = 0; places = replicate 16 0; criticality = replicate 16 0 }

@@ -16,3 +16,10 @@ pub struct Setup {
     pub places: [u32; 16],
     pub criticality: [u32; 16],
 }
+
+// What reading a setup answers; where it is refused the setup is blank, all zeros.
+pub struct SetupRead {
+    pub number: u32,
+    pub index: u32,
+    pub setup: Setup,
+}

@@ -5,7 +5,7 @@ use mathlib.Core.Bool.{Bool, true, false, cond}
 use Prim.Native.Nat.{ℕ, zero, suc, _+_, _-_, _*_, _/_, _%_, _^_, _<_, _≤_}
 use native.Mathlib.Omega.{arith}
 use native.Mathlib.Numerals.{add-one}
-use native.Mathlib.Nat.{pow-suc, add-mul-div-right, add-mul-mod-self-right, div-eq-of-lt, mod-lt, mod-eq-of-lt, mul-assoc, eq-or-lt-of-le, le-of-suc-le-suc}
+use native.Mathlib.Nat.{pow-suc, add-mul-div-right, add-mul-mod-self-right, div-eq-of-lt, mod-lt, mod-eq-of-lt, mul-assoc, one-mul, eq-or-lt-of-le, le-of-suc-le-suc}
 use lib.Dec.{eqb, lit<}
 use lib.Pow.{pow-lt, mod-pow-add, pow-pos, pow-add, pow-mono}
 use borrow.Author.Tests.{eqb-true, eqb-false}
@@ -110,6 +110,10 @@ shifted true j h =
     let l : 1 * 2 ^ j < 2 ^ 32 = omega (arith, pow-lt h) in
     mod-eq-of-lt l
 shifted false j h = omega arith
+
+-- a shifted 1 fits a word
+pub one-shifted : (n : ℕ) → n < 32 → (1 * 2 ^ n) % 2 ^ 32 ≡ 2 ^ n
+one-shifted n h = shifted true n h ∙ one-mul (2 ^ n)
 
 pub pack-ext : (n : ℕ) (f g : ℕ → Bool) → ((i : ℕ) → i < n → f i ≡ g i) → pack n f ≡ pack n g
 unfolding pack

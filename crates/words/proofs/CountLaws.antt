@@ -54,6 +54,10 @@ pub all-more : (n : ℕ) (p : ℕ → Bool) → all (n + 1) p ≡ all n p && p n
 unfolding all
 all-more n p = rw add-one
 
+-- a turn of a loop that asks whether all pass
+pub all-step : {good b : Bool} (n : ℕ) (p : ℕ → Bool) → good ≡ all n p → b ≡ p n → good && b ≡ all (n + 1) p
+all-step n p e h = rw (all-more, e, h)
+
 pub all-at : (n : ℕ) (p : ℕ → Bool) → all n p ≡ true → (l : ℕ) → l < n → p l ≡ true
 unfolding all
 all-at zero p e l h = absurd (not-suc-le-zero h)

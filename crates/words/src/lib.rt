@@ -1,4 +1,5 @@
 // 32-bit words in lent bytes, bit vectors, counting and arrays of 16. Nothing of the protocol.
-pub fn idle(x: u32) -> u32 {
-    x
-}
+pub mod array;
+pub mod bits;
+pub mod count;
+pub mod word;

@@ -1,0 +1,171 @@
+-- The fault limit, read as facts: who is heard alike, and how many rows a vote can rely on. For every number of modules together.
+use Prim.Native.Nat.{ℕ, suc, _+_, _*_, _≤_, _<_}
+use mathlib.Core.Path.{_≡_, refl, sym, ap, _∙_}
+use mathlib.Core.Bool.{Bool, true, false, not, _&&_, _||_, Bool·beq}
+use mathlib.Core.Logic.{_⊎_, inl, inr, ⊎-elim}
+use native.Mathlib.Omega.{arith}
+use lib.Dec.{eqb, leb, ltb}
+use borrow.Author.Tests.{eqb-true, leb-true, ltb-true, not-true, not-false, eq-eqb}
+use Rattle.words.specs.Count.{count, any}
+use Rattle.words.proofs.Truth.{clash, which, and-l, and-r, and-true, and-false-r, or-l, or-r, or-cases, or-false-l, or-false-r, beq-eq}
+use Rattle.words.proofs.CountLaws.{any-intro, any-witness, any-none, any-empty, count-mono, count-or, count-single, count-zero}
+use Rattle.agreement.specs.Fault.{Round, differ, half, heard, halfIn, breakerIn, unheardIn, within}
+
+-- a module that follows the rules
+pub record Follower (n : ℕ) (follows : ℕ → Bool) (i : ℕ) : Type 0 where
+  pub below : i < n
+  pub true-to : follows i ≡ true
+
+-- The limit with N, s and b counted over those whose rows vote, the electors, and a over all modules.
+unfoldable pub limitOver : ℕ → (ℕ → Bool) → (ℕ → Bool) → Round → Round → Bool
+limitOver n follows elect e e′ =
+    within (count n elect) (count n (halfIn n follows e e′)) (count n (λ l. elect l && breakerIn n follows e e′ l))
+    (count n (λ l. elect l && unheardIn n follows e e′ l))
+
+within-cases : (N a s b : ℕ) → within N a s b ≡ true → (a + s ≡ 0) ⊎ ((a ≤ 1) × (2 * a + 2 * s + b + 1 < N))
+unfolding within
+within-cases N a s b e =
+    ⊎-elim (λ t. inl (eqb-true (a + s) 0 t))
+    (λ t. inr (leb-true a 1 (and-l (leb a 1) (ltb (2 * a + 2 * s + b + 1) N) t), ltb-true (2 * a + 2 * s + b + 1) N (and-r (leb a 1) (ltb (2 * a + 2 * s + b + 1) N) t)))
+    (or-cases (eqb (a + s) 0) (leb a 1 && ltb (2 * a + 2 * s + b + 1) N) e)
+
+-- ---- one round
+
+-- two receivers hear a sender alike
+pub record Alike (e : Round) (i i′ j : ℕ) : Type 0 where
+  pub hears : e .hears i j ≡ e .hears i′ j
+  pub word : e .hears i j ≡ true → e .word i j ≡ e .word i′ j
+
+alike-of : (e : Round) (i i′ j : ℕ) → differ e i i′ j ≡ false → Alike e i i′ j
+unfolding differ
+alike-of e i i′ j f =
+    let same : e .hears i j ≡ e .hears i′ j = beq-eq _ _ (not-false (Bool·beq (e .hears i j) (e .hears i′ j)) (or-false-l _ _ f)) in
+    record {
+      hears = same;
+      word = λ h.
+          let g = or-false-r (not (Bool·beq (e .hears i j) (e .hears i′ j))) _ f in
+          let h′ : e .hears i′ j ≡ true = sym same ∙ h in
+          eqb-true _ _ (not-false (eqb (e .word i j) (e .word i′ j)) (rw (h, h′) at g));
+    }
+
+differ-none : (e : Round) (i i′ j : ℕ) → Alike e i i′ j → differ e i i′ j ≡ false
+unfolding differ
+differ-none e i i′ j a =
+    let s = a .hears in
+    ⊎-elim (λ (t : e .hears i j ≡ true). let q = eq-eqb _ _ (a .word t) in cc) (λ (f : e .hears i j ≡ false). cc) (which (e .hears i j))
+
+module _ (n : ℕ) (follows : ℕ → Bool) (e : Round) (j : ℕ) where
+  pub half-none : ((i i′ : ℕ) → Alike e i i′ j) → half n follows e j ≡ false
+  unfolding half
+  half-none a =
+      any-empty n _ (λ i hi. and-false-r (follows i) _ (any-empty n _ (λ i′ hi′. and-false-r (follows i′) _ (differ-none e i i′ j (a i i′)))))
+
+  -- a sender that is not half heard is heard alike
+  pub alike : half n follows e j ≡ false → (i i′ : ℕ) → Follower n follows i → Follower n follows i′ → Alike e i i′ j
+  unfolding half
+  alike not-half i i′ fi fi′ =
+      alike-of e i i′ j
+      (⊎-elim
+      (λ (t : differ e i i′ j ≡ true). clash (half n follows e j)
+      (any-intro n _ i (fi .below) (and-true (follows i) _ (fi .true-to)
+      (any-intro n (λ i′. follows i′ && differ e i i′ j) i′ (fi′ .below) (and-true (follows i′) _ (fi′ .true-to) t)))) not-half)
+      (λ f. f) (which (differ e i i′ j)))
+
+  pub heard-of : (i : ℕ) → Follower n follows i → e .hears i j ≡ true → heard n follows e j ≡ true
+  unfolding heard
+  heard-of i fi h = any-intro n (λ i. follows i && e .hears i j) i (fi .below) (and-true (follows i) (e .hears i j) (fi .true-to) h)
+
+  pub unheard-by : heard n follows e j ≡ false → (i : ℕ) → Follower n follows i → e .hears i j ≡ false
+  unheard-by un i fi = ⊎-elim (λ t. clash (heard n follows e j) (heard-of i fi t) un) (λ f. f) (which (e .hears i j))
+
+  -- heard by one and not half heard: heard by all
+  pub heard-by : half n follows e j ≡ false → heard n follows e j ≡ true → (i : ℕ) → Follower n follows i → e .hears i j ≡ true
+  unfolding heard
+  heard-by not-half some i fi =
+      let (i′, hi′, t) = any-witness n (λ i. follows i && e .hears i j) some in
+      alike not-half i i′ fi (record { below = hi′; true-to = and-l (follows i′) (e .hears i′ j) t }) .hears ∙ and-r (follows i′) (e .hears i′ j) t
+
+-- ---- two rounds
+cover : (q e a s b : Bool) → e ≡ true
+    → q || (a || ((e && s) || ((e && b) || (not q && (e && (not a && (not s && not b))))))) ≡ true
+cover true e a s b h = refl
+cover false e true s b h = refl
+cover false true false true b h = refl
+cover false true false false true h = refl
+cover false true false false false h = refl
+cover false false false s b h = clash false h refl
+
+module _ (n : ℕ) (follows elect : ℕ → Bool) (e e′ : Round) where
+  -- an elector other than j that is none of the three
+  unfoldable pub reliable : ℕ → ℕ → Bool
+  reliable j l =
+      not (eqb l j) && (elect l && (not (halfIn n follows e e′ l) && (not (breakerIn n follows e e′ l) && not (unheardIn n follows e e′ l))))
+
+  -- how many can be at fault: a + s
+  abbrev pub faults : ℕ
+  faults = count n (halfIn n follows e e′) + count n (λ l. elect l && breakerIn n follows e e′ l)
+
+  quorum : (j : ℕ)
+      → 2 * count n (halfIn n follows e e′) + 2 * count n (λ l. elect l && breakerIn n follows e e′ l)
+      + count n (λ l. elect l && unheardIn n follows e e′ l) + 1 < count n elect
+      → faults < count n (reliable j)
+  unfolding reliable
+  quorum j h =
+      let isJ : ℕ → Bool = λ l. eqb l j in
+      let A : ℕ → Bool = halfIn n follows e e′ in
+      let S : ℕ → Bool = λ l. elect l && breakerIn n follows e e′ l in
+      let B : ℕ → Bool = λ l. elect l && unheardIn n follows e e′ l in
+      let all = count-mono n elect (λ l. isJ l || (A l || (S l || (B l || reliable j l))))
+      (λ l _ t. cover (eqb l j) (elect l) (A l) (breakerIn n follows e e′ l) (unheardIn n follows e e′ l) t) in
+      omega (
+        arith,
+        count-single n j,
+        all,
+        count-or n isJ (λ l. A l || (S l || (B l || reliable j l))),
+        count-or n A (λ l. S l || (B l || reliable j l)),
+        count-or n S (λ l. B l || reliable j l),
+        count-or n B (reliable j),
+      )
+
+  -- Where the limit is kept, nobody is at fault; or at most one is half heard, and on each module more rows are reliable than can be at fault.
+  pub limit-cases : limitOver n follows elect e e′ ≡ true
+      → (faults ≡ 0) ⊎ ((count n (halfIn n follows e e′) ≤ 1) × ((j : ℕ) → faults < count n (reliable j)))
+  unfolding limitOver
+  limit-cases t = ⊎-elim inl (λ h. inr (h .0, λ j. quorum j (h .1))) (within-cases _ _ _ _ t)
+
+  -- what a reliable row's sender is
+  pub record Reliable (j l : ℕ) : Type 0 where
+    pub other : eqb l j ≡ false
+    pub elected : elect l ≡ true
+    pub true-to : follows l ≡ true
+    pub hears : (i : ℕ) → Follower n follows i → e .hears i l ≡ true
+
+  pub reliable-is : (j l : ℕ) → reliable j l ≡ true → Reliable j l
+  unfolding reliable halfIn breakerIn unheardIn
+  reliable-is j l s =
+      let s₁ = and-r (not (eqb l j)) _ s in
+      let s₂ = and-r (elect l) _ s₁ in
+      let s₃ = and-r (not (halfIn n follows e e′ l)) _ s₂ in
+      let not-half : halfIn n follows e e′ l ≡ false = not-true _ (and-l _ _ s₂) in
+      let unbreakerIn : breakerIn n follows e e′ l ≡ false = not-true _ (and-l _ _ s₃) in
+      let twice-heard : unheardIn n follows e e′ l ≡ false = not-true _ (and-r (not (breakerIn n follows e e′ l)) _ s₃) in
+      let both : not (heard n follows e l) || not (heard n follows e′ l) ≡ false = rw (unbreakerIn, not-half) at twice-heard in
+      let here : heard n follows e l ≡ true = not-false _ (or-false-l _ _ both) in
+      record {
+        other = not-true _ (and-l _ _ s);
+        elected = and-l _ _ s₁;
+        true-to =
+            ⊎-elim (λ t. t) (λ (f : follows l ≡ false). clash (heard n follows e l) here (or-false-l _ (heard n follows e′ l) (rw (not-half, f) at unbreakerIn)))
+            (which (follows l));
+        hears = heard-by n follows e l (or-false-l _ _ not-half) here;
+      }
+
+  -- A rule-breaker that a rule-follower hears in the first round is halfIn or breakerIn.
+  pub fault-of : (i l : ℕ) → Follower n follows i → e .hears i l ≡ true → follows l ≡ false
+      → halfIn n follows e e′ l || breakerIn n follows e e′ l ≡ true
+  unfolding breakerIn
+  fault-of i l fi h f =
+      ⊎-elim (λ t. or-l _ (breakerIn n follows e e′ l) t)
+      (λ (c : halfIn n follows e e′ l ≡ false). or-r (halfIn n follows e e′ l) _
+      (rw (c, f) (or-l (heard n follows e l) (heard n follows e′ l) (heard-of n follows e l i fi h))))
+      (which (halfIn n follows e e′ l))

@@ -1,0 +1,181 @@
+-- A session's steps follow the rules that Protocol.antt states of rounds.
+use Prim.Native.Nat.{ℕ, zero, suc, _+_, _-_, _%_, _^_, _≤_, _<_}
+use mathlib.Core.Path.{_≡_, refl, sym, ap, ap₂, _∙_, subst}
+use mathlib.Core.Bool.{Bool, true, false, not, _&&_, Bool·beq}
+use mathlib.Core.Logic.{inr, ⊎-elim}
+use native.Mathlib.Omega.{arith}
+use native.Mathlib.Nat.{zero-lt-suc, le-refl}
+use lib.Dec.{eqb}
+use lib.ListN.{getD}
+use Rattle.words.specs.Bits.{bit, full}
+use Rattle.words.specs.Count.{any}
+use Rattle.words.proofs.Truth.{which}
+use Rattle.words.proofs.BitLaws.{bit-full, bit-ext, bit-mod}
+use Rattle.words.proofs.CountLaws.{any-ext}
+use Rattle.presence.specs.Hearing.{busWord}
+use Rattle.presence.specs.Vote.{tally, voteOf}
+use Rattle.presence.specs.Accusation.{differsAt}
+use Rattle.presence.specs.Account.{countersOf}
+use Rattle.presence.specs.Opening.{fresh}
+use Rattle.presence.specs.Step.{alignedFor, ownSyndrome, judgementFor, afterRound}
+use Rattle.presence.specs.declared.State.{State}
+use Rattle.presence.specs.declared.Counters.{Counters}
+use Rattle.setup.specs.declared.Setup.{Setup}
+use Rattle.presence.proofs.HearingLaws.{below-kind, row-of-bus, entry-bit, entry-row}
+use Rattle.presence.proofs.SyndromeLaws.{health-lt, health-bit, syndrome-lt, syndrome-bit}
+use Rattle.presence.proofs.VoteLaws.{tally-ext}
+use Rattle.agreement.specs.Fault.{half}
+use Rattle.agreement.specs.Session.{Session, Accepted, size, u, RuleFollower, follows, bitIn, wordIn, round, state, health, sent, Bound}
+use Rattle.agreement.proofs.FaultLaws.{Follower, half-none}
+use Rattle.agreement.proofs.Protocol.{Protocol, Rules, Agree}
+use Rattle.agreement.proofs.Steps.{small, held, reading, state-zero, state-suc, health-suc}
+use Rattle.agreement.proofs.Aligned.{entry, start-hears, start-row, own-size, aligned-hears, aligned-rows, own-is, sent-is}
+
+-- a test matters only where another passed
+and-when : (a b c : Bool) → (a ≡ true → b ≡ c) → a && b ≡ a && c
+and-when true b c h = h refl
+and-when false b c h = refl
+
+module _ (S : Session) where
+  abbrev n : ℕ
+  n = size S
+
+  -- whose rows vote: everybody's
+  abbrev pub protocol : Protocol
+  protocol = record {
+    n = n;
+    u = u S;
+    follows = follows S;
+    round = round S;
+    elect = λ k l. true;
+    counted = λ k i l. true;
+    syn = λ k i j. bit (state S i k .latest) j;
+    health = λ k i j. bit (health S i k) j;
+  }
+
+  pub follower : (i : ℕ) → RuleFollower S i → Follower n (follows S) i
+  follower i f = record { below = f .below; true-to = f .true-to }
+
+  pub rule-follower : (i : ℕ) → Follower n (follows S) i → RuleFollower S i
+  rule-follower i f = record { below = f .below; true-to = f .true-to }
+
+module _ (S : Session) (ok : Accepted S) where
+  -- ---- alike in health, alike in what is counted by it
+
+  health-small : (i k : ℕ) → i < size S → health S i (suc k) < 2 ^ size S
+  unfolding judgementFor
+  health-small i k hi =
+      subst (λ (h : ℕ). h < 2 ^ size S) (sym (health-suc S ok i hi k))
+      (subst (λ (m : ℕ). judgementFor (state S i k) (reading S i (suc k)) .health < 2 ^ m) (own-size S ok i hi k) (health-lt _ _ _))
+
+  pub health-eq : (k : ℕ) → Agree (protocol S) k → (i i′ : ℕ) → RuleFollower S i → RuleFollower S i′ → health S i k ≡ health S i′ k
+  unfolding health
+  health-eq zero ag i i′ fi fi′ = refl
+  health-eq (suc k) ag i i′ fi fi′ =
+      bit-ext (size S) (health S i (suc k)) (health S i′ (suc k)) (health-small i k (fi .below)) (health-small i′ k (fi′ .below))
+      (λ j hj. ag i i′ j (follower S i fi) (follower S i′ fi′) hj)
+
+  -- ---- rule 4
+
+  voted : (k i j : ℕ) → i < size S → j < size S
+      → bit (health S i (suc k)) j
+      ≡ tally (size S) (λ l. not (eqb l j) && round S (suc k - u S) .hears i l) (λ l. bit (wordIn S (suc k - u S) i l) j)
+      (bit (state S i (suc k - u S - 1) .latest) j)
+  unfolding judgementFor voteOf
+  voted k i j hi hj =
+      let z = own-size S ok i hi k in
+      let st = state S i k in
+      let a = alignedFor st (reading S i (suc k)) in
+      let b : bit (health S i (suc k)) j ≡ voteOf (size S) (a .heard) (a .rows) (ownSyndrome st) j
+      = ap (λ (h : ℕ). bit h j) (health-suc S ok i hi k) ∙ health-bit (st .setup .n) a (ownSyndrome st) j (subst (λ (m : ℕ). j < m) (sym z) hj)
+      ∙ ap (λ (m : ℕ). voteOf m (a .heard) (a .rows) (ownSyndrome st) j) z in
+      let hears : (l : ℕ) → l < size S → bit (a .heard) l ≡ round S (suc k - u S) .hears i l = λ l hl. aligned-hears S ok i hi k l hl in
+      let says : (l : ℕ) → l < size S → round S (suc k - u S) .hears i l ≡ true → bit (getD (a .rows) l 0) j ≡ bit (wordIn S (suc k - u S) i l) j
+      = λ l hl t. ap (λ (r : ℕ). bit r j) (aligned-rows S ok i hi k l hl)
+      ∙ entry-bit (size S) (bitIn S (suc k - u S) i l) (wordIn S (suc k - u S) i l) j (omega (arith, small S ok)) t in
+      b ∙ tally-ext (size S) _ _ _ _ _ _ (λ l hl. ap (λ (b : Bool). not (eqb l j) && b) (hears l hl))
+      (λ l hl. ap (λ (b : Bool). not (eqb l j) && b && bit (getD (a .rows) l 0) j) (hears l hl) ∙ row-alike l hl _ _ _ (says l hl))
+      (inr (ap (λ (w : ℕ). bit w j) (own-is S ok i hi k)))
+    where
+      row-alike : (l : ℕ) → l < size S → (h s s′ : Bool) → (h ≡ true → s ≡ s′) → not (eqb l j) && h && s ≡ not (eqb l j) && h && s′
+      row-alike l hl true s s′ e = ap (λ (b : Bool). not (eqb l j) && true && b) (e refl)
+      row-alike l hl false s s′ e = ⊎-elim (λ (t : eqb l j ≡ true). rw t) (λ (f : eqb l j ≡ false). rw f) (which (eqb l j))
+
+  -- ---- rules 5 and 6
+
+  marked : (k i j : ℕ) → i < size S → j < size S
+      → bit (state S i (suc k) .latest) j
+      ≡ (round S (suc k - u S) .hears i j
+      && not (round S (suc k - u S) .hears i j
+      && any (size S) (λ h. not (eqb h j) && not (Bool·beq (bit (wordIn S (suc k - u S) i j) h) (bit (health S i (suc k)) h)))))
+  unfolding judgementFor afterRound differsAt
+  marked k i j hi hj =
+      let z = own-size S ok i hi k in
+      let st = state S i k in
+      let a = alignedFor st (reading S i (suc k)) in
+      let e : state S i (suc k) .latest ≡ judgementFor st (reading S i (suc k)) .syndrome = ap (λ (s : State). s .latest) (state-suc S ok i hi k) in
+      let b = syndrome-bit (st .setup .n) a (ownSyndrome st) j (subst (λ (m : ℕ). j < m) (sym z) hj) (subst (λ (m : ℕ). m ≤ 16) (sym z) (small S ok)) in
+      let hears = aligned-hears S ok i hi k j hj in
+      let r = aligned-rows S ok i hi k j hj in
+      let hs = health-suc S ok i hi k in
+      let hit : (row health : ℕ) → ℕ → Bool = λ row health h. not (eqb h j) && not (Bool·beq (bit row h) (bit health h)) in
+      let q : any (st .setup .n) (differsAt (getD (a .rows) j 0) (judgementFor st (reading S i (suc k)) .health) j)
+      ≡ any (size S) (hit (entry S (suc k - u S) i j .row) (health S i (suc k)))
+      = ap (λ (m : ℕ). any m (hit (getD (a .rows) j 0) (judgementFor st (reading S i (suc k)) .health))) z
+      ∙ ap₂ (λ (x y : ℕ). any (size S) (hit x y)) r (sym hs) in
+      ap (λ (v : ℕ). bit v j) e ∙ b
+      ∙ ap₂ (λ (x y : Bool). x && not (x && y)) hears q
+      ∙ and-when _ _ _ (λ t. ap (λ (x : Bool). not (round S (suc k - u S) .hears i j && x))
+      (any-ext (size S) _ _ (λ h hh. ap (λ (x : Bool). not (eqb h j) && not (Bool·beq x (bit (health S i (suc k)) h)))
+      (entry-bit (size S) (bitIn S (suc k - u S) i j) (wordIn S (suc k - u S) i j) h (omega (arith, small S ok)) t))))
+
+  -- ---- rule 7, with what binds the words
+
+  latest-small : (i k : ℕ) → i < size S → state S i k .latest < 2 ^ size S
+  latest-small i k hi = subst (λ (m : ℕ). state S i k .latest < 2 ^ m) (own-size S ok i hi k) (held S ok i hi k .fits .latest)
+
+  -- the syndrome bits of the word that holds a syndrome
+  bus-bit : (v h : ℕ) → v < 2 ^ size S → h < size S → bit (busWord v) h ≡ bit v h
+  bus-bit v h hv hh =
+      sym (bit-mod 28 (busWord v) h (omega (arith, small S ok)))
+      ∙ ap (λ (x : ℕ). bit x h) (row-of-bus v (below-kind (size S) v (small S ok) hv))
+
+  start-latest : (i : ℕ) → i < size S → state S i 0 .latest ≡ full (size S)
+  unfolding fresh
+  start-latest i hi = ap (λ (s : State). s .latest) (state-zero S ok i hi)
+
+  start-says : (i l h : ℕ) → h < size S → bit (wordIn S 0 i l) h ≡ true
+  unfolding wordIn
+  start-says i l h hh =
+      sym (bit-mod 28 (wordIn S 0 i l) h (omega (arith, small S ok)))
+      ∙ ap (λ (x : ℕ). bit x h) (sym (entry-row (size S) (bitIn S 0 i l) (wordIn S 0 i l) (start-hears S ok i l)) ∙ start-row S ok i l)
+      ∙ bit-full (size S) h hh
+
+  says-syn : (last : ℕ) → Bound S last → (k i l h : ℕ) → k ≤ last → RuleFollower S i → RuleFollower S l → h < size S
+      → round S k .hears i l ≡ true → bit (wordIn S k i l) h ≡ bit (state S l (k - 1) .latest) h
+  says-syn last bound zero i l h hk fi fl hh t =
+      start-says i l h hh ∙ sym (ap (λ (v : ℕ). bit v h) (start-latest l (fl .below)) ∙ bit-full (size S) h hh)
+  says-syn last bound (suc k) i l h hk fi fl hh t =
+      let e : k ≡ suc k - 1 = omega arith in
+      ap (λ (w : ℕ). bit w h) (bound (suc k) i l (zero-lt-suc k) hk fi fl t ∙ sent-is S ok l (fl .below) k)
+      ∙ bus-bit (state S l k .latest) h (latest-small l k (fl .below)) hh ∙ ap (λ (m : ℕ). bit (state S l m .latest) h) e
+
+  start-not-half : (j : ℕ) → half (size S) (follows S) (round S 0) j ≡ false
+  unfolding wordIn
+  start-not-half j =
+      half-none (size S) (follows S) (round S 0) j
+      (λ i i′. record { hears = start-hears S ok i j ∙ sym (start-hears S ok i′ j); word = λ h. refl })
+
+  pub meets : (last : ℕ) → Bound S last → Rules (protocol S) last
+  unfolding health
+  meets last bound = record {
+    voted = λ k i j fi hj. voted k i j (fi .below) hj;
+    marked = λ k i j fi hj. marked k i j (fi .below) hj;
+    sent = λ k i l h hk fi fl hh t. says-syn last bound k i l h hk (rule-follower S i fi) (rule-follower S l fl) hh t;
+    counting = λ k i l ag fi hl. refl;
+    start-hears = start-hears S ok;
+    start-not-half = start-not-half;
+    start-says = start-says;
+    start-syn = λ i j fi hj. ap (λ (v : ℕ). bit v j) (start-latest i (fi .below)) ∙ bit-full (size S) j hj;
+    start-health = λ i j fi hj. bit-full (size S) j hj;
+  }

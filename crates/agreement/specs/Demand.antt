@@ -1,0 +1,41 @@
+-- Demand 3: what a session promises while the fault limit is kept. (document 01, "A session")
+-- Proved in proofs/Demand.antt; docs/THEOREM.md sets each line beside the sentence of document 01 that it is.
+use Prim.Native.Nat.{ℕ, suc, _+_, _-_, _*_, _≤_, _<_}
+use mathlib.Core.Path.{_≡_}
+use mathlib.Core.Bool.{true, false}
+use mathlib.Core.Logic.{_≢_}
+use Rattle.words.specs.Bits.{bit}
+use Rattle.presence.specs.Opening.{openOf}
+use Rattle.presence.specs.declared.State.{State}
+use Rattle.agreement.specs.Session.{Session, Accepted, size, u, RuleFollower, round, answer, state, health, Bound, unheard, halfHeard, kept}
+use Rattle.agreement.specs.Life.{Life}
+
+module _ (S : Session) where
+  -- the limit is kept for every round ρ from 1 to k - u, the deciding round of step k
+  abbrev pub KeptTo : ℕ → Type 0
+  KeptTo k = (ρ : ℕ) → 0 < ρ → ρ ≤ k - u S → kept S ρ ≡ true
+
+  -- Of any module, within the limit and outside it: its opening and each step on a read of the session are accepted, and refused calls between
+  -- them change nothing. What it holds and answers is what the rules give.
+  pub record Served (i : ℕ) : Type 0 where
+    pub opened : openOf (S .setup) (i + 1) .number ≡ 0
+    pub stepped : (k h : ℕ) (st : State) → Life S i k st h → answer S i (suc k) st .number ≡ 0
+    pub by-rules : (k h : ℕ) (st : State) → Life S i k st h → (st ≡ state S i k) × (h ≡ health S i k)
+
+  -- After round k, of rule-followers that then hold the states st and last answered the health vectors h. The round judged is r = k - 2u - 1.
+  pub record Agreement (k : ℕ) : Type 0 where
+    -- the health vector answered, every module's penalty and reward, and the view are equal at all rule-followers
+    pub agree : (i i′ h h′ : ℕ) (st st′ : State) → RuleFollower S i → RuleFollower S i′ → Life S i k st h → Life S i′ k st′ h′
+        → (h ≡ h′) × (st .counters ≡ st′ .counters)
+    -- whoever is unheard in r has health 0 at every rule-follower
+    pub charged : (j : ℕ) → j < size S → unheard S (k - 2 * u S - 1) j ≡ true
+        → (i h : ℕ) (st : State) → RuleFollower S i → Life S i k st h → bit h j ≡ false
+    -- a rule-follower heard in r by all rule-followers has health 1 at each, unless a sender other than itself was half heard in r - u - 1
+    pub cleared : (j : ℕ) → RuleFollower S j → ((l : ℕ) → RuleFollower S l → round S (k - 2 * u S - 1) .hears l j ≡ true)
+        → ((l : ℕ) → l < size S → l ≢ j → halfHeard S (k - 2 * u S - 1 - u S - 1) l ≡ false)
+        → (i h : ℕ) (st : State) → RuleFollower S i → Life S i k st h → bit h j ≡ true
+
+-- For every session with an accepted setup, whatever its cast, its controller bits and its words.
+pub record Demand3 : Type 0 where
+  pub served : (S : Session) → Accepted S → (i : ℕ) → i < size S → Served S i
+  pub agreement : (S : Session) → Accepted S → (last : ℕ) → Bound S last → (k : ℕ) → 0 < k → k ≤ last → KeptTo S k → Agreement S k

@@ -1,0 +1,28 @@
+-- Demand 3 speaks of something: for every pattern of hearing and every lie of the cast there is a bound session.
+-- Proved in proofs/Existence.antt.
+use Prim.Native.Nat.{ℕ, suc}
+use mathlib.Core.Path.{_≡_}
+use mathlib.Core.Bool.{Bool, true}
+use Rattle.words.specs.Bits.{bit}
+use Rattle.setup.specs.declared.Setup.{Setup}
+use Rattle.agreement.specs.Session.{Session, Accepted, Bound}
+
+-- What is chosen of a session: by round, receiver and sender the controller bits, where the cast lies, and what it is told to send.
+pub record Choice : Type 0 where
+  pub setup : Setup
+  pub cast : ℕ
+  pub controller : ℕ → ℕ → ℕ → Bool
+  pub lies : ℕ → ℕ → ℕ → Bool
+  pub told : ℕ → ℕ → ℕ → ℕ
+  pub cast-only : (k i j : ℕ) → lies k i j ≡ true → bit cast j ≡ true
+
+-- a session that is as chosen, and bound in every round
+pub record Plays (C : Choice) (S : Session) : Type 0 where
+  pub setup : S .setup ≡ C .setup
+  pub cast : S .cast ≡ C .cast
+  pub controller : S .controller ≡ C .controller
+  pub told : (k i j : ℕ) → C .lies k i j ≡ true → S .word k i j ≡ C .told k i j
+  pub bound : (last : ℕ) → Bound S last
+
+abbrev pub Existence : Type 0
+Existence = (C : Choice) → (S : Session) × Plays C S
