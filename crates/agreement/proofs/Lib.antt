@@ -6,3 +6,5 @@ pub mod Aligned
 pub mod Meets
 pub mod Ledger
 pub mod Demand
+pub mod Existence
+pub mod Stars

@@ -4,12 +4,15 @@ use Prim.Native.Nat.{ℕ, suc}
 use mathlib.Core.Path.{_≡_}
 use mathlib.Core.Bool.{Bool, true}
 use Rattle.words.specs.Bits.{bit}
+use Rattle.setup.specs.Check.{setupVerdict}
 use Rattle.setup.specs.declared.Setup.{Setup}
-use Rattle.agreement.specs.Session.{Session, Accepted, Bound}
+use Rattle.agreement.specs.Session.{Session, Bound}
 
--- What is chosen of a session: by round, receiver and sender the controller bits, where the cast lies, and what it is told to send.
+-- What is chosen of a session: an accepted setup, a cast, and by round, receiver and sender the controller bits, where the cast lies, and the word
+-- that it is told to send there.
 pub record Choice : Type 0 where
   pub setup : Setup
+  pub accepted : setupVerdict setup .number ≡ 0
   pub cast : ℕ
   pub controller : ℕ → ℕ → ℕ → Bool
   pub lies : ℕ → ℕ → ℕ → Bool

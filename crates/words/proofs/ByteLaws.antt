@@ -74,3 +74,8 @@ word-of (suc n) f i h =
     word-front (bytesOf n f) (wordBytes (f n)) i (omega (arith, bytes-length n f))
     ∙ word-of n f i l)
     (eq-or-lt-of-le (le-of-suc-le-suc h))
+
+pub bytes-ext : (n : ℕ) (f g : ℕ → ℕ) → ((i : ℕ) → i < n → f i ≡ g i) → bytesOf n f ≡ bytesOf n g
+unfolding bytesOf
+bytes-ext zero f g h = refl
+bytes-ext (suc n) f g h = rw (bytes-ext n f g (λ i l. h i (omega arith)), h n (omega arith))

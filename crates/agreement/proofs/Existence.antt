@@ -1,0 +1,114 @@
+-- For every choice there is a bound session: the one in which everybody sends what it handed out, but where the cast lies.
+-- Its words are found round by round, since what is sent in a round rests on the rounds before it alone.
+use Prim.Native.Nat.{ℕ, zero, suc, _+_, _-_, _≤_, _<_}
+use mathlib.Core.Path.{_≡_, refl, sym, ap, ap₂, _∙_}
+use mathlib.Core.Bool.{Bool, true, false, cond, not}
+use mathlib.Core.Logic.{⊎-elim}
+use mathlib.Core.List.{List}
+use native.Mathlib.Omega.{arith}
+use native.Mathlib.Nat.{eq-or-lt-of-le, le-refl, not-suc-le-zero}
+use borrow.Author.Tests.{not-true}
+use lib.Dec.{ltb}
+use lib.ListN.{getD}
+use Rattle.words.specs.Bits.{bit, full}
+use Rattle.words.proofs.Truth.{clash, which, cond-true}
+use Rattle.words.proofs.ByteLaws.{bytes-ext}
+use Rattle.presence.specs.Hearing.{busWord}
+use Rattle.presence.specs.Step.{stepOf}
+use Rattle.presence.specs.declared.State.{State}
+use Rattle.agreement.specs.Session.{Session, RuleFollower, bitIn, wordIn, readRound, readBits, readBytes, state, sent, Bound}
+use Rattle.agreement.specs.Existence.{Choice, Plays, Existence}
+use Rattle.agreement.proofs.Aligned.{sent-is}
+
+read-le : (S : Session) (i k j : ℕ) → readRound S i k j ≤ k
+unfolding readRound
+read-le S i k j = go (ltb j (getD (S .setup .places) i 0))
+  where
+    go : (b : Bool) → cond b k (k - 1) ≤ k
+    go true = omega arith
+    go false = omega arith
+
+module _ (C : Choice) where
+  open Choice C using (setup, accepted, cast, controller, lies, told, cast-only)
+
+  -- the chosen session with these words
+  abbrev with-words : (ℕ → ℕ → ℕ → ℕ) → Session
+  with-words w = record { setup = setup; cast = cast; controller = controller; word = w }
+
+  -- ---- a state rests on the rounds so far alone
+
+  abbrev Same : ℕ → (ℕ → ℕ → ℕ → ℕ) → (ℕ → ℕ → ℕ → ℕ) → Type 0
+  Same k w w′ = (r i j : ℕ) → 0 < r → r ≤ k → w r i j ≡ w′ r i j
+
+  word-eq : (w w′ : ℕ → ℕ → ℕ → ℕ) (k : ℕ) → Same k w w′
+      → (r i j : ℕ) → r ≤ k → wordIn (with-words w) r i j ≡ wordIn (with-words w′) r i j
+  unfolding wordIn
+  word-eq w w′ k e zero i j h = refl
+  word-eq w w′ k e (suc r) i j h = e (suc r) i j (omega arith) h
+
+  state-eq : (w w′ : ℕ → ℕ → ℕ → ℕ) (k : ℕ) → Same k w w′ → (i : ℕ) → state (with-words w) i k ≡ state (with-words w′) i k
+  unfolding state bitIn readRound
+  state-eq w w′ zero e i = refl
+  state-eq w w′ (suc k) e i =
+      ap₂ (λ (st : State) (read : List ℕ). stepOf st read (readBits (with-words w) i (suc k)) .state)
+      (state-eq w w′ k (λ r i j p h. e r i j p (omega arith)) i)
+      (bytes-ext (setup .n) _ _ (λ j hj. word-eq w w′ (suc k) e (readRound (with-words w) i (suc k) j) i j (read-le (with-words w) i (suc k) j)))
+
+  -- ---- the words, right up to round m; and right in every round
+
+  spoken : State → ℕ → ℕ → ℕ → ℕ
+  spoken st k i j = cond (lies k i j) (told k i j) (busWord (st .latest))
+
+  upto : ℕ → ℕ → ℕ → ℕ → ℕ
+  upto zero k i j = cond (lies k i j) (told k i j) (busWord (full (setup .n)))
+  upto (suc m) k i j = spoken (state (with-words (upto m)) j (k - 1)) k i j
+
+  words : ℕ → ℕ → ℕ → ℕ
+  words k i j = spoken (state (with-words (upto k)) j (k - 1)) k i j
+
+  -- a state after round k is the same from the words right up to k on
+  stable : (m k i : ℕ) → k ≤ m → state (with-words (upto m)) i k ≡ state (with-words (upto (suc m))) i k
+  unfolding upto
+  stable zero k i h = state-eq (upto 0) (upto 1) k (λ r i j p g. absurd (omega arith)) i
+  stable (suc m) k i h =
+      state-eq (upto (suc m)) (upto (suc (suc m))) k (λ r i j p g. ap (λ (st : State). spoken st r i j) (stable m (r - 1) j (omega arith))) i
+
+  stable-le : (m m′ k i : ℕ) → k ≤ m → m ≤ m′ → state (with-words (upto m)) i k ≡ state (with-words (upto m′)) i k
+  stable-le m zero k i h g = let e : m ≡ 0 = omega arith in rw e
+  stable-le m (suc m′) k i h g =
+      ⊎-elim (λ (e : m ≡ suc m′). rw e) (λ (l : m < suc m′). stable-le m m′ k i h (omega arith) ∙ stable m′ k i (omega arith)) (eq-or-lt-of-le g)
+
+  words-are : (m r i j : ℕ) → 0 < r → r ≤ m → words r i j ≡ upto m r i j
+  unfolding words upto
+  words-are zero r i j p h = absurd (omega arith)
+  words-are (suc m) r i j p h =
+      let up = stable-le (r - 1) r (r - 1) j (omega arith) (omega arith) in
+      let on = stable-le (r - 1) m (r - 1) j (omega arith) (omega arith) in
+      ap (λ (st : State). spoken st r i j) (sym up ∙ on)
+
+  abbrev session : Session
+  session = with-words words
+
+  state-is : (k i : ℕ) → state session i k ≡ state (with-words (upto k)) i k
+  state-is k i = state-eq words (upto k) k (λ r i j p h. words-are k r i j p h) i
+
+  -- ---- only the cast lies, so a rule-follower's word is the one it sent
+
+  honest : (k i l : ℕ) → RuleFollower session l → lies k i l ≡ false
+  honest k i l fl = ⊎-elim (λ t. clash (bit cast l) (cast-only k i l t) (not-true _ (fl .true-to))) (λ f. f) (which (lies k i l))
+
+  bound : (last : ℕ) → Bound session last
+  unfolding wordIn words spoken
+  bound last zero i l p h fi fl t = absurd (not-suc-le-zero p)
+  bound last (suc k) i l p h fi fl t =
+      let e : suc k - 1 ≡ k = omega arith in
+      let f = honest (suc k) i l fl in
+      rw (f, e)
+      (ap (λ (st : State). busWord (st .latest)) (sym (stable k k l (le-refl k)) ∙ sym (state-is k l)) ∙ sym (sent-is session accepted l (fl .below) k))
+
+  plays : Plays C session
+  unfolding words spoken
+  plays = record { setup = refl; cast = refl; controller = refl; told = λ k i j t. cond-true _ _ t; bound = bound }
+
+pub existence : Existence
+existence C = (session C, plays C)
