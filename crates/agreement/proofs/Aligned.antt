@@ -18,17 +18,17 @@ use Rattle.words.proofs.CountLaws.{any-none}
 use Rattle.words.proofs.ArrayLaws.{array-at}
 use Rattle.words.proofs.ByteLaws.{word-of}
 use Rattle.setup.specs.declared.Setup.{Setup}
-use Rattle.presence.specs.Lag.{skewed, lag}
-use Rattle.presence.specs.Hearing.{busWord, wordHeard, entryOf, readingOf}
-use Rattle.presence.specs.Alignment.{fromPrevious, alignedOf}
-use Rattle.presence.specs.Syndrome.{outgoingOf}
+use Rattle.rules.specs.Lag.{skewed, lag}
+use Rattle.rules.specs.Hearing.{busWord, wordHeard, entryOf, readingOf}
+use Rattle.rules.specs.Alignment.{fromPrevious, alignedOf}
+use Rattle.rules.specs.Syndrome.{outgoingOf}
 use Rattle.presence.specs.Opening.{fresh}
 use Rattle.presence.specs.Step.{skewOf, placeOf, markOf, ownSyndrome, alignedFor, judgementFor, outgoingFor, afterRound}
-use Rattle.presence.specs.declared.Entry.{Entry}
-use Rattle.presence.specs.declared.Reading.{Reading}
+use Rattle.rules.specs.declared.Entry.{Entry}
+use Rattle.rules.specs.declared.Reading.{Reading}
 use Rattle.presence.specs.declared.State.{State}
-use Rattle.presence.proofs.HearingLaws.{below-kind, row-of-bus, bus-heard, entry-row, reading-heard, reading-row}
-use Rattle.presence.proofs.AlignmentLaws.{aligned-heard, aligned-row}
+use Rattle.rules.proofs.HearingLaws.{below-kind, row-of-bus, bus-heard, entry-row, reading-heard, reading-row}
+use Rattle.rules.proofs.AlignmentLaws.{aligned-heard, aligned-row}
 use Rattle.agreement.specs.Session.{Session, Accepted, size, u, bitIn, wordIn, round, readRound, readBits, readBytes, state, handed, sent}
 use Rattle.agreement.proofs.Steps.{Held, reading, small, held, state-zero, state-suc, handed-suc}
 

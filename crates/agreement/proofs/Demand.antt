@@ -8,7 +8,7 @@ use native.Mathlib.Nat.{le-refl, not-suc-le-zero}
 use borrow.Author.Tests.{eqb-false, not-true}
 use Rattle.words.specs.Bits.{bit}
 use Rattle.presence.specs.declared.Opened.{Opened}
-use Rattle.presence.specs.declared.Counters.{Counters}
+use Rattle.rules.specs.declared.Counters.{Counters}
 use Rattle.presence.specs.declared.State.{State}
 use Rattle.agreement.specs.Session.{Session, Accepted, size, u, RuleFollower, Bound, state, health}
 use Rattle.agreement.specs.Demand.{KeptTo, Served, Agreement, Demand3}

@@ -13,7 +13,7 @@ use lib.ListN.{getD}
 use Rattle.words.specs.Bits.{bit, full}
 use Rattle.words.proofs.Truth.{clash, which, cond-true}
 use Rattle.words.proofs.ByteLaws.{bytes-ext}
-use Rattle.presence.specs.Hearing.{busWord}
+use Rattle.rules.specs.Hearing.{busWord}
 use Rattle.presence.specs.Step.{stepOf}
 use Rattle.presence.specs.declared.State.{State}
 use Rattle.agreement.specs.Session.{Session, RuleFollower, bitIn, wordIn, readRound, readBits, readBytes, state, sent, Bound}

@@ -8,10 +8,10 @@ use native.Mathlib.Nat.{eq-zero-or-pos, le-refl}
 use Rattle.words.specs.Count.{count}
 use Rattle.words.proofs.CountLaws.{count-all}
 use Rattle.setup.specs.declared.Setup.{Setup}
-use Rattle.presence.specs.Account.{countersOf}
+use Rattle.rules.specs.Account.{countersOf}
 use Rattle.presence.specs.Opening.{fresh}
 use Rattle.presence.specs.Step.{judgementFor, afterRound}
-use Rattle.presence.specs.declared.Counters.{Counters}
+use Rattle.rules.specs.declared.Counters.{Counters}
 use Rattle.presence.specs.declared.State.{State}
 use Rattle.agreement.specs.Fault.{Round, within, limit, halfIn, breakerIn, unheardIn}
 use Rattle.agreement.specs.Session.{Session, Accepted, size, u, follows, RuleFollower, round, state, health, Bound, kept}

@@ -12,18 +12,18 @@ use Rattle.words.specs.Count.{any}
 use Rattle.words.proofs.Truth.{which}
 use Rattle.words.proofs.BitLaws.{bit-full, bit-ext, bit-mod}
 use Rattle.words.proofs.CountLaws.{any-ext}
-use Rattle.presence.specs.Hearing.{busWord}
-use Rattle.presence.specs.Vote.{tally, voteOf}
-use Rattle.presence.specs.Accusation.{differsAt}
-use Rattle.presence.specs.Account.{countersOf}
+use Rattle.rules.specs.Hearing.{busWord}
+use Rattle.rules.specs.Vote.{tally, voteOf}
+use Rattle.rules.specs.Accusation.{differsAt}
+use Rattle.rules.specs.Account.{countersOf}
 use Rattle.presence.specs.Opening.{fresh}
 use Rattle.presence.specs.Step.{alignedFor, ownSyndrome, judgementFor, afterRound}
 use Rattle.presence.specs.declared.State.{State}
-use Rattle.presence.specs.declared.Counters.{Counters}
+use Rattle.rules.specs.declared.Counters.{Counters}
 use Rattle.setup.specs.declared.Setup.{Setup}
-use Rattle.presence.proofs.HearingLaws.{below-kind, row-of-bus, entry-bit, entry-row}
-use Rattle.presence.proofs.SyndromeLaws.{health-lt, health-bit, syndrome-lt, syndrome-bit}
-use Rattle.presence.proofs.VoteLaws.{tally-ext}
+use Rattle.rules.proofs.HearingLaws.{below-kind, row-of-bus, entry-bit, entry-row}
+use Rattle.rules.proofs.SyndromeLaws.{health-lt, health-bit, syndrome-lt, syndrome-bit}
+use Rattle.rules.proofs.VoteLaws.{tally-ext}
 use Rattle.agreement.specs.Fault.{half}
 use Rattle.agreement.specs.Session.{Session, Accepted, size, u, RuleFollower, follows, bitIn, wordIn, round, state, health, sent, Bound}
 use Rattle.agreement.proofs.FaultLaws.{Follower, half-none}

@@ -8,13 +8,13 @@ use Rattle.words.specs.Array.{array, clearFrom}
 use Rattle.setup.specs.Verdict.{check, checkEach}
 use Rattle.setup.specs.Setup.{setupOf, blankSetup}
 use Rattle.setup.specs.Check.{moduleFits, markFits, whole, headOk, limitOk, moduleOk, markOk, checkHead, checkWords, checkSetup, setupTidy, checkFields}
-use Rattle.presence.specs.Lag.{skewed}
-use Rattle.presence.specs.Hearing.{busWord, wordHeard, entryOf, readingOf}
-use Rattle.presence.specs.Alignment.{alignedOf}
-use Rattle.presence.specs.Vote.{decision, tally, voteOf, healthOf}
-use Rattle.presence.specs.Accusation.{differsAt, accusationOf, accusationsOf}
-use Rattle.presence.specs.Syndrome.{syndromeOf, judgementOf, outgoingOf}
-use Rattle.presence.specs.Account.{charged, rewarded, accounted, accountAt, accountedAt, countersOf}
+use Rattle.rules.specs.Lag.{skewed}
+use Rattle.rules.specs.Hearing.{busWord, wordHeard, entryOf, readingOf}
+use Rattle.rules.specs.Alignment.{alignedOf}
+use Rattle.rules.specs.Vote.{decision, tally, voteOf, healthOf}
+use Rattle.rules.specs.Accusation.{differsAt, accusationOf, accusationsOf}
+use Rattle.rules.specs.Syndrome.{syndromeOf, judgementOf, outgoingOf}
+use Rattle.rules.specs.Account.{charged, rewarded, accounted, accountAt, accountedAt, countersOf}
 use Rattle.presence.specs.Valid.{rowFits, penaltyFits, rewardFits, stateTidy, checkState, stateVerdict}
 use Rattle.presence.specs.Opening.{fresh, blank, checkOpening, openOf}
 use Rattle.presence.specs.Step.{placeOf, markOf, ownSyndrome, alignedFor, judgementFor, outgoingFor, afterRound, refusedStep, acceptedStep, testedStep, readStep, stepOf}

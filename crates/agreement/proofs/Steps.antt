@@ -11,10 +11,10 @@ use Rattle.setup.specs.Verdict.{accepted}
 use Rattle.setup.specs.Check.{setupVerdict}
 use Rattle.setup.specs.declared.Setup.{Setup}
 use Rattle.setup.proofs.SetupLaws.{SetupFits, fields-pass}
-use Rattle.presence.specs.Hearing.{readingOf}
+use Rattle.rules.specs.Hearing.{readingOf}
 use Rattle.presence.specs.Opening.{fresh, openOf}
 use Rattle.presence.specs.Step.{judgementFor, outgoingFor, afterRound, acceptedStep, stepOf}
-use Rattle.presence.specs.declared.Reading.{Reading}
+use Rattle.rules.specs.declared.Reading.{Reading}
 use Rattle.presence.specs.declared.State.{State}
 use Rattle.presence.specs.declared.Opened.{Opened}
 use Rattle.presence.specs.declared.Stepped.{Stepped}

@@ -12,8 +12,8 @@ use Rattle.words.specs.Word.{bytesOf}
 use Rattle.words.specs.Bits.{bit, pack, full}
 use Rattle.setup.specs.Check.{setupVerdict}
 use Rattle.setup.specs.declared.Setup.{Setup}
-use Rattle.presence.specs.Lag.{lag}
-use Rattle.presence.specs.Hearing.{busWord, entryOf}
+use Rattle.rules.specs.Lag.{lag}
+use Rattle.rules.specs.Hearing.{busWord, entryOf}
 use Rattle.presence.specs.Opening.{openOf}
 use Rattle.presence.specs.Step.{stepOf}
 use Rattle.presence.specs.declared.State.{State}

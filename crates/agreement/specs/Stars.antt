@@ -12,11 +12,11 @@ use Rattle.words.specs.Array.{array}
 use Rattle.setup.specs.Setup.{setupOf}
 use Rattle.setup.specs.Check.{checkSetup}
 use Rattle.setup.specs.declared.Setup.{Setup}
-use Rattle.presence.specs.Hearing.{busWord, wordHeard}
-use Rattle.presence.specs.Vote.{voteOf}
-use Rattle.presence.specs.Account.{countersOf}
+use Rattle.rules.specs.Hearing.{busWord, wordHeard}
+use Rattle.rules.specs.Vote.{voteOf}
+use Rattle.rules.specs.Account.{countersOf}
 use Rattle.presence.specs.Opening.{fresh}
-use Rattle.presence.specs.declared.Counters.{Counters}
+use Rattle.rules.specs.declared.Counters.{Counters}
 use Rattle.agreement.specs.Session.{Session, size, round, wordIn, state, health, sent, kept}
 
 -- ---- the table: what the definitions give, and what document 01 says

@@ -1,8 +1,2 @@
-pub mod HearingLaws
-pub mod AlignmentLaws
-pub mod VoteLaws
-pub mod AccusationLaws
-pub mod SyndromeLaws
-pub mod AccountLaws
 pub mod ValidLaws
 pub mod StepLaws

@@ -16,18 +16,18 @@ use Rattle.setup.specs.declared.Verdict.{Verdict}
 use Rattle.setup.specs.declared.Setup.{Setup}
 use Rattle.setup.proofs.VerdictLaws.{check-ok, check-pass, between-is, between-of}
 use Rattle.setup.proofs.SetupLaws.{SetupFits, fields-pass, fields-ok}
-use Rattle.presence.specs.Hearing.{busWord, wordHeard, readingOf}
-use Rattle.presence.specs.Syndrome.{outgoingOf}
+use Rattle.rules.specs.Hearing.{busWord, wordHeard, readingOf}
+use Rattle.rules.specs.Syndrome.{outgoingOf}
 use Rattle.presence.specs.Valid.{stateVerdict, Valid}
 use Rattle.presence.specs.Opening.{fresh, blank, checkOpening, openOf}
 use Rattle.presence.specs.Step.{skewOf, markOf, ownSyndrome, judgementFor, outgoingFor, afterRound, refusedStep, acceptedStep, testedStep, readStep, stepOf}
 use Rattle.presence.specs.Calls.{handedOut}
-use Rattle.presence.specs.declared.Reading.{Reading}
+use Rattle.rules.specs.declared.Reading.{Reading}
 use Rattle.presence.specs.declared.State.{State}
 use Rattle.presence.specs.declared.Opened.{Opened}
 use Rattle.presence.specs.declared.Stepped.{Stepped}
-use Rattle.presence.proofs.HearingLaws.{bus-heard}
-use Rattle.presence.proofs.SyndromeLaws.{syndrome-lt}
+use Rattle.rules.proofs.HearingLaws.{bus-heard}
+use Rattle.rules.proofs.SyndromeLaws.{syndrome-lt}
 use Rattle.presence.proofs.ValidLaws.{StateFits, valid-fits, fits-verdict, fits-valid, fresh-fits, after-fits}
 
 -- ---- rules 4, 7 and 9

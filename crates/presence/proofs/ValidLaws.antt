@@ -3,7 +3,7 @@ use mathlib.Core.Path.{_≡_, refl, ap, _∙_, sym}
 use mathlib.Core.Bool.{Bool, true, false, cond, not, _&&_, _||_, Bool·beq}
 use mathlib.Core.Logic.{⊎-elim, _⊎_}
 use mathlib.Core.List.{List}
-use Prim.Native.Nat.{ℕ, _+_, _*_, _^_, _<_, _≤_}
+use Prim.Native.Nat.{ℕ, _+_, _*_, _%_, _^_, _<_, _≤_}
 use native.Mathlib.Omega.{arith}
 use native.Mathlib.Nat.{eq-zero-or-pos}
 use lib.ListN.{getD, getD-replicate, replicate}
@@ -20,16 +20,17 @@ use Rattle.setup.specs.declared.Setup.{Setup}
 use Rattle.setup.specs.declared.Verdict.{Verdict}
 use Rattle.setup.proofs.VerdictLaws.{check-ok, check-pass, each-ok, each-pass, between-is, between-of}
 use Rattle.setup.proofs.SetupLaws.{SetupFits, fields-pass, fields-ok}
-use Rattle.presence.specs.Hearing.{readingOf}
-use Rattle.presence.specs.Account.{accountAt, countersOf}
+use Rattle.words.specs.Word.{wordAt}
+use Rattle.rules.specs.Hearing.{wordHeard, entryOf, readingOf}
+use Rattle.rules.specs.Account.{accountAt, countersOf}
 use Rattle.presence.specs.Valid.{rowFits, penaltyFits, rewardFits, stateTidy, checkState, stateVerdict, Valid}
 use Rattle.presence.specs.Opening.{fresh}
 use Rattle.presence.specs.Step.{judgementFor, afterRound}
 use Rattle.presence.specs.declared.State.{State}
-use Rattle.presence.specs.declared.Reading.{Reading}
-use Rattle.presence.proofs.HearingLaws.{reading-fits}
-use Rattle.presence.proofs.SyndromeLaws.{syndrome-lt}
-use Rattle.presence.proofs.AccountLaws.{AccountFits, counters-fit}
+use Rattle.rules.specs.declared.Reading.{Reading}
+use Rattle.rules.proofs.HearingLaws.{heard-is, reading-heard, reading-row}
+use Rattle.rules.proofs.SyndromeLaws.{syndrome-lt}
+use Rattle.rules.proofs.AccountLaws.{AccountFits, counters-fit}
 
 pub record StateFits (st : State) : Type 0 where
   pub setup : SetupFits (st .setup)
@@ -157,6 +158,19 @@ fresh-fits s own f h l =
     }
 
 -- ---- a round
+
+entry-fits : (n : ℕ) (on : Bool) (w : ℕ) → rowFits n (entryOf n on w .heard) (entryOf n on w .row) ≡ true
+unfolding entryOf rowFits
+entry-fits n on w = go (on && wordHeard n w) refl
+  where
+    go : (b : Bool) → on && wordHeard n w ≡ b → ltb (cond b (w % 2 ^ 28) 0) (cond b (2 ^ n) 1) ≡ true
+    go true t = lt-ltb _ _ (heard-is n w (and-r on (wordHeard n w) t) .1)
+    go false f = lt-ltb 0 1 (omega arith)
+
+reading-fits : (n : ℕ) (read : List ℕ) (controller j : ℕ) → j < n → n ≤ 16
+    → rowFits n (bit (readingOf n read controller .heard) j) (getD (readingOf n read controller .rows) j 0) ≡ true
+reading-fits n read controller j h small =
+    rw (reading-heard n read controller j h, reading-row n read controller j h small) (entry-fits n (bit controller j) (wordAt read j))
 
 pub after-fits : (st : State) (read : List ℕ) (controller : ℕ) → StateFits st
     → StateFits (afterRound st (readingOf (st .setup .n) read controller))

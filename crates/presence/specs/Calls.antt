@@ -9,7 +9,7 @@ use Rattle.setup.specs.Verdict.{isAccepted}
 use Rattle.setup.specs.Setup.{sizeIn, setupOf}
 use Rattle.setup.specs.Check.{checkSetup}
 use Rattle.setup.specs.declared.Verdict.{Verdict}
-use Rattle.presence.specs.Hearing.{busWord}
+use Rattle.rules.specs.Hearing.{busWord}
 use Rattle.presence.specs.Opening.{openOf}
 use Rattle.presence.specs.Step.{markOf, stepOf}
 use Rattle.presence.specs.Image.{imageLength, imageOf, stateOf, checkImage}

@@ -1,10 +1,3 @@
-pub mod Lag
-pub mod Hearing
-pub mod Alignment
-pub mod Vote
-pub mod Accusation
-pub mod Syndrome
-pub mod Account
 pub mod Valid
 pub mod Opening
 pub mod Step

@@ -6,14 +6,14 @@ use lib.ListN.{getD, length, replicate}
 use lib.Dec.{eqb, ltb}
 use Rattle.words.specs.Bits.{bit}
 use Rattle.setup.specs.Verdict.{isAccepted}
-use Rattle.presence.specs.Lag.{skewed}
-use Rattle.presence.specs.Hearing.{wordHeard, readingOf}
-use Rattle.presence.specs.Alignment.{alignedOf}
-use Rattle.presence.specs.Syndrome.{judgementOf, outgoingOf}
-use Rattle.presence.specs.Account.{countersOf}
+use Rattle.rules.specs.Lag.{skewed}
+use Rattle.rules.specs.Hearing.{wordHeard, readingOf}
+use Rattle.rules.specs.Alignment.{alignedOf}
+use Rattle.rules.specs.Syndrome.{judgementOf, outgoingOf}
+use Rattle.rules.specs.Account.{countersOf}
 use Rattle.presence.specs.Valid.{stateVerdict}
-use Rattle.presence.specs.declared.Reading.{Reading}
-use Rattle.presence.specs.declared.Judgement.{Judgement}
+use Rattle.rules.specs.declared.Reading.{Reading}
+use Rattle.rules.specs.declared.Judgement.{Judgement}
 use Rattle.presence.specs.declared.State.{State}
 use Rattle.presence.specs.declared.Stepped.{Stepped}
 

@@ -2,40 +2,9 @@
 //
 // This file has what a module holds and what its opening and its step answer. Entries and bits of module j + 1 stand at j;
 // those from n on are 0.
+use rules::Counters;
+use rules::Reading;
 use setup::Setup;
-
-// What became of one module's bus word: whether it is heard, and its row, 0 if it is not.
-pub struct Entry {
-    pub heard: bool,
-    pub row: u32,
-}
-
-// What a read holds: who is heard, and the rows, 0 where a module is not heard.
-pub struct Reading {
-    pub heard: u32,
-    pub rows: [u32; 16],
-}
-
-// What a module makes of the aligned rows: for each module the number at which its row is wrong, or 0, in `accusations`.
-pub struct Judgement {
-    pub health: u32,
-    pub accusations: [u32; 16],
-    pub syndrome: u32,
-}
-
-// The counters of one module, and whether it is in the view.
-pub struct Account {
-    pub present: bool,
-    pub penalty: u32,
-    pub reward: u32,
-}
-
-// The counters of all modules, and the view.
-pub struct Counters {
-    pub view: u32,
-    pub penalty: [u32; 16],
-    pub reward: [u32; 16],
-}
 
 // A module's state: its setup, its own number, its counters, its previous read, and the last two syndromes that it computed.
 pub struct State {

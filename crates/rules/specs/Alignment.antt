@@ -5,7 +5,7 @@ use lib.ListN.{getD}
 use lib.Dec.{ltb}
 use Rattle.words.specs.Bits.{bit, pack}
 use Rattle.words.specs.Array.{array}
-use Rattle.presence.specs.declared.Reading.{Reading}
+use Rattle.rules.specs.declared.Reading.{Reading}
 
 -- with u = 1, module j + 1 ≤ l comes from the previous read
 abbrev pub fromPrevious : Bool → ℕ → ℕ → Bool

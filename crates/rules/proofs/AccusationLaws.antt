@@ -10,12 +10,17 @@ use Rattle.words.specs.Count.{any, lowest}
 use Rattle.words.proofs.Truth.{clash, which, iff-eq, not-both}
 use Rattle.words.proofs.CountLaws.{any-none, any-empty}
 use Rattle.words.proofs.LowestLaws.{lowest-zero, lowest-empty}
-use Rattle.presence.specs.Accusation.{differsAt, accusationOf}
+use Rattle.rules.specs.Accusation.{differsAt, accusationOf}
 
 -- a missing row is never accused
 pub missing-unaccused : (n voters row health j : ℕ) → bit voters j ≡ false → accusationOf n voters row health j ≡ 0
 unfolding accusationOf
 missing-unaccused n voters row health j f = rw f
+
+-- what a row says of its own module accuses nobody
+pub own-unasked : (row health j : ℕ) → differsAt row health j j ≡ false
+unfolding differsAt
+own-unasked row health j = rw (eq-eqb j j refl)
 
 -- no lowest number is no number at all
 lowest-any : (n : ℕ) (p : ℕ → Bool) → eqb (lowest n p) 0 ≡ not (any n p)

@@ -5,11 +5,11 @@ use mathlib.Core.List.{List}
 use lib.ListN.{getD}
 use lib.Dec.{eqb}
 use Rattle.words.specs.Bits.{bit, pack}
-use Rattle.presence.specs.Hearing.{busWord}
-use Rattle.presence.specs.Vote.{healthOf}
-use Rattle.presence.specs.Accusation.{accusationsOf}
-use Rattle.presence.specs.declared.Reading.{Reading}
-use Rattle.presence.specs.declared.Judgement.{Judgement}
+use Rattle.rules.specs.Hearing.{busWord}
+use Rattle.rules.specs.Vote.{healthOf}
+use Rattle.rules.specs.Accusation.{accusationsOf}
+use Rattle.rules.specs.declared.Reading.{Reading}
+use Rattle.rules.specs.declared.Judgement.{Judgement}
 
 -- Rule 6: j is set if j is heard after alignment and not accused.
 unfoldable pub syndromeOf : ℕ → ℕ → List ℕ → ℕ

@@ -6,8 +6,8 @@ use lib.ListN.{getD}
 use Rattle.words.specs.Bits.{bit}
 use Rattle.words.proofs.BitLaws.{bit-pack}
 use Rattle.words.proofs.ArrayLaws.{array-at}
-use Rattle.presence.specs.Alignment.{fromPrevious, alignedOf}
-use Rattle.presence.specs.declared.Reading.{Reading}
+use Rattle.rules.specs.Alignment.{fromPrevious, alignedOf}
+use Rattle.rules.specs.declared.Reading.{Reading}
 
 module _ (n : ℕ) (skew : Bool) (place : ℕ) (previous this : Reading) (j : ℕ) (h : j < n) where
   pub aligned-heard : bit (alignedOf n skew place previous this .heard) j

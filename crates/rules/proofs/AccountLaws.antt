@@ -10,9 +10,9 @@ use Rattle.words.specs.Bits.{bit}
 use Rattle.words.proofs.BitLaws.{bit-pack}
 use Rattle.words.proofs.ArrayLaws.{array-at}
 use Rattle.setup.specs.declared.Setup.{Setup}
-use Rattle.presence.specs.declared.Account.{Account}
-use Rattle.presence.specs.declared.Counters.{Counters}
-use Rattle.presence.specs.Account.{charged, rewarded, accounted, accountAt, accountedAt, countersOf}
+use Rattle.rules.specs.declared.Account.{Account}
+use Rattle.rules.specs.declared.Counters.{Counters}
+use Rattle.rules.specs.Account.{charged, rewarded, accounted, accountAt, accountedAt, countersOf}
 
 -- an account as rounds from opening on leave it
 pub record AccountFits (p r criticality : ℕ) (a : Account) : Type 0 where

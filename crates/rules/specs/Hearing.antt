@@ -6,8 +6,8 @@ use lib.Dec.{eqb, ltb}
 use Rattle.words.specs.Word.{wordAt}
 use Rattle.words.specs.Bits.{bit, pack}
 use Rattle.words.specs.Array.{array}
-use Rattle.presence.specs.declared.Entry.{Entry}
-use Rattle.presence.specs.declared.Reading.{Reading}
+use Rattle.rules.specs.declared.Entry.{Entry}
+use Rattle.rules.specs.declared.Reading.{Reading}
 
 -- a bus word, kind 5: bits 15..0 a syndrome
 unfoldable pub busWord : ℕ → ℕ

@@ -14,8 +14,7 @@ use Rattle.words.specs.Bits.{bit, pack}
 use Rattle.words.proofs.Truth.{and-l, and-r, and-true, which}
 use Rattle.words.proofs.BitLaws.{bit-pack, bit-mod, pack-lt}
 use Rattle.words.proofs.ArrayLaws.{array-at, array-clear}
-use Rattle.presence.specs.Hearing.{busWord, wordHeard, entryOf, readingOf}
-use Rattle.presence.specs.Valid.{rowFits}
+use Rattle.rules.specs.Hearing.{busWord, wordHeard, entryOf, readingOf}
 
 -- a vector of n ≤ 16 modules fits below the kind
 pub below-kind : (n v : ℕ) → n ≤ 16 → v < 2 ^ n → v < 2 ^ 28
@@ -57,14 +56,6 @@ entry-row n on w e = rw e
 pub entry-bit : (n : ℕ) (on : Bool) (w j : ℕ) → j < 28 → entryOf n on w .heard ≡ true → bit (entryOf n on w .row) j ≡ bit w j
 entry-bit n on w j h e = ap (λ (v : ℕ). bit v j) (entry-row n on w e) ∙ bit-mod 28 w j h
 
-entry-fits : (n : ℕ) (on : Bool) (w : ℕ) → rowFits n (entryOf n on w .heard) (entryOf n on w .row) ≡ true
-unfolding entryOf rowFits
-entry-fits n on w = go (on && wordHeard n w) refl
-  where
-    go : (b : Bool) → on && wordHeard n w ≡ b → ltb (cond b (w % 2 ^ 28) 0) (cond b (2 ^ n) 1) ≡ true
-    go true t = lt-ltb _ _ (heard-is n w (and-r on (wordHeard n w) t) .1)
-    go false f = lt-ltb 0 1 (omega arith)
-
 -- ---- a read
 
 module _ (n : ℕ) (read : List ℕ) (controller j : ℕ) (h : j < n) where
@@ -75,8 +66,3 @@ module _ (n : ℕ) (read : List ℕ) (controller j : ℕ) (h : j < n) where
   pub reading-row : n ≤ 16 → getD (readingOf n read controller .rows) j 0 ≡ entryOf n (bit controller j) (wordAt read j) .row
   unfolding readingOf
   reading-row small = array-at n _ j h small
-
-  pub reading-fits : n ≤ 16
-      → rowFits n (bit (readingOf n read controller .heard) j) (getD (readingOf n read controller .rows) j 0) ≡ true
-  reading-fits small =
-      rw (reading-heard, reading-row small) (entry-fits n (bit controller j) (wordAt read j))

@@ -6,8 +6,8 @@ use lib.Dec.{eqb, leb}
 use Rattle.words.specs.Bits.{bit, pack}
 use Rattle.words.specs.Array.{array}
 use Rattle.setup.specs.declared.Setup.{Setup}
-use Rattle.presence.specs.declared.Account.{Account}
-use Rattle.presence.specs.declared.Counters.{Counters}
+use Rattle.rules.specs.declared.Account.{Account}
+use Rattle.rules.specs.declared.Counters.{Counters}
 
 -- health 0: the penalty grows by the criticality, the reward becomes 0, and above P the module leaves the view
 unfoldable pub charged : ℕ → ℕ → Account → Account

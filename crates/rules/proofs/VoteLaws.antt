@@ -13,7 +13,7 @@ use Rattle.words.specs.Bits.{bit}
 use Rattle.words.specs.Count.{count}
 use Rattle.words.proofs.Truth.{which}
 use Rattle.words.proofs.CountLaws.{count-ext, count-split}
-use Rattle.presence.specs.Vote.{decision, tally, voteOf}
+use Rattle.rules.specs.Vote.{decision, tally, voteOf}
 
 pos-of-ne : (n : ℕ) → (n ≡ 0 → ⊥) → 0 < n
 pos-of-ne n h = ⊎-elim (λ e. absurd (h e)) (λ g. g) (eq-zero-or-pos n)

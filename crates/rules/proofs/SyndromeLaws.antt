@@ -8,11 +8,11 @@ use Rattle.words.specs.Bits.{bit}
 use Rattle.words.specs.Count.{any}
 use Rattle.words.proofs.BitLaws.{bit-pack, pack-lt}
 use Rattle.words.proofs.ArrayLaws.{array-at}
-use Rattle.presence.specs.Vote.{voteOf, healthOf}
-use Rattle.presence.specs.Accusation.{differsAt, accusationsOf}
-use Rattle.presence.specs.Syndrome.{syndromeOf, votersOf, judgementOf}
-use Rattle.presence.specs.declared.Reading.{Reading}
-use Rattle.presence.proofs.AccusationLaws.{unaccused}
+use Rattle.rules.specs.Vote.{voteOf, healthOf}
+use Rattle.rules.specs.Accusation.{differsAt, accusationsOf}
+use Rattle.rules.specs.Syndrome.{syndromeOf, votersOf, judgementOf}
+use Rattle.rules.specs.declared.Reading.{Reading}
+use Rattle.rules.proofs.AccusationLaws.{unaccused}
 
 module _ (n : ℕ) (aligned : Reading) (own : ℕ) where
   pub health-lt : judgementOf n aligned own .health < 2 ^ n

@@ -1,0 +1,15 @@
+-- The cases are right, each computed.
+use mathlib.Core.Path.{_≡_, refl}
+use mathlib.Core.Bool.{true}
+use Rattle.words.specs.Word.{wordAt, bytesOf}
+use Rattle.words.specs.Bits.{bit}
+use Rattle.words.specs.Count.{lowest}
+use Rattle.setup.specs.Verdict.{check, checkEach}
+use Rattle.setup.specs.Check.{moduleFits, markFits, whole, headOk, limitOk, moduleOk, markOk, checkHead, checkWords, checkFront}
+use Rattle.backplane.specs.Script.{castOk, eventOk, playOk}
+use Rattle.backplane.specs.Check.{refusal, scanned, finished, scan, checkPlay, checkScript}
+use Rattle.backplane.specs.Cases.{right, cases}
+
+pub cases-right : right cases ≡ true
+unfolding wordAt bytesOf bit lowest check checkEach moduleFits markFits whole headOk limitOk moduleOk markOk checkHead checkWords checkFront castOk eventOk playOk refusal scanned finished scan checkPlay checkScript
+cases-right = refl

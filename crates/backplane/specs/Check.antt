@@ -1,0 +1,58 @@
+-- Which run scripts are accepted, and the number and index by which the others are refused: 16, then 1 to 6, then 12, 13 and 15 word by word, 14 last.
+-- (document 01, "Answers and their order")
+use Prim.Native.Nat.{ℕ, zero, suc, _+_, _-_, _*_, _/_, _%_, _^_}
+use mathlib.Core.Bool.{Bool, true, false, cond, not, _&&_, _||_}
+use mathlib.Core.List.{List}
+use lib.ListN.{length}
+use lib.Dec.{eqb, leb, ltb}
+use Rattle.words.specs.Word.{wordAt}
+use Rattle.words.specs.Bits.{bit}
+use Rattle.setup.specs.Verdict.{accepted, check, between}
+use Rattle.setup.specs.Setup.{sizeIn}
+use Rattle.setup.specs.Check.{checkFront}
+use Rattle.setup.specs.declared.Verdict.{Verdict}
+use Rattle.backplane.specs.Script.{kindOf, castIn, castOk, senderIn, eventOk, roundsIn, playOk}
+use Rattle.backplane.specs.declared.Scan.{Scan}
+
+-- ---- one word after the cast
+
+-- 12: a wrong kind, spare bits, sender, mask or count; 13: a lie by one outside the cast; 15: over 100,000 rounds; a told word is taken as it is
+unfoldable pub refusal : ℕ → ℕ → Scan → ℕ → ℕ
+refusal n cast sc w =
+    cond (sc .told) 0
+    (cond (eqb (kindOf w) 9) (cond (playOk w) (cond (leb (sc .rounds + roundsIn w) 100000) 0 15) 12)
+    (cond (between 7 8 (kindOf w) && eventOk n w) (cond (eqb (kindOf w) 7 || bit cast (senderIn w - 1)) 0 13) 12))
+
+-- what is known after a word that is not refused
+unfoldable pub scanned : Scan → ℕ → Scan
+scanned sc w =
+    cond (sc .told) (record { told = false; pending = true; rounds = sc .rounds })
+    (cond (eqb (kindOf w) 9) (record { told = false; pending = false; rounds = sc .rounds + roundsIn w })
+    (record { told = eqb (kindOf w) 8; pending = true; rounds = sc .rounds }))
+
+-- 14 otherwise: no told word missing, every event played, at least one play
+unfoldable pub finished : Scan → Bool
+finished sc = not (sc .told) && not (sc .pending) && ltb 0 (sc .rounds)
+
+-- ---- the words that are left, from `at` on
+
+unfoldable pub scan : List ℕ → ℕ → ℕ → ℕ → ℕ → Scan → Verdict
+scan s n cast zero at sc = check (finished sc) 14 at accepted
+scan s n cast (suc left) at sc =
+    let w = wordAt s at in
+    let number = refusal n cast sc w in
+    check (eqb number 0) number at (scan s n cast left (at + 1) (scanned sc w))
+
+abbrev pub begun : Scan
+begun = record { told = false; pending = false; rounds = 0 }
+
+-- the cast stands first; without it 14 at the word count
+unfoldable pub checkPlay : List ℕ → ℕ → Verdict
+checkPlay s n =
+    let count = length s / 4 in
+    let cast = wordAt s (n + 3) in
+    check (ltb (n + 3) count) 14 count
+    (check (castOk n cast) 12 (n + 3) (scan s n (castIn cast) (count - (n + 4)) (n + 4) begun))
+
+unfoldable pub checkScript : List ℕ → Verdict
+checkScript s = check (leb (length s) 65536) 16 0 (checkFront s (checkPlay s (sizeIn (wordAt s 0))))

@@ -1,0 +1,33 @@
+-- The words of a run script after its setup: one 6, then 7, 8, 9. (document 01, "What runs")
+use Prim.Native.Nat.{ℕ, _+_, _*_, _/_, _%_, _^_}
+use mathlib.Core.Bool.{Bool, _&&_}
+use lib.Dec.{eqb, ltb}
+use Rattle.words.specs.Word.{field}
+use Rattle.setup.specs.Verdict.{between}
+
+abbrev pub kindOf : ℕ → ℕ
+kindOf w = w / 2 ^ 28
+
+-- kind 6: bits 15..0 the rule-breakers, may be 0
+abbrev pub castIn : ℕ → ℕ
+castIn w = w % 2 ^ 28
+
+unfoldable pub castOk : ℕ → ℕ → Bool
+castOk n w = eqb (kindOf w) 6 && ltb (castIn w) (2 ^ n)
+
+-- kinds 7, a loss, and 8, a lie: 27..23 sender, 15..0 receivers, never empty
+abbrev pub senderIn : ℕ → ℕ
+senderIn w = field 23 5 w
+
+abbrev pub receiversIn : ℕ → ℕ
+receiversIn w = w % 2 ^ 23
+
+unfoldable pub eventOk : ℕ → ℕ → Bool
+eventOk n w = between 1 n (senderIn w) && ltb 0 (receiversIn w) && ltb (receiversIn w) (2 ^ n)
+
+-- kind 9: play n rounds, 1..1,000
+abbrev pub roundsIn : ℕ → ℕ
+roundsIn w = w % 2 ^ 28
+
+unfoldable pub playOk : ℕ → Bool
+playOk w = eqb (kindOf w) 9 && between 1 1000 (roundsIn w)

@@ -1,0 +1,6 @@
+pub mod HearingLaws
+pub mod AlignmentLaws
+pub mod VoteLaws
+pub mod AccusationLaws
+pub mod SyndromeLaws
+pub mod AccountLaws
