@@ -2,17 +2,15 @@
 use Prim.Native.Nat.{ℕ}
 use mathlib.Core.Bool.{Bool, cond}
 use mathlib.Core.List.{List}
-use lib.ListN.{length}
 use lib.Dec.{eqb}
-use Rattle.words.specs.Word.{wordAt}
 use Rattle.setup.specs.Verdict.{isAccepted}
-use Rattle.setup.specs.Setup.{sizeIn, setupOf}
+use Rattle.setup.specs.Setup.{setupOf}
 use Rattle.setup.specs.Check.{checkSetup}
 use Rattle.setup.specs.declared.Verdict.{Verdict}
 use Rattle.rules.specs.Hearing.{busWord}
 use Rattle.presence.specs.Opening.{openOf}
 use Rattle.presence.specs.Step.{markOf, stepOf}
-use Rattle.presence.specs.Image.{imageLength, imageOf, stateOf, checkImage}
+use Rattle.presence.specs.Image.{imageOf, stateOf, checkImage, roomFor}
 use Rattle.presence.specs.declared.Answer.{Answer}
 use Rattle.presence.specs.declared.Outgoing.{Outgoing}
 use Rattle.presence.specs.declared.State.{State}
@@ -30,11 +28,9 @@ answer number index health = record { number = number; index = index; health = h
 unfoldable pub refusedCall : ℕ → ℕ → List ℕ → Called
 refusedCall number index out = record { answer = answer number index 0; out = out }
 
--- a state written to the output, after 9 for an output of another length than its image
-unfoldable pub wrote : ℕ → State → List ℕ → Called
-wrote health st out =
-    cond (eqb (length out) (imageLength (st .setup .n))) (record { answer = answer 0 0 health; out = imageOf st })
-    (refusedCall 9 0 out)
+-- a state written to the output
+unfoldable pub wrote : ℕ → State → Called
+wrote health st = record { answer = answer 0 0 health; out = imageOf st }
 
 -- setup check: 1 to 6
 unfoldable pub checkCall : List ℕ → Answer
@@ -46,7 +42,8 @@ openCall setup own out =
     let v = checkSetup setup in
     let opened = openOf (setupOf setup) own in
     cond (isAccepted v)
-    (cond (eqb (opened .number) 0) (wrote 0 (opened .state) out) (refusedCall (opened .number) (opened .index) out))
+    (cond (eqb (opened .number) 0) (cond (roomFor (opened .state) out) (wrote 0 (opened .state)) (refusedCall 9 0 out))
+    (refusedCall (opened .number) (opened .index) out))
     (refusedCall (v .number) (v .index) out)
 
 -- step: 1 to 8, 9 for the output or the read, 10, 11
@@ -56,9 +53,8 @@ stepCall image read controller out =
     let st = stateOf image in
     let stepped = stepOf st read controller in
     cond (isAccepted v)
-    (cond (eqb (length out) (imageLength (st .setup .n)))
-    (cond (eqb (stepped .number) 0) (wrote (stepped .health) (stepped .state) out)
-    (refusedCall (stepped .number) (stepped .index) out))
+    (cond (roomFor st out)
+    (cond (eqb (stepped .number) 0) (wrote (stepped .health) (stepped .state)) (refusedCall (stepped .number) (stepped .index) out))
     (refusedCall 9 0 out))
     (refusedCall (v .number) (v .index) out)
 
@@ -66,7 +62,8 @@ stepCall image read controller out =
 unfoldable pub saveCall : List ℕ → List ℕ → Called
 saveCall image out =
     let v = checkImage image in
-    cond (isAccepted v) (wrote 0 (stateOf image) out) (refusedCall (v .number) (v .index) out)
+    cond (isAccepted v) (cond (roomFor (stateOf image) out) (wrote 0 (stateOf image)) (refusedCall 9 0 out))
+    (refusedCall (v .number) (v .index) out)
 
 -- The word handed out by the step or opening that left this state: the syndrome of the round before with the send mark, else the latest.
 unfoldable pub handedOut : State → ℕ

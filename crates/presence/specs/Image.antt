@@ -8,12 +8,14 @@ use lib.Dec.{eqb, ltb}
 use Rattle.words.specs.Word.{wordAt, wordBytes, bytesOf, field}
 use Rattle.words.specs.Bits.{b2n, bit, pack}
 use Rattle.words.specs.Array.{array}
-use Rattle.setup.specs.Verdict.{accepted, check, checkEach, between}
+use Rattle.setup.specs.Verdict.{accepted, isAccepted, check, checkEach, between}
 use Rattle.setup.specs.Setup.{sizeIn, limitIn, criticalityIn, setupOf, setupBytes}
 use Rattle.setup.specs.Check.{checkHead, checkWords}
 use Rattle.setup.specs.declared.Verdict.{Verdict}
-use Rattle.presence.specs.Valid.{rowFits, penaltyFits, rewardFits}
+use Rattle.presence.specs.Valid.{rowFits, penaltyFits, rewardFits, stateVerdict}
+use Rattle.presence.specs.Opening.{blank}
 use Rattle.presence.specs.declared.State.{State}
+use Rattle.presence.specs.declared.Opened.{Opened}
 
 -- ---- words
 
@@ -128,3 +130,25 @@ unfoldable pub checkImage : List ℕ → Verdict
 checkImage s =
     let n = sizeIn (wordAt s 0) in
     checkHead s (eqb (length s) (imageLength n)) (checkWords s n (checkTail s n))
+
+-- ---- reading and saving as calls
+
+-- reading: 1 to 8; what is held where an image is refused is blank
+unfoldable pub loadOf : List ℕ → Opened
+loadOf image =
+    let v = checkImage image in
+    record { number = v .number; index = v .index; state = cond (isAccepted v) (stateOf image) blank }
+
+-- the output has the length of the state's image
+unfoldable pub roomFor : State → List ℕ → Bool
+roomFor st out = eqb (length out) (imageLength (st .setup .n))
+
+-- saving: a state outside the limits is refused first, then 9 for an output of another length
+unfoldable pub saveVerdict : State → List ℕ → Verdict
+saveVerdict st out =
+    let v = stateVerdict st in
+    cond (isAccepted v) (check (roomFor st out) 9 0 accepted) v
+
+-- the output at exit: a refusal leaves it as it was
+unfoldable pub savedOut : State → List ℕ → List ℕ
+savedOut st out = cond (isAccepted (saveVerdict st out)) (imageOf st) out

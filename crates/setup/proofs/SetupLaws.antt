@@ -1,17 +1,16 @@
 -- What an accepted setup is, field by field.
-use mathlib.Core.Path.{_≡_, refl, ap, _∙_, sym}
-use mathlib.Core.Bool.{Bool, true, false, not, _&&_, _||_}
-use Prim.Native.Nat.{ℕ, _+_, _^_, _<_, _≤_}
+use mathlib.Core.Path.{_≡_, _∙_}
+use mathlib.Core.Bool.{true}
+use Prim.Native.Nat.{ℕ, _<_, _≤_}
 use native.Mathlib.Omega.{arith}
 use lib.ListN.{getD}
-use lib.Dec.{eqb, leb, ltb}
-use borrow.Author.Tests.{leb-true, ltb-true, le-leb, lt-ltb}
+use lib.Dec.{leb}
+use borrow.Author.Tests.{leb-true, le-leb}
 use Rattle.words.specs.Bits.{bit}
-use Rattle.words.specs.Array.{clearFrom}
 use Rattle.words.proofs.Truth.{and-l, and-r, and-true}
 use Rattle.setup.specs.declared.Verdict.{Verdict}
 use Rattle.setup.specs.declared.Setup.{Setup}
-use Rattle.setup.specs.Verdict.{check, checkEach, between}
+use Rattle.setup.specs.Verdict.{between}
 use Rattle.setup.specs.Check.{moduleFits, markFits, setupTidy, checkFields}
 use Rattle.setup.proofs.VerdictLaws.{check-ok, check-pass, each-ok, each-pass, between-is, between-of}
 
@@ -32,13 +31,13 @@ pub record SetupFits (s : Setup) : Type 0 where
   pub tidy : setupTidy s ≡ true
   pub marks : (j : ℕ) → j < s .n → markFits j (bit (s .marks) j) (getD (s .places) j 0) ≡ true
 
-module-is : (n place criticality : ℕ) → moduleFits n place criticality ≡ true → ModuleFits n place criticality
+pub module-is : (n place criticality : ℕ) → moduleFits n place criticality ≡ true → ModuleFits n place criticality
 unfolding moduleFits
 module-is n place criticality e =
     let c = between-is 1 100000 criticality (and-r (leb place n) _ e) in
     record { within = leb-true place n (and-l (leb place n) _ e); least = c .0; most = c .1 }
 
-module-of : (n place criticality : ℕ) → ModuleFits n place criticality → moduleFits n place criticality ≡ true
+pub module-of : (n place criticality : ℕ) → ModuleFits n place criticality → moduleFits n place criticality ≡ true
 unfolding moduleFits
 module-of n place criticality f =
     and-true (leb place n) _ (le-leb place n (f .within)) (between-of 1 100000 criticality (f .least) (f .most))

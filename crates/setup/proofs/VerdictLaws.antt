@@ -1,13 +1,12 @@
 -- Checks one after the other: where all pass, the last decides; and number 0 means that all passed.
-use mathlib.Core.Path.{_≡_, refl, ap, _∙_, sym}
-use mathlib.Core.Logic.{_≢_, _⊎_, ⊎-elim}
+use mathlib.Core.Path.{_≡_, refl, ap}
 use mathlib.Core.Bool.{Bool, true, false, cond, not}
 use Prim.Native.Nat.{ℕ, _+_, _<_, _≤_}
 use native.Mathlib.Omega.{arith}
 use lib.Dec.{eqb, leb}
 use borrow.Author.Tests.{eqb-true, leb-true, le-leb, not-false}
 use Rattle.words.specs.Count.{lowest}
-use Rattle.words.proofs.Truth.{which, clash, and-l, and-r, and-true}
+use Rattle.words.proofs.Truth.{and-l, and-r, and-true}
 use Rattle.words.proofs.LowestLaws.{lowest-zero, lowest-empty}
 use Rattle.setup.specs.declared.Verdict.{Verdict}
 use Rattle.setup.specs.Verdict.{verdict, check, checkEach, between}

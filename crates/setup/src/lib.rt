@@ -23,3 +23,10 @@ pub struct SetupRead {
     pub index: u32,
     pub setup: Setup,
 }
+
+pub mod check;
+pub mod fields;
+pub mod part;
+pub mod read;
+pub mod word;
+pub mod write;

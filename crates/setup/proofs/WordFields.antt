@@ -1,0 +1,97 @@
+-- A word of a setup is made of its fields, and its fields are those that it was made of.
+use mathlib.Core.Path.{_≡_, refl, _∙_}
+use mathlib.Core.Bool.{Bool, true, false}
+use Prim.Native.Nat.{ℕ, _+_, _*_, _/_, _%_, _^_, _<_, _≤_}
+use native.Mathlib.Omega.{arith}
+use Rattle.words.specs.Bits.{bit, b2n}
+use Rattle.words.proofs.BitLaws.{b2n-bit, b2n-le}
+use Rattle.setup.specs.Setup.{headWord, sizeIn, limitWord, limitIn, moduleWord, markIn, placeIn, criticalityIn}
+use Rattle.setup.specs.Check.{headOk, limitOk}
+use Rattle.setup.proofs.VerdictLaws.{between-is, between-of}
+
+-- ---- the head
+
+pub head-made : (w : ℕ) → headOk w ≡ true → headWord (sizeIn w) ≡ w
+unfolding headOk
+head-made w e =
+    let b = between-is (headWord 2) (headWord 16) w e in
+    omega arith
+
+pub head-right : (n : ℕ) → 2 ≤ n → n ≤ 16 → headOk (headWord n) ≡ true
+unfolding headOk
+head-right n h l = between-of (headWord 2) (headWord 16) (headWord n) (omega arith) (omega arith)
+
+pub size-back : (n : ℕ) → n ≤ 16 → sizeIn (headWord n) ≡ n
+size-back n h = omega arith
+
+-- ---- a limit
+
+pub record LimitMade (kind high w : ℕ) : Type 0 where
+  pub word : limitWord kind (limitIn w) ≡ w
+  pub least : 1 ≤ limitIn w
+  pub most : limitIn w ≤ high
+
+pub limit-made : (kind most w : ℕ) → most < 2 ^ 28 → limitOk kind most w ≡ true → LimitMade kind most w
+unfolding limitOk
+limit-made kind most w h e =
+    let b = between-is (limitWord kind 1) (limitWord kind most) w e in
+    record { word = omega arith; least = omega arith; most = omega arith }
+
+pub limit-right : (kind most v : ℕ) → 1 ≤ v → v ≤ most → limitOk kind most (limitWord kind v) ≡ true
+unfolding limitOk
+limit-right kind most v h l = between-of (limitWord kind 1) (limitWord kind most) (limitWord kind v) (omega arith) (omega arith)
+
+pub limit-back : (kind v : ℕ) → v < 2 ^ 28 → limitIn (limitWord kind v) ≡ v
+limit-back kind v h = omega arith
+
+-- ---- a module word
+
+pub module-made : (j w : ℕ) → w / 2 ^ 23 ≡ 4 * 2 ^ 5 + (j + 1) → moduleWord j (markIn w) (placeIn w) (criticalityIn w) ≡ w
+module-made j w e =
+    let m : b2n (markIn w) ≡ w / 2 ^ 22 % 2 = b2n-bit w 22 in
+    let a : w / 2 ^ 22 ≡ w / 2 ^ 23 * 2 + w / 2 ^ 22 % 2 = omega arith in
+    let b : w / 2 ^ 17 ≡ w / 2 ^ 22 * 2 ^ 5 + w / 2 ^ 17 % 2 ^ 5 = omega arith in
+    let c : w ≡ w / 2 ^ 17 * 2 ^ 17 + w % 2 ^ 17 = omega arith in
+    omega arith
+
+-- the fields of a word that was made of a number, a bit, a read place and a criticality
+module _ (j bit place criticality : ℕ) (hb : bit ≤ 1) (hp : place < 2 ^ 5) (hc : criticality < 2 ^ 17) where
+  abbrev made : ℕ
+  made = 4 * 2 ^ 28 + (j + 1) * 2 ^ 23 + bit * 2 ^ 22 + place * 2 ^ 17 + criticality
+
+  number-at : made / 2 ^ 23 ≡ 4 * 2 ^ 5 + (j + 1)
+  number-at = omega arith
+
+  bit-at : made / 2 ^ 22 % 2 ≡ bit
+  bit-at =
+      let e : made / 2 ^ 22 ≡ (4 * 2 ^ 5 + (j + 1)) * 2 + bit = omega arith in
+      rw e (omega arith)
+
+  place-at : made / 2 ^ 17 % 2 ^ 5 ≡ place
+  place-at =
+      let e : made / 2 ^ 17 ≡ ((4 * 2 ^ 5 + (j + 1)) * 2 + bit) * 2 ^ 5 + place = omega arith in
+      rw e (omega arith)
+
+  criticality-at : made % 2 ^ 17 ≡ criticality
+  criticality-at = omega arith
+
+-- a bit is determined by its number
+b2n-same : (a b : Bool) → b2n a ≡ b2n b → a ≡ b
+b2n-same true true e = refl
+b2n-same true false e = absurd (omega arith)
+b2n-same false true e = absurd (omega arith)
+b2n-same false false e = refl
+
+module _ (j : ℕ) (mark : Bool) (place criticality : ℕ) (hp : place < 2 ^ 5) (hc : criticality < 2 ^ 17) where
+  pub number-back : moduleWord j mark place criticality / 2 ^ 23 ≡ 4 * 2 ^ 5 + (j + 1)
+  number-back = number-at j (b2n mark) place criticality (b2n-le mark) hp hc
+
+  pub mark-back : markIn (moduleWord j mark place criticality) ≡ mark
+  mark-back =
+      b2n-same _ mark (b2n-bit (moduleWord j mark place criticality) 22 ∙ bit-at j (b2n mark) place criticality (b2n-le mark) hp hc)
+
+  pub place-back : placeIn (moduleWord j mark place criticality) ≡ place
+  place-back = place-at j (b2n mark) place criticality (b2n-le mark) hp hc
+
+  pub criticality-back : criticalityIn (moduleWord j mark place criticality) ≡ criticality
+  criticality-back = criticality-at j (b2n mark) place criticality (b2n-le mark) hp hc

@@ -1,0 +1,69 @@
+-- The limits in their turn, then numbers 5 and 6.
+use mathlib.Core.Path.{ap, sym, _∙_}
+use borrow.Author.Tests.{not-true, not-false}
+use Rattle.setup.specs.Check.{limitOk, checkWords}
+use Rattle.setup.proofs.VerdictLaws.{check-ok}
+use Rattle.setup.proofs.NextLaws.{check-refused}
+use borrow.Author.Needs.{needs}
+use Rattle.setup.proofs.check.check_words.Statement.{statement}
+use Rattle.setup.proofs.check.check_words.Tie as tie
+
+word-at-requires : tie.Need-word-at-requires
+word-at-requires c κs = search needs
+
+limit-ok-requires : tie.Need-limit-ok-requires
+limit-ok-requires c κs = search needs
+
+refused-requires : tie.Need-refused-requires
+refused-requires c κs = search needs
+
+returns : tie.Need-returns
+unfolding checkWords
+returns c =
+    let e = c .before .before .limit-ok .ensures ∙ ap (limitOk _ _) (c .before .before .before .word-at .ensures) in
+    c .refused .ensures ∙ sym (check-refused _ 4 1 _ (sym e ∙ not-true _ (c .before .if1 .taken)))
+
+word-at-requires-2 : tie.Need-word-at-requires-2
+word-at-requires-2 c κs = search needs
+
+limit-ok-requires-2 : tie.Need-limit-ok-requires-2
+limit-ok-requires-2 c κs = search needs
+
+refused-requires-2 : tie.Need-refused-requires-2
+refused-requires-2 c κs = search needs
+
+returns-2 : tie.Need-returns-2
+unfolding checkWords
+returns-2 c =
+    let g = c .before .before .before .before in
+    let e = g .before .limit-ok .ensures ∙ ap (limitOk _ _) (g .before .before .word-at .ensures) in
+    let h = c .before .before .limit-ok2 .ensures ∙ ap (limitOk _ _) (c .before .before .before .word-at2 .ensures) in
+    c .refused2 .ensures
+    ∙ sym (check-ok _ 4 1 _ (sym e ∙ not-false _ (g .if1 .left)) ∙ check-refused _ 4 2 _ (sym h ∙ not-true _ (c .before .if2 .taken)))
+
+check-modules-requires : tie.Need-check-modules-requires
+check-modules-requires c κs = search needs
+
+returns-3 : tie.Need-returns-3
+unfolding checkWords
+returns-3 c =
+    let g = c .before .before .before .before in
+    let e = g .before .limit-ok .ensures ∙ ap (limitOk _ _) (g .before .before .word-at .ensures) in
+    let h = c .before .before .limit-ok2 .ensures ∙ ap (limitOk _ _) (c .before .before .before .word-at2 .ensures) in
+    c .check-modules .ensures
+    ∙ sym (check-ok _ 4 1 _ (sym e ∙ not-false _ (g .if1 .left)) ∙ check-ok _ 4 2 _ (sym h ∙ not-false _ (c .before .if2 .left)))
+
+pub check-words-spec : {M : Type 1} → statement M
+check-words-spec =
+    tie.close
+    (tie.spec
+    word-at-requires
+    limit-ok-requires
+    refused-requires
+    returns
+    word-at-requires-2
+    limit-ok-requires-2
+    refused-requires-2
+    returns-2
+    check-modules-requires
+    returns-3)

@@ -1,0 +1,67 @@
+-- N and the limits in their turn, then numbers 5 and 6.
+use mathlib.Core.Path.{sym, _∙_}
+use borrow.Author.Tests.{not-true, not-false}
+use Rattle.setup.specs.Check.{checkFields, setupVerdict}
+use Rattle.setup.proofs.VerdictLaws.{check-ok, between-is}
+use Rattle.setup.proofs.NextLaws.{check-refused}
+use borrow.Author.Needs.{needs}
+use Rattle.setup.proofs.fields.verdict.Statement.{statement}
+use Rattle.setup.proofs.fields.verdict.Tie as tie
+
+refused-requires : tie.Need-refused-requires
+refused-requires c κs = search needs
+
+returns : tie.Need-returns
+unfolding setupVerdict checkFields
+returns c = c .refused .ensures ∙ sym (check-refused _ 2 0 _ (not-true _ (c .before .if1 .taken)))
+
+refused-requires-2 : tie.Need-refused-requires-2
+refused-requires-2 c κs = search needs
+
+returns-2 : tie.Need-returns-2
+unfolding setupVerdict checkFields
+returns-2 c =
+    let g = c .before .before .before .before in
+    c .refused2 .ensures
+    ∙ sym (check-ok _ 2 0 _ (not-false _ (g .if1 .left)) ∙ check-refused _ 4 1 _ (not-true _ (c .before .if2 .taken)))
+
+refused-requires-3 : tie.Need-refused-requires-3
+refused-requires-3 c κs = search needs
+
+returns-3 : tie.Need-returns-3
+unfolding setupVerdict checkFields
+returns-3 c =
+    let h = c .before .before .before .before in
+    let g = h .before .before .before in
+    c .refused3 .ensures
+    ∙ sym
+    (check-ok _ 2 0 _ (not-false _ (g .if1 .left))
+    ∙ check-ok _ 4 1 _ (not-false _ (h .if2 .left))
+    ∙ check-refused _ 4 2 _ (not-true _ (c .before .if3 .taken)))
+
+module-verdict-requires : tie.Need-module-verdict-requires
+module-verdict-requires c κs = between-is 2 16 _ (not-false _ (c .before .before .before .before .before .before .if1 .left)) .1
+
+returns-4 : tie.Need-returns-4
+unfolding setupVerdict checkFields
+returns-4 c =
+    let h = c .before .before .before .before in
+    let g = h .before .before .before in
+    c .module-verdict .ensures
+    ∙ sym
+    (check-ok _ 2 0 _ (not-false _ (g .if1 .left))
+    ∙ check-ok _ 4 1 _ (not-false _ (h .if2 .left))
+    ∙ check-ok _ 4 2 _ (not-false _ (c .before .if3 .left)))
+
+pub verdict-spec : {M : Type 1} → statement M
+verdict-spec =
+    tie.close
+    (tie.spec
+    refused-requires
+    returns
+    refused-requires-2
+    returns-2
+    refused-requires-3
+    returns-3
+    module-verdict-requires
+    returns-4)

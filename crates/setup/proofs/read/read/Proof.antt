@@ -1,0 +1,34 @@
+-- The answer of the check, with the setup where it accepts and the blank one where it refuses.
+use native.Mathlib.Omega.{arith}
+use Rattle.setup.proofs.AnswerLaws.{read-refused, read-accepted, bytes-fit}
+use borrow.Author.Needs.{needs}
+use Rattle.setup.proofs.read.read.Statement.{statement}
+use Rattle.setup.proofs.read.read.Tie as tie
+
+check-requires : tie.Need-check-requires
+check-requires c κs = search needs
+
+blank-requires : tie.Need-blank-requires
+blank-requires c κs = search needs
+
+returns : tie.Need-returns
+returns c = read-refused _ (c .before .before .before .check .ensures) (c .blank .ensures) (c .before .if1 .taken)
+
+size-at-requires : tie.Need-size-at-requires
+size-at-requires c κs = bytes-fit _ (c .before .before .check .ensures) (c .if1 .left) .front .room
+
+setup-in-requires : tie.Need-setup-in-requires
+setup-in-requires c κs =
+    let f = bytes-fit _ (c .before .before .before .check .ensures) (c .before .if1 .left) in
+    let e = c .size-at .ensures in
+    (omega arith, omega arith, e)
+
+returns-2 : tie.Need-returns-2
+returns-2 c =
+    let g = c .before .before in
+    read-accepted _ (g .before .before .check .ensures) (c .setup-in .ensures) (g .if1 .left)
+
+pub read-spec : {M : Type 1} → statement M
+read-spec =
+    tie.close
+    (tie.spec check-requires blank-requires returns size-at-requires setup-in-requires returns-2)

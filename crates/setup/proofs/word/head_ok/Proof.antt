@@ -1,0 +1,12 @@
+-- The code and the definition make the same two comparisons.
+use Rattle.setup.specs.Check.{headOk}
+use borrow.Author.Needs.{needs}
+use Rattle.setup.proofs.word.head_ok.Statement.{statement}
+use Rattle.setup.proofs.word.head_ok.Tie as tie
+
+returns : tie.Need-returns
+unfolding headOk
+returns c = search needs
+
+pub head-ok-spec : {M : Type 1} → statement M
+head-ok-spec = tie.close (tie.spec returns)

@@ -1,0 +1,17 @@
+// The setup of a run script as a part of the caller's bytes.
+use crate::check::check_front;
+use crate::check::size_at;
+ghost use mathlib.Core.Path.{_≡_};
+ghost use Rattle.setup.specs.Check.{setupPart};
+
+// The first N + 3 words, or nothing where the setup is refused.
+pub fn part(s: &[u8]) -> &[u8]
+    ensures { λ r. ⌜ now r ≡ setupPart (now (s .entry)) ⌝ }
+{
+    let v = check_front(s);
+    if v.number != 0 {
+        return &s[..0];
+    }
+    let k = (size_at(s) + 3) * 4;
+    &s[..k]
+}

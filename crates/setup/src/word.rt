@@ -1,0 +1,51 @@
+// Tests of single words of a setup, and of the fields that they hold.
+use words::bits::bit_at;
+use words::word::field;
+ghost use mathlib.Core.Path.{_≡_};
+ghost use Prim.Native.Nat.{_^_, _<_};
+ghost use Rattle.setup.specs.Check.{moduleFits, markFits, headOk, limitOk, moduleOk, markOk};
+
+// A read place from 0 to n, a criticality from 1 to 100,000.
+pub fn module_fits(n: usize, place: u32, criticality: u32) -> bool
+    ensures { λ r. ⌜ r ≡ moduleFits n place criticality ⌝ }
+{
+    (place as usize <= n) & ((1 <= criticality) & (criticality <= 100000))
+}
+
+// No send mark, or one on a module other than 1 whose read place is below its number j + 1.
+pub fn mark_fits(j: usize, mark: bool, place: u32) -> bool
+    ensures { λ r. ⌜ r ≡ markFits j mark place ⌝ }
+{
+    !mark | ((0 < j) & (place as usize <= j))
+}
+
+// Kind 1, N from 2 to 16.
+pub fn head_ok(w: u32) -> bool
+    ensures { λ r. ⌜ r ≡ headOk w ⌝ }
+{
+    (268435458 <= w) & (w <= 268435472)
+}
+
+// The kind, a limit from 1 to the most.
+pub fn limit_ok(kind: u32, most: u32, w: u32) -> bool
+    requires { ⌜ (kind < 4) × (most < 2 ^ 28) ⌝ }
+    ensures { λ r. ⌜ r ≡ limitOk kind most w ⌝ }
+{
+    let base = kind * 268435456;
+    (base + 1 <= w) & (w <= base + most)
+}
+
+// Kind 4, the number j + 1, fields in range.
+pub fn module_ok(n: usize, j: usize, w: u32) -> bool
+    requires { ⌜ j < 16 ⌝ }
+    ensures { λ r. ⌜ r ≡ moduleOk n j w ⌝ }
+{
+    (w / 8388608 == 128 + (j as u32 + 1)) & module_fits(n, field(w, 17, 5), w % 131072)
+}
+
+// The send mark of module j + 1.
+pub fn mark_ok(j: usize, w: u32) -> bool
+    ensures { λ r. ⌜ r ≡ markOk j w ⌝ }
+{
+    mark_fits(j, bit_at(w, 22), field(w, 17, 5))
+}
