@@ -15,8 +15,8 @@ ghost use Rattle.setup.specs.Verdict.{verdict, accepted, checkEach};
 ghost use Rattle.setup.specs.Setup.{sizeIn, setupLength};
 ghost use Rattle.setup.specs.Check.{moduleOk, markOk, checkHead, checkWords, checkSetup, checkFront};
 
-// A refusal by its number, at the word of its index.
-pub fn refused(number: u32, index: u32) -> Verdict
+// The answer by a number, at the word of an index; 0 and 0 where nothing is refused.
+pub fn answer(number: u32, index: u32) -> Verdict
     ensures { λ r. ⌜ r ≡ verdict number index ⌝ }
 {
     Verdict { number, index }
@@ -73,13 +73,13 @@ pub fn check_modules(s: &[u8], n: usize) -> Verdict
 {
     let first = wrong_module(s, n);
     if first != 0 {
-        return refused(5, 2 + first as u32);
+        return answer(5, 2 + first as u32);
     }
     let mark = wrong_mark(s, n);
     if mark != 0 {
-        return refused(6, 2 + mark as u32);
+        return answer(6, 2 + mark as u32);
     }
-    refused(0, 0)
+    answer(0, 0)
 }
 
 // Numbers 4 to 6, of bytes that hold the words of n modules, whatever follows them.
@@ -88,10 +88,10 @@ pub fn check_words(s: &[u8], n: usize) -> Verdict
     ensures { λ r. ⌜ r ≡ checkWords (now (s .entry)) n accepted ⌝ }
 {
     if !limit_ok(2, 1000000, word_at(s, 1)) {
-        return refused(4, 1);
+        return answer(4, 1);
     }
     if !limit_ok(3, 8000000, word_at(s, 2)) {
-        return refused(4, 2);
+        return answer(4, 2);
     }
     check_modules(s, n)
 }
@@ -101,12 +101,12 @@ pub fn check_head(s: &[u8]) -> Verdict
     ensures { λ r. ⌜ r ≡ checkHead (now (s .entry)) true accepted ⌝ }
 {
     if !((s.len() != 0) & (s.len() % 4 == 0)) {
-        return refused(1, 0);
+        return answer(1, 0);
     }
     if !head_ok(word_at(s, 0)) {
-        return refused(2, 0);
+        return answer(2, 0);
     }
-    refused(0, 0)
+    answer(0, 0)
 }
 
 // Numbers 1 to 6 of a setup by itself.
@@ -119,7 +119,7 @@ pub fn check(s: &[u8]) -> Verdict
     }
     let n = size_at(s);
     if s.len() != (n + 3) * 4 {
-        return refused(3, 0);
+        return answer(3, 0);
     }
     check_words(s, n)
 }
@@ -134,7 +134,7 @@ pub fn check_front(s: &[u8]) -> Verdict
     }
     let n = size_at(s);
     if s.len() < (n + 3) * 4 {
-        return refused(3, 0);
+        return answer(3, 0);
     }
     check_words(s, n)
 }

@@ -1,7 +1,7 @@
 // The check of a setup that is already a struct, by the numbers and indexes that its words would get.
 use crate::Setup;
 use crate::Verdict;
-use crate::check::refused;
+use crate::check::answer;
 use crate::word::mark_fits;
 use crate::word::module_fits;
 use words::array::all_clear;
@@ -72,16 +72,16 @@ pub fn module_verdict(setup: Setup) -> Verdict
     let criticality = setup.criticality;
     let first = wrong_fields(setup.n, places, criticality);
     if first != 0 {
-        return refused(5, 2 + first as u32);
+        return answer(5, 2 + first as u32);
     }
     if !tidy(setup) {
-        return refused(5, 0);
+        return answer(5, 0);
     }
     let mark = wrong_marks(setup.n, setup.marks, places);
     if mark != 0 {
-        return refused(6, 2 + mark as u32);
+        return answer(6, 2 + mark as u32);
     }
-    refused(0, 0)
+    answer(0, 0)
 }
 
 // Numbers 2 and 4 to 6 of any setup.
@@ -89,13 +89,13 @@ pub fn verdict(setup: Setup) -> Verdict
     ensures { λ r. ⌜ r ≡ setupVerdict setup ⌝ }
 {
     if !((2 <= setup.n) & (setup.n <= 16)) {
-        return refused(2, 0);
+        return answer(2, 0);
     }
     if !((1 <= setup.p) & (setup.p <= 1000000)) {
-        return refused(4, 1);
+        return answer(4, 1);
     }
     if !((1 <= setup.r) & (setup.r <= 8000000)) {
-        return refused(4, 2);
+        return answer(4, 2);
     }
     module_verdict(setup)
 }

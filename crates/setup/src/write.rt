@@ -1,13 +1,12 @@
 // Writing a setup as words.
 use crate::Setup;
 use crate::Verdict;
-use crate::check::refused;
+use crate::check::answer;
 use crate::fields::verdict;
 use words::bits::bit_at;
 use words::bits::flag;
 use words::word::put_word;
 ghost use mathlib.Core.Path.{_≡_};
-ghost use mathlib.Core.Bool.{Bool};
 ghost use mathlib.Core.List.{_++_};
 ghost use Prim.Native.Nat.{_*_, _^_, _≤_, _<_};
 ghost use lib.ListN.{length, getD};
@@ -69,8 +68,8 @@ pub fn write(setup: Setup, out: &mut [u8]) -> Verdict
         return v;
     }
     if out.len() != (setup.n + 3) * 4 {
-        return refused(9, 0);
+        return answer(9, 0);
     }
     write_words(setup, out);
-    refused(0, 0)
+    answer(0, 0)
 }

@@ -26,15 +26,15 @@ add-if2 c = search needs
 mul-if2 : tie.Need-mul-if2
 mul-if2 c = search needs
 
-refused-requires : tie.Need-refused-requires
-refused-requires c κs = search needs
+answer-requires : tie.Need-answer-requires
+answer-requires c κs = search needs
 
 returns-2 : tie.Need-returns-2
 unfolding checkSetup
 returns-2 c =
     let g = c .before .before .before in
     let e = c .before .before .size-at .ensures in
-    c .refused .ensures
+    c .answer .ensures
     ∙ sym (check-refused _ 3 0 _ (ne-eqb _ _ (rw e at (c .before .if2 .taken))))
     ∙ head-goes _ (g .before .before .check-head .ensures) _ _ (g .if1 .left)
 
@@ -63,7 +63,7 @@ check-spec =
     size-at-requires
     add-if2
     mul-if2
-    refused-requires
+    answer-requires
     returns-2
     check-words-requires
     returns-3)

@@ -10,12 +10,12 @@ use borrow.Author.Needs.{needs}
 use Rattle.setup.proofs.check.check_head.Statement.{statement}
 use Rattle.setup.proofs.check.check_head.Tie as tie
 
-refused-requires : tie.Need-refused-requires
-refused-requires c κs = search needs
+answer-requires : tie.Need-answer-requires
+answer-requires c κs = search needs
 
 returns : tie.Need-returns
 unfolding checkHead whole
-returns c = c .refused .ensures ∙ sym (check-refused _ 1 0 _ (not-true _ (c .before .if1 .taken)))
+returns c = c .answer .ensures ∙ sym (check-refused _ 1 0 _ (not-true _ (c .before .if1 .taken)))
 
 word-at-requires : tie.Need-word-at-requires
 unfolding whole
@@ -24,26 +24,26 @@ word-at-requires c κs = whole-is (c .before .before .args .s .now) (not-false _
 head-ok-requires : tie.Need-head-ok-requires
 head-ok-requires c κs = search needs
 
-refused-requires-2 : tie.Need-refused-requires-2
-refused-requires-2 c κs = search needs
+answer-requires-2 : tie.Need-answer-requires-2
+answer-requires-2 c κs = search needs
 
 returns-2 : tie.Need-returns-2
 unfolding checkHead whole
 returns-2 c =
     let e = c .before .before .head-ok .ensures ∙ ap headOk (c .before .before .before .word-at .ensures) in
-    c .refused2 .ensures
+    c .answer2 .ensures
     ∙ sym
     (check-ok _ 1 0 _ (not-false _ (c .before .before .before .before .if1 .left))
     ∙ check-refused _ 2 0 _ (sym e ∙ not-true _ (c .before .if2 .taken)))
 
-refused-requires-3 : tie.Need-refused-requires-3
-refused-requires-3 c κs = search needs
+answer-requires-3 : tie.Need-answer-requires-3
+answer-requires-3 c κs = search needs
 
 returns-3 : tie.Need-returns-3
 unfolding checkHead whole
 returns-3 c =
     let e = c .before .before .head-ok .ensures ∙ ap headOk (c .before .before .before .word-at .ensures) in
-    c .refused3 .ensures
+    c .answer3 .ensures
     ∙ sym
     (check-ok _ 1 0 _ (not-false _ (c .before .before .before .before .if1 .left))
     ∙ check-ok _ 2 0 _ (sym e ∙ not-false _ (c .before .if2 .left))
@@ -53,11 +53,11 @@ pub check-head-spec : {M : Type 1} → statement M
 check-head-spec =
     tie.close
     (tie.spec
-    refused-requires
+    answer-requires
     returns
     word-at-requires
     head-ok-requires
-    refused-requires-2
+    answer-requires-2
     returns-2
-    refused-requires-3
+    answer-requires-3
     returns-3)

@@ -14,14 +14,14 @@ word-at-requires c κs = search needs
 limit-ok-requires : tie.Need-limit-ok-requires
 limit-ok-requires c κs = search needs
 
-refused-requires : tie.Need-refused-requires
-refused-requires c κs = search needs
+answer-requires : tie.Need-answer-requires
+answer-requires c κs = search needs
 
 returns : tie.Need-returns
 unfolding checkWords
 returns c =
     let e = c .before .before .limit-ok .ensures ∙ ap (limitOk _ _) (c .before .before .before .word-at .ensures) in
-    c .refused .ensures ∙ sym (check-refused _ 4 1 _ (sym e ∙ not-true _ (c .before .if1 .taken)))
+    c .answer .ensures ∙ sym (check-refused _ 4 1 _ (sym e ∙ not-true _ (c .before .if1 .taken)))
 
 word-at-requires-2 : tie.Need-word-at-requires-2
 word-at-requires-2 c κs = search needs
@@ -29,8 +29,8 @@ word-at-requires-2 c κs = search needs
 limit-ok-requires-2 : tie.Need-limit-ok-requires-2
 limit-ok-requires-2 c κs = search needs
 
-refused-requires-2 : tie.Need-refused-requires-2
-refused-requires-2 c κs = search needs
+answer-requires-2 : tie.Need-answer-requires-2
+answer-requires-2 c κs = search needs
 
 returns-2 : tie.Need-returns-2
 unfolding checkWords
@@ -38,7 +38,7 @@ returns-2 c =
     let g = c .before .before .before .before in
     let e = g .before .limit-ok .ensures ∙ ap (limitOk _ _) (g .before .before .word-at .ensures) in
     let h = c .before .before .limit-ok2 .ensures ∙ ap (limitOk _ _) (c .before .before .before .word-at2 .ensures) in
-    c .refused2 .ensures
+    c .answer2 .ensures
     ∙ sym (check-ok _ 4 1 _ (sym e ∙ not-false _ (g .if1 .left)) ∙ check-refused _ 4 2 _ (sym h ∙ not-true _ (c .before .if2 .taken)))
 
 check-modules-requires : tie.Need-check-modules-requires
@@ -59,11 +59,11 @@ check-words-spec =
     (tie.spec
     word-at-requires
     limit-ok-requires
-    refused-requires
+    answer-requires
     returns
     word-at-requires-2
     limit-ok-requires-2
-    refused-requires-2
+    answer-requires-2
     returns-2
     check-modules-requires
     returns-3)

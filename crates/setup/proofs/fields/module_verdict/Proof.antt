@@ -11,32 +11,32 @@ use Rattle.setup.proofs.fields.module_verdict.Tie as tie
 wrong-fields-requires : tie.Need-wrong-fields-requires
 wrong-fields-requires c κs = search needs
 
-cast-refused : tie.Need-cast-refused
-cast-refused c =
+cast-answer : tie.Need-cast-answer
+cast-answer c =
     let h = found-le _ _ (c .before .wrong-fields .ensures) in
     omega arith
 
-add-refused : tie.Need-add-refused
-add-refused c =
+add-answer : tie.Need-add-answer
+add-answer c =
     let h = found-le _ _ (c .before .wrong-fields .ensures) in
     omega arith
 
-refused-requires : tie.Need-refused-requires
-refused-requires c κs = search needs
+answer-requires : tie.Need-answer-requires
+answer-requires c κs = search needs
 
 returns : tie.Need-returns
-returns c = c .refused .ensures ∙ sym (each-refused _ _ _ _ _ (c .before .before .wrong-fields .ensures) (c .before .if1 .taken))
+returns c = c .answer .ensures ∙ sym (each-refused _ _ _ _ _ (c .before .before .wrong-fields .ensures) (c .before .if1 .taken))
 
 tidy-requires : tie.Need-tidy-requires
 tidy-requires c κs = search needs
 
-refused-requires-2 : tie.Need-refused-requires-2
-refused-requires-2 c κs = search needs
+answer-requires-2 : tie.Need-answer-requires-2
+answer-requires-2 c κs = search needs
 
 returns-2 : tie.Need-returns-2
 returns-2 c =
     let g = c .before .before .before in
-    c .refused2 .ensures
+    c .answer2 .ensures
     ∙ sym
     (each-next _ _ _ _ _ (g .before .wrong-fields .ensures) (g .if1 .left)
     ∙ check-refused _ 5 0 _ (sym (c .before .before .tidy .ensures) ∙ not-true _ (c .before .if2 .taken)))
@@ -44,37 +44,37 @@ returns-2 c =
 wrong-marks-requires : tie.Need-wrong-marks-requires
 wrong-marks-requires c κs = search needs
 
-cast-refused-2 : tie.Need-cast-refused-2
-cast-refused-2 c =
+cast-answer-2 : tie.Need-cast-answer-2
+cast-answer-2 c =
     let h = found-le _ _ (c .before .wrong-marks .ensures) in
     omega arith
 
-add-refused-2 : tie.Need-add-refused-2
-add-refused-2 c =
+add-answer-2 : tie.Need-add-answer-2
+add-answer-2 c =
     let h = found-le _ _ (c .before .wrong-marks .ensures) in
     omega arith
 
-refused-requires-3 : tie.Need-refused-requires-3
-refused-requires-3 c κs = search needs
+answer-requires-3 : tie.Need-answer-requires-3
+answer-requires-3 c κs = search needs
 
 returns-3 : tie.Need-returns-3
 returns-3 c =
     let t = c .before .before .before in
     let g = t .before .before in
-    c .refused3 .ensures
+    c .answer3 .ensures
     ∙ sym
     (each-next _ _ _ _ _ (g .before .wrong-fields .ensures) (g .if1 .left)
     ∙ check-ok _ 5 0 _ (sym (t .before .tidy .ensures) ∙ not-false _ (t .if2 .left))
     ∙ each-refused _ _ _ _ _ (c .before .before .wrong-marks .ensures) (c .before .if3 .taken))
 
-refused-requires-4 : tie.Need-refused-requires-4
-refused-requires-4 c κs = search needs
+answer-requires-4 : tie.Need-answer-requires-4
+answer-requires-4 c κs = search needs
 
 returns-4 : tie.Need-returns-4
 returns-4 c =
     let t = c .before .before .before in
     let g = t .before .before in
-    c .refused4 .ensures
+    c .answer4 .ensures
     ∙ sym
     (each-next _ _ _ _ _ (g .before .wrong-fields .ensures) (g .if1 .left)
     ∙ check-ok _ 5 0 _ (sym (t .before .tidy .ensures) ∙ not-false _ (t .if2 .left))
@@ -85,17 +85,17 @@ module-verdict-spec =
     tie.close
     (tie.spec
     wrong-fields-requires
-    cast-refused
-    add-refused
-    refused-requires
+    cast-answer
+    add-answer
+    answer-requires
     returns
     tidy-requires
-    refused-requires-2
+    answer-requires-2
     returns-2
     wrong-marks-requires
-    cast-refused-2
-    add-refused-2
-    refused-requires-3
+    cast-answer-2
+    add-answer-2
+    answer-requires-3
     returns-3
-    refused-requires-4
+    answer-requires-4
     returns-4)

@@ -8,32 +8,32 @@ use borrow.Author.Needs.{needs}
 use Rattle.setup.proofs.fields.verdict.Statement.{statement}
 use Rattle.setup.proofs.fields.verdict.Tie as tie
 
-refused-requires : tie.Need-refused-requires
-refused-requires c κs = search needs
+answer-requires : tie.Need-answer-requires
+answer-requires c κs = search needs
 
 returns : tie.Need-returns
 unfolding setupVerdict checkFields
-returns c = c .refused .ensures ∙ sym (check-refused _ 2 0 _ (not-true _ (c .before .if1 .taken)))
+returns c = c .answer .ensures ∙ sym (check-refused _ 2 0 _ (not-true _ (c .before .if1 .taken)))
 
-refused-requires-2 : tie.Need-refused-requires-2
-refused-requires-2 c κs = search needs
+answer-requires-2 : tie.Need-answer-requires-2
+answer-requires-2 c κs = search needs
 
 returns-2 : tie.Need-returns-2
 unfolding setupVerdict checkFields
 returns-2 c =
     let g = c .before .before .before .before in
-    c .refused2 .ensures
+    c .answer2 .ensures
     ∙ sym (check-ok _ 2 0 _ (not-false _ (g .if1 .left)) ∙ check-refused _ 4 1 _ (not-true _ (c .before .if2 .taken)))
 
-refused-requires-3 : tie.Need-refused-requires-3
-refused-requires-3 c κs = search needs
+answer-requires-3 : tie.Need-answer-requires-3
+answer-requires-3 c κs = search needs
 
 returns-3 : tie.Need-returns-3
 unfolding setupVerdict checkFields
 returns-3 c =
     let h = c .before .before .before .before in
     let g = h .before .before .before in
-    c .refused3 .ensures
+    c .answer3 .ensures
     ∙ sym
     (check-ok _ 2 0 _ (not-false _ (g .if1 .left))
     ∙ check-ok _ 4 1 _ (not-false _ (h .if2 .left))
@@ -57,11 +57,11 @@ pub verdict-spec : {M : Type 1} → statement M
 verdict-spec =
     tie.close
     (tie.spec
-    refused-requires
+    answer-requires
     returns
-    refused-requires-2
+    answer-requires-2
     returns-2
-    refused-requires-3
+    answer-requires-3
     returns-3
     module-verdict-requires
     returns-4)

@@ -21,21 +21,21 @@ mul-if2 c =
     let f = struct-fits _ (c .before .before .before .verdict .ensures) (c .before .if1 .left) in
     omega arith
 
-refused-requires : tie.Need-refused-requires
-refused-requires c κs = search needs
+answer-requires : tie.Need-answer-requires
+answer-requires c κs = search needs
 
 returns-2 : tie.Need-returns-2
 returns-2 c =
     let g = c .before .before .before in
-    write-short _ _ (g .before .before .verdict .ensures) (c .refused .ensures) (g .if1 .left) (c .before .if2 .taken)
+    write-short _ _ (g .before .before .verdict .ensures) (c .answer .ensures) (g .if1 .left) (c .before .if2 .taken)
 
 write-words-requires : tie.Need-write-words-requires
 write-words-requires c κs =
     let g = c .before .before .before in
     (struct-verdict _ (g .before .before .verdict .ensures) (g .if1 .left), c .before .if2 .left)
 
-refused-requires-2 : tie.Need-refused-requires-2
-refused-requires-2 c κs = search needs
+answer-requires-2 : tie.Need-answer-requires-2
+answer-requires-2 c κs = search needs
 
 same-length : tie.Need-same-length
 same-length c = search needs
@@ -44,7 +44,7 @@ returns-3 : tie.Need-returns-3
 returns-3 c =
     let g = c .before .before .before .before .before in
     let h = g .before .before in
-    write-done _ _ (h .before .before .verdict .ensures) (c .refused2 .ensures) (c .before .before .before .write-words .ensures) (h .if1 .left)
+    write-done _ _ (h .before .before .verdict .ensures) (c .answer2 .ensures) (c .before .before .before .write-words .ensures) (h .if1 .left)
     (g .if2 .left)
 
 pub write-spec : {M : Type 1} → statement M
@@ -55,9 +55,9 @@ write-spec =
     returns
     add-if2
     mul-if2
-    refused-requires
+    answer-requires
     returns-2
     write-words-requires
-    refused-requires-2
+    answer-requires-2
     same-length
     returns-3)

@@ -1,0 +1,284 @@
+/*
+ * card.c - a card's loop around presence.h, as firmware would have it, and a
+ * simulated bus with four such cards.
+ *
+ * The first part is the firmware of one card.  The second part stands for the
+ * hardware: it carries the words, lets card 3 fall silent for some rounds and
+ * restarts card 2.
+ *
+ * Build, with libpresence.a in the folder LIB:
+ *   gcc -std=c99 -O2 -Iinclude examples/firmware/card.c -LLIB -lpresence -o card
+ *
+ * Prints what happens; exit status 0 if no call was refused and all cards
+ * agreed in every round.
+ */
+#include <stdio.h>
+#include <string.h>
+
+#include "presence.h"
+
+/* ================= firmware of a card ================= */
+
+#define N 4u
+
+#define WORD(w) \
+    (uint8_t)((w) >> 24), (uint8_t)((w) >> 16), (uint8_t)((w) >> 8), (uint8_t)(w)
+#define MODULE(number, mark, place, criticality) \
+    WORD(0x40000000u | (number) << 23 | (mark) << 22 | (place) << 17 | (criticality))
+
+/* The setup, the same in all cards: P = 4, R = 6. */
+static const uint8_t setup[PRESENCE_SETUP_BYTES(N)] = {
+    WORD(0x10000000u | N),
+    WORD(0x20000000u | 4u),
+    WORD(0x30000000u | 6u),
+    MODULE(1u, 0u, 4u, 1u), /* steps at the end of the round */
+    MODULE(2u, 1u, 1u, 1u), /* steps after 1 has sent, then sends */
+    MODULE(3u, 1u, 0u, 1u), /* steps at the beginning, then sends */
+    MODULE(4u, 0u, 2u, 1u)  /* steps after 2 has sent; sends the word of the
+                               step before, as it has no send mark */
+};
+
+struct card {
+    /* Memory that a restart clears. */
+    uint32_t own;                          /* from the slot's coding pins */
+    uint8_t image[2][PRESENCE_IMAGE_BYTES(N)];
+    unsigned current;                      /* which image is the state */
+    uint32_t word;                         /* word to send in this round */
+    uint32_t health;                       /* of the latest step */
+    uint32_t outputs;                      /* whose outputs this card drives */
+    unsigned refused;                      /* calls refused so far */
+
+    /* Buffer of the bus controller: latest word from each card, and a bit if
+       its reception was valid. */
+    uint8_t received[PRESENCE_READ_BYTES(N)];
+    uint32_t valid;
+
+    /* Memory that a restart leaves. */
+    uint8_t saved[PRESENCE_IMAGE_BYTES(N)];
+};
+
+static uint32_t card_view(const struct card *c)
+{
+    return PRESENCE_VIEW(c->image[c->current], N);
+}
+
+/* Bit 22 and bits 21..17 of a card's word in the setup (its second byte holds
+   bits 23..16). */
+static int has_send_mark(uint32_t own)
+{
+    return (setup[4u * (2u + own) + 1u] & 0x40u) != 0;
+}
+
+static uint32_t read_place(uint32_t own)
+{
+    return setup[4u * (2u + own) + 1u] >> 1 & 0x1Fu;
+}
+
+/* The view decides: a card in it drives its own outputs, and the lowest card
+   in it drives those of the cards that are out. */
+static void act_on_view(struct card *c)
+{
+    uint32_t view = card_view(c);
+    uint32_t me = 1u << (c->own - 1);
+    uint32_t lowest = view & (~view + 1u);
+    uint32_t everybody = (1u << N) - 1u;
+
+    c->outputs = 0;
+    if (view & me)
+        c->outputs |= me;
+    if (lowest == me)
+        c->outputs |= everybody & ~view;
+}
+
+/* Power on.  Goes on from the saved state if it is accepted and is of this
+   setup and slot (bits 20..16 of the word after the setup), else opens. */
+static void card_start(struct card *c, uint32_t own)
+{
+    presence_answer a;
+
+    c->own = own;
+    c->current = 0;
+    a = presence_save(c->saved, sizeof c->saved, c->image[0],
+                      sizeof c->image[0]);
+    if (a.number != PRESENCE_ACCEPTED ||
+        memcmp(c->saved, setup, sizeof setup) != 0 ||
+        (c->saved[sizeof setup + 1u] & 0x1Fu) != own) {
+        a = presence_open(setup, sizeof setup, own, c->image[0],
+                          sizeof c->image[0]);
+        if (a.number != PRESENCE_ACCEPTED)
+            c->refused++;
+    }
+    act_on_view(c);
+}
+
+/* Power goes: the state goes into the memory that stays. */
+static void card_stop(struct card *c)
+{
+    presence_answer a = presence_save(c->image[c->current],
+                                      sizeof c->image[0], c->saved,
+                                      sizeof c->saved);
+
+    if (a.number != PRESENCE_ACCEPTED)
+        c->refused++;
+}
+
+static void take_word(struct card *c)
+{
+    presence_word w = presence_outgoing(c->image[c->current],
+                                        sizeof c->image[0]);
+
+    if (w.number != PRESENCE_ACCEPTED)
+        c->refused++;
+    c->word = w.word;
+}
+
+/* Beginning of a round: the word of the step before. */
+static void card_begin_round(struct card *c)
+{
+    take_word(c);
+}
+
+/* Once a round, at the card's read place. */
+static void card_step(struct card *c)
+{
+    unsigned next = 1u - c->current;
+    presence_answer a = presence_step(c->image[c->current],
+                                      sizeof c->image[0], c->received,
+                                      sizeof c->received, c->valid,
+                                      c->image[next], sizeof c->image[0]);
+
+    if (a.number != PRESENCE_ACCEPTED) {
+        c->refused++; /* the current image stays the state */
+        return;
+    }
+    c->current = next;
+    c->health = a.health;
+    if (has_send_mark(c->own))
+        take_word(c); /* the word of this step goes out in this round */
+    act_on_view(c);
+}
+
+/* ================= simulated bus ================= */
+
+#define ROUNDS 40u
+
+static struct card cards[N];
+
+static const char *printed(uint32_t vector)
+{
+    static char text[2][N + 1];
+    static unsigned turn;
+    uint32_t j;
+
+    turn = 1u - turn;
+    for (j = 0; j < N; j++)
+        text[turn][j] = (vector >> j & 1) ? '1' : '0';
+    return text[turn];
+}
+
+/* Card 3 is silent in rounds 5 and 6 and again from 20 to 26. */
+static int silent(uint32_t card, uint32_t round)
+{
+    return card == 3 && ((round >= 5 && round <= 6) ||
+                         (round >= 20 && round <= 26));
+}
+
+/* The word of card j arrives at all cards, its own controller too. */
+static void send(uint32_t j, uint32_t round)
+{
+    const uint8_t bytes[4] = { WORD(cards[j - 1].word) };
+    uint32_t i;
+
+    for (i = 0; i < N; i++) {
+        if (silent(j, round)) {
+            cards[i].valid &= ~(1u << (j - 1));
+        } else {
+            memcpy(cards[i].received + 4u * (j - 1), bytes, 4);
+            cards[i].valid |= 1u << (j - 1);
+        }
+    }
+}
+
+/* Memory is lost; the saved state and the bus controller's buffer stay.  It
+   all takes place between two rounds, so the card misses no step. */
+static void restart(struct card *c)
+{
+    struct card kept = *c;
+
+    card_stop(&kept);
+    memset(c, 0xFF, sizeof *c);
+    memcpy(c->received, kept.received, sizeof c->received);
+    memcpy(c->saved, kept.saved, sizeof c->saved);
+    c->valid = kept.valid;
+    c->health = kept.health;
+    c->refused = kept.refused;
+    card_start(c, kept.own);
+}
+
+int main(void)
+{
+    static const uint8_t all_ones[4] = { WORD(0x50000000u | ((1u << N) - 1u)) };
+    uint32_t driven[N], health = 0, view = 0, outputs, round, slot, i, j;
+    int agreed = 1;
+
+    for (i = 0; i < N; i++) {
+        memset(&cards[i], 0, sizeof cards[i]); /* nothing saved yet */
+        for (j = 0; j < N; j++)
+            memcpy(cards[i].received + 4u * j, all_ones, 4);
+        cards[i].valid = (1u << N) - 1u;
+        card_start(&cards[i], i + 1);
+        driven[i] = cards[i].outputs;
+    }
+    printf("%u cards opened, each drives its own outputs\n", N);
+
+    for (round = 1; round <= ROUNDS; round++) {
+        if (silent(3, round) != silent(3, round - 1))
+            printf("round %2u: card 3 %s\n", (unsigned)round,
+                   silent(3, round) ? "goes silent" : "sends again");
+        if (round == 13) {
+            restart(&cards[1]);
+            printf("round %2u: card 2 restarts from its saved state\n",
+                   (unsigned)round);
+        }
+
+        for (i = 0; i < N; i++)
+            card_begin_round(&cards[i]);
+        for (slot = 0; slot <= N; slot++) {
+            if (slot > 0)
+                send(slot, round);
+            for (i = 0; i < N; i++)
+                if (read_place(i + 1) == slot)
+                    card_step(&cards[i]);
+        }
+
+        for (i = 1; i < N; i++)
+            if (cards[i].health != cards[0].health ||
+                card_view(&cards[i]) != card_view(&cards[0]))
+                agreed = 0;
+        if (cards[0].health != health || card_view(&cards[0]) != view) {
+            health = cards[0].health;
+            view = card_view(&cards[0]);
+            printf("round %2u: health %s, view %s\n", (unsigned)round,
+                   printed(health), printed(view));
+        }
+        for (i = 0; i < N; i++)
+            if (cards[i].outputs != driven[i]) {
+                driven[i] = cards[i].outputs;
+                printf("round %2u: card %u drives outputs %s\n",
+                       (unsigned)round, (unsigned)i + 1, printed(driven[i]));
+            }
+    }
+
+    /* Each output is driven by one card and no more. */
+    outputs = 0;
+    for (i = 0; i < N; i++) {
+        if (cards[i].refused != 0 || (outputs & cards[i].outputs) != 0)
+            agreed = 0;
+        outputs |= cards[i].outputs;
+    }
+    if (outputs != (1u << N) - 1u)
+        agreed = 0;
+    printf("%u rounds, %s\n", ROUNDS,
+           agreed ? "all cards agreed, no call refused" : "FAILED");
+    return agreed ? 0 : 1;
+}

@@ -1,0 +1,1465 @@
+/*
+ * check.c - tests the functions of presence.h.
+ *
+ *   check [CALLS]      CALLS is a file of calls, default harness/data/calls.txt
+ *
+ * Each call is made with every block in memory of exactly its length, at
+ * changing addresses (all of 0..7 modulo 8).  After each call the inputs and
+ * the bytes around the output must be as before, and after a refused call the
+ * output too.  Results are compared with plain.c, and where a test knows the
+ * answer from document 01, with that.
+ *
+ * Prints one line per group with the number of calls and of differences;
+ * exit status 0 only if there are no differences.  Answer 11 cannot be
+ * provoked and is not tested.
+ */
+#include <stdio.h>
+#include <stdlib.h>
+#include <string.h>
+
+#include "plain.h"
+#include "presence.h"
+
+#define MAX_N PRESENCE_MAX_MODULES
+#define IMAGE_MAX PRESENCE_MAX_IMAGE_BYTES
+#define OUT_MAX 1024 /* longest output that a test lends */
+#define GUARD 16     /* bytes watched on each side of the output */
+
+/* ---- counting and reporting ---- */
+
+static const char *group_name;
+static unsigned long calls, differences, all_calls, all_differences;
+static unsigned long answered[12]; /* calls of the library by answer number */
+
+static void begin(const char *name)
+{
+    group_name = name;
+    calls = 0;
+    differences = 0;
+}
+
+static void end(void)
+{
+    printf("%-28s %8lu calls %6lu differences\n", group_name, calls,
+           differences);
+    all_calls += calls;
+    all_differences += differences;
+}
+
+static void differ(const char *what, unsigned long got, unsigned long wanted)
+{
+    differences++;
+    if (differences <= 5)
+        printf("  %s: %s: got %lu (0x%lX), wanted %lu (0x%lX)\n", group_name,
+               what, got, got, wanted, wanted);
+}
+
+static void same(const char *what, unsigned long got, unsigned long wanted)
+{
+    if (got != wanted)
+        differ(what, got, wanted);
+}
+
+/* ---- random numbers, always the same sequence ---- */
+
+static uint32_t random_state = 1;
+
+static uint32_t random32(void)
+{
+    random_state ^= random_state << 13;
+    random_state ^= random_state >> 17;
+    random_state ^= random_state << 5;
+    return random_state;
+}
+
+/* 0..n-1 */
+static uint32_t below(uint32_t n)
+{
+    return random32() % n;
+}
+
+/* ---- words ---- */
+
+static uint32_t get(const uint8_t *bytes, uint32_t index)
+{
+    const uint8_t *b = bytes + 4 * index;
+
+    return (uint32_t)b[0] << 24 | (uint32_t)b[1] << 16 | (uint32_t)b[2] << 8 |
+           (uint32_t)b[3];
+}
+
+static void put(uint8_t *bytes, uint32_t index, uint32_t word)
+{
+    uint8_t *b = bytes + 4 * index;
+
+    b[0] = (uint8_t)(word >> 24);
+    b[1] = (uint8_t)(word >> 16);
+    b[2] = (uint8_t)(word >> 8);
+    b[3] = (uint8_t)word;
+}
+
+static uint32_t ones(uint32_t n)
+{
+    return (1u << n) - 1;
+}
+
+/* ---- one call ---- */
+
+enum op { SETUP, OPEN, STEP, SAVE, OUTGOING };
+
+struct call {
+    enum op op;
+    const uint8_t *in; /* setup or image */
+    size_t in_len;
+    const uint8_t *read;
+    size_t read_len;
+    uint32_t argument; /* own number or controller bits */
+    size_t out_len;
+};
+
+struct result {
+    uint32_t number, index;
+    uint32_t value; /* health or word */
+    uint8_t out[OUT_MAX];
+};
+
+/* A block of exactly len bytes at an address of off modulo 8. */
+struct block {
+    uint8_t *memory, *bytes;
+};
+
+static struct block block(const uint8_t *from, size_t len, size_t off)
+{
+    struct block b;
+
+    b.memory = malloc(off + len > 0 ? off + len : 1);
+    if (b.memory == NULL) {
+        printf("no memory\n");
+        exit(2);
+    }
+    b.bytes = b.memory + off;
+    if (from != NULL && len > 0)
+        memcpy(b.bytes, from, len);
+    return b;
+}
+
+static void place_call(const struct call *c, size_t in_off, size_t read_off,
+                       size_t out_off, struct result *r)
+{
+    static uint8_t pattern = 0x5A;
+    struct block in = block(c->in, c->in_len, in_off);
+    struct block read = block(c->read, c->read_len, read_off);
+    struct block out = block(NULL, c->out_len + 2 * GUARD, out_off);
+    uint8_t *lent = out.bytes + GUARD;
+    presence_answer a = {0, 0, 0};
+    presence_word w;
+    size_t i;
+
+    pattern = (uint8_t)(pattern * 5 + 1);
+    memset(out.bytes, pattern, c->out_len + 2 * GUARD);
+    calls++;
+
+    switch (c->op) {
+    case SETUP:
+        a = presence_check_setup(in.bytes, c->in_len);
+        break;
+    case OPEN:
+        a = presence_open(in.bytes, c->in_len, c->argument, lent, c->out_len);
+        break;
+    case STEP:
+        a = presence_step(in.bytes, c->in_len, read.bytes, c->read_len,
+                          c->argument, lent, c->out_len);
+        break;
+    case SAVE:
+        a = presence_save(in.bytes, c->in_len, lent, c->out_len);
+        break;
+    case OUTGOING:
+        w = presence_outgoing(in.bytes, c->in_len);
+        a.number = w.number;
+        a.index = w.index;
+        a.health = w.word;
+        break;
+    }
+
+    if (a.number < 12)
+        answered[a.number]++;
+    if (c->in_len > 0 && memcmp(in.bytes, c->in, c->in_len) != 0)
+        differ("input changed", 1, 0);
+    if (c->read_len > 0 && memcmp(read.bytes, c->read, c->read_len) != 0)
+        differ("read changed", 1, 0);
+    for (i = 0; i < c->out_len + 2 * GUARD; i++) {
+        if (a.number == 0 && i >= GUARD && i < GUARD + c->out_len)
+            continue;
+        if (out.bytes[i] != pattern) {
+            differ("byte written outside or by a refused call", i, 0);
+            break;
+        }
+    }
+    if (a.number != 0)
+        same("health or word of a refused call", a.health, 0);
+
+    r->number = a.number;
+    r->index = a.index;
+    r->value = a.health;
+    memcpy(r->out, lent, c->out_len);
+    free(in.memory);
+    free(read.memory);
+    free(out.memory);
+}
+
+/* The library, at the next three addresses modulo 8. */
+static void library(const struct call *c, struct result *r)
+{
+    static size_t turn = 0;
+
+    turn = (turn + 1) % 512;
+    place_call(c, turn % 8, turn / 8 % 8, turn / 64 % 8, r);
+}
+
+static void plain(const struct call *c, struct result *r)
+{
+    presence_answer a = {0, 0, 0};
+    presence_word w;
+
+    switch (c->op) {
+    case SETUP:
+        a = plain_check_setup(c->in, c->in_len);
+        break;
+    case OPEN:
+        a = plain_open(c->in, c->in_len, c->argument, r->out, c->out_len);
+        break;
+    case STEP:
+        a = plain_step(c->in, c->in_len, c->read, c->read_len, c->argument,
+                       r->out, c->out_len);
+        break;
+    case SAVE:
+        a = plain_save(c->in, c->in_len, r->out, c->out_len);
+        break;
+    case OUTGOING:
+        w = plain_outgoing(c->in, c->in_len);
+        a.number = w.number;
+        a.index = w.index;
+        a.health = w.word;
+        break;
+    }
+    r->number = a.number;
+    r->index = a.index;
+    r->value = a.health;
+}
+
+/* The library and plain.c; both must agree.  The result is the library's. */
+static void both(const struct call *c, struct result *r)
+{
+    struct result p;
+
+    library(c, r);
+    plain(c, &p);
+    same("number, against plain.c", r->number, p.number);
+    same("index, against plain.c", r->index, p.index);
+    same("health or word, against plain.c", r->value, p.value);
+    if (r->number == 0 && p.number == 0 &&
+        (c->op == OPEN || c->op == STEP || c->op == SAVE) &&
+        memcmp(r->out, p.out, c->out_len) != 0)
+        differ("image, against plain.c", 1, 0);
+}
+
+/* As both, and number and index must be those given. */
+static void expect(const struct call *c, uint32_t number, uint32_t index,
+                   struct result *r)
+{
+    both(c, r);
+    same("number", r->number, number);
+    same("index", r->index, index);
+}
+
+static void check_setup(const uint8_t *in, size_t in_len, uint32_t number,
+                        uint32_t index)
+{
+    struct call c = {SETUP, NULL, 0, NULL, 0, 0, 0};
+    struct result r;
+
+    c.in = in;
+    c.in_len = in_len;
+    expect(&c, number, index, &r);
+    same("health of a setup check", r.value, 0);
+}
+
+static void open_module(const uint8_t *in, size_t in_len, uint32_t own,
+                        size_t out_len, uint32_t number, uint32_t index,
+                        uint8_t *image)
+{
+    struct call c = {OPEN, NULL, 0, NULL, 0, 0, 0};
+    struct result r;
+
+    c.in = in;
+    c.in_len = in_len;
+    c.argument = own;
+    c.out_len = out_len;
+    expect(&c, number, index, &r);
+    same("health of an opening", r.value, 0);
+    if (r.number == 0 && image != NULL)
+        memcpy(image, r.out, out_len);
+}
+
+static void save(const uint8_t *in, size_t in_len, size_t out_len,
+                 uint32_t number, uint32_t index)
+{
+    struct call c = {SAVE, NULL, 0, NULL, 0, 0, 0};
+    struct result r;
+
+    c.in = in;
+    c.in_len = in_len;
+    c.out_len = out_len;
+    expect(&c, number, index, &r);
+    same("health of a saving", r.value, 0);
+    if (r.number == 0 && memcmp(r.out, in, in_len) != 0)
+        differ("saved image is not the image", 1, 0);
+}
+
+/* Returns the word, 0 if refused. */
+static uint32_t outgoing(const uint8_t *in, size_t in_len, uint32_t number,
+                         uint32_t index)
+{
+    struct call c = {OUTGOING, NULL, 0, NULL, 0, 0, 0};
+    struct result r;
+
+    c.in = in;
+    c.in_len = in_len;
+    expect(&c, number, index, &r);
+    return r.value;
+}
+
+/* Returns the health vector, 0 if refused; image may be the image passed. */
+static uint32_t step(const uint8_t *in, size_t in_len, const uint8_t *read,
+                     size_t read_len, uint32_t controller, size_t out_len,
+                     uint32_t number, uint32_t index, uint8_t *image)
+{
+    struct call c = {STEP, NULL, 0, NULL, 0, 0, 0};
+    struct result r;
+
+    c.in = in;
+    c.in_len = in_len;
+    c.read = read;
+    c.read_len = read_len;
+    c.argument = controller;
+    c.out_len = out_len;
+    expect(&c, number, index, &r);
+    if (r.number == 0 && image != NULL)
+        memcpy(image, r.out, out_len);
+    return r.value;
+}
+
+/* ---- setups ---- */
+
+static uint32_t module_word(uint32_t j, uint32_t mark, uint32_t l,
+                            uint32_t criticality)
+{
+    return 0x40000000 | j << 23 | mark << 22 | l << 17 | criticality;
+}
+
+/* Setup with all l = N, no marks. */
+static void make_setup(uint8_t *setup, uint32_t n, uint32_t p, uint32_t r,
+                       uint32_t criticality)
+{
+    uint32_t j;
+
+    put(setup, 0, 0x10000000 | n);
+    put(setup, 1, 0x20000000 | p);
+    put(setup, 2, 0x30000000 | r);
+    for (j = 1; j <= n; j++)
+        put(setup, 2 + j, module_word(j, 0, n, criticality));
+}
+
+/* Any accepted setup; with u = 0 all l are N. */
+static void random_setup(uint8_t *setup, uint32_t n, uint32_t u, uint32_t p,
+                         uint32_t r)
+{
+    uint32_t j, l, mark, criticality, some = 0;
+
+    make_setup(setup, n, p, r, 1);
+    for (j = 1; j <= n; j++) {
+        l = u == 0 ? n : below(n + 1);
+        if (j == n && u == 1 && !some)
+            l = below(n);
+        if (l < n)
+            some = 1;
+        mark = j > 1 && l < j ? below(2) : 0;
+        criticality = below(4) == 0 ? 1 + below(100000) : 1 + below(3);
+        put(setup, 2 + j, module_word(j, mark, l, criticality));
+    }
+}
+
+static void group_setups_accepted(void)
+{
+    uint8_t setup[PRESENCE_MAX_SETUP_BYTES];
+    uint32_t n, j, l, i;
+    size_t len;
+
+    begin("setups accepted");
+    for (n = 2; n <= MAX_N; n++) {
+        len = PRESENCE_SETUP_BYTES(n);
+        make_setup(setup, n, 1, 1, 1);
+        check_setup(setup, len, 0, 0);
+        make_setup(setup, n, 1000000, 8000000, 100000);
+        check_setup(setup, len, 0, 0);
+        for (j = 1; j <= n; j++)
+            for (l = 0; l <= n; l++) {
+                make_setup(setup, n, 5, 3, 1);
+                put(setup, 2 + j, module_word(j, 0, l, 100000));
+                check_setup(setup, len, 0, 0);
+                if (j > 1 && l < j) {
+                    put(setup, 2 + j, module_word(j, 1, l, 1));
+                    check_setup(setup, len, 0, 0);
+                }
+            }
+        for (i = 0; i < 20; i++) {
+            random_setup(setup, n, i % 2, 1 + below(1000000),
+                         1 + below(8000000));
+            check_setup(setup, len, 0, 0);
+        }
+    }
+    end();
+}
+
+/*
+ * A faulty setup of the right length: refused by the setup check and the
+ * opening, and in an image by step, saving and outgoing word, always with the
+ * same number and index.
+ */
+static void refused_setup(const uint8_t *setup, uint32_t n, uint32_t number,
+                          uint32_t index)
+{
+    uint8_t good[PRESENCE_MAX_SETUP_BYTES], image[IMAGE_MAX];
+    uint8_t read[PRESENCE_MAX_READ_BYTES];
+    size_t setup_len = PRESENCE_SETUP_BYTES(n);
+    size_t image_len = PRESENCE_IMAGE_BYTES(n);
+
+    check_setup(setup, setup_len, number, index);
+    open_module(setup, setup_len, 1, image_len, number, index, NULL);
+    /* Own number and output wrong too: the lower number counts. */
+    open_module(setup, setup_len, 0, 7, number, index, NULL);
+
+    make_setup(good, n, 5, 3, 1);
+    open_module(good, setup_len, 1, image_len, 0, 0, image);
+    memcpy(image, setup, setup_len);
+    memset(read, 0, sizeof read);
+    save(image, image_len, image_len, number, index);
+    outgoing(image, image_len, number, index);
+    step(image, image_len, read, 4 * n, 0, image_len, number, index, NULL);
+    /* The rest of the image, the lengths and the controller wrong too. */
+    memset(image + setup_len, 0xFF, image_len - setup_len);
+    step(image, image_len, read, 3, 0xFFFFFFFF, 5, number, index, NULL);
+    save(image, image_len, 0, number, index);
+}
+
+static void group_setups_refused(void)
+{
+    static const uint32_t heads[] = {
+        0x10000000, 0x10000001, 0x10000011, 0x1000001F, 0x10000024, 0x18000004,
+        0x00000004, 0x20000004, 0x90000004, 0xF0000004, 0xFFFFFFFF, 0x10010004
+    };
+    static const uint32_t penalty_limits[] = {
+        0x20000000, 0x200F4241, 0x2FFFFFFF, 0x28000001, 0x30000005, 0x00000005,
+        0xA0000005
+    };
+    static const uint32_t reward_limits[] = {
+        0x30000000, 0x307A1201, 0x3FFFFFFF, 0x38000001, 0x20000005, 0x40000005,
+        0xB0000005
+    };
+    uint8_t s[PRESENCE_MAX_SETUP_BYTES + 8];
+    uint32_t n, i, j, w;
+
+    begin("setups refused");
+    for (n = 2; n <= MAX_N; n++) {
+        /* 2 */
+        for (i = 0; i < sizeof heads / sizeof heads[0]; i++) {
+            make_setup(s, n, 5, 3, 1);
+            put(s, 0, heads[i]);
+            refused_setup(s, n, 2, 0);
+        }
+        /* 4 at word 1, at word 2, at both */
+        for (i = 0; i < sizeof penalty_limits / sizeof penalty_limits[0]; i++) {
+            make_setup(s, n, 5, 3, 1);
+            put(s, 1, penalty_limits[i]);
+            refused_setup(s, n, 4, 1);
+            put(s, 2, 0x30000000);
+            put(s, 3, 0);
+            refused_setup(s, n, 4, 1);
+        }
+        for (i = 0; i < sizeof reward_limits / sizeof reward_limits[0]; i++) {
+            make_setup(s, n, 5, 3, 1);
+            put(s, 2, reward_limits[i]);
+            refused_setup(s, n, 4, 2);
+            put(s, 3, module_word(1, 1, n, 1));
+            refused_setup(s, n, 4, 2);
+        }
+        for (j = 1; j <= n; j++) {
+            uint32_t wrong[8];
+
+            wrong[0] = module_word(j, 0, n + 1, 1);           /* l over N */
+            wrong[1] = module_word(j, 0, n, 0);               /* criticality */
+            wrong[2] = module_word(j, 0, n, 100001);
+            wrong[3] = module_word(j - 1, 0, n, 1);           /* out of turn */
+            wrong[4] = module_word(j + 1, 0, n, 1);
+            wrong[5] = 0x50000000 | (module_word(j, 0, n, 1) & 0x0FFFFFFF);
+            wrong[6] = module_word(j, 1, 31, 131071);
+            wrong[7] = 0;
+            for (i = 0; i < 8; i++) {
+                make_setup(s, n, 5, 3, 1);
+                put(s, 2 + j, wrong[i]);
+                refused_setup(s, n, 5, 2 + j);
+                /* A second one further on: the first is named. */
+                put(s, 2 + n, 0);
+                refused_setup(s, n, 5, 2 + j);
+                /* A wrong mark before it: 5 goes before 6. */
+                if (j > 1) {
+                    put(s, 3, module_word(1, 1, 0, 1));
+                    refused_setup(s, n, 5, 2 + j);
+                }
+            }
+            /* 6: every l that is the own number or more. */
+            for (w = j == 1 ? 0 : j; w <= n; w++) {
+                make_setup(s, n, 5, 3, 1);
+                put(s, 2 + j, module_word(j, 1, w, 1));
+                refused_setup(s, n, 6, 2 + j);
+            }
+            /* Two wrong marks: the first is named. */
+            put(s, 2 + n, module_word(n, 1, n, 1));
+            refused_setup(s, n, 6, 2 + j);
+        }
+    }
+    end();
+}
+
+static void group_setup_lengths(void)
+{
+    uint8_t s[2 * PRESENCE_MAX_IMAGE_BYTES];
+    uint32_t n, len;
+
+    begin("setup lengths");
+    for (n = 2; n <= MAX_N; n++) {
+        memset(s, 0xEE, sizeof s);
+        make_setup(s, n, 5, 3, 1);
+        for (len = 0; len <= PRESENCE_SETUP_BYTES(n) + 12; len++) {
+            uint32_t number = len == 0 || len % 4 != 0 ? 1
+                              : len != PRESENCE_SETUP_BYTES(n) ? 3 : 0;
+
+            check_setup(s, len, number, 0);
+            open_module(s, len, 1, PRESENCE_IMAGE_BYTES(n), number, 0, NULL);
+            open_module(s, len, n + 1, 1, number == 0 ? 7 : number, 0, NULL);
+        }
+        check_setup(s, sizeof s, 3, 0);
+        /* A wrong head goes before a wrong length, not before 1. */
+        put(s, 0, 0x10000011);
+        check_setup(s, 4, 2, 0);
+        check_setup(s, PRESENCE_SETUP_BYTES(n), 2, 0);
+        check_setup(s, 5, 1, 0);
+        check_setup(s, 0, 1, 0);
+    }
+    end();
+}
+
+/* ---- opening ---- */
+
+/* A fresh image, as document 01 describes it. */
+static void fresh_image(uint8_t *image, const uint8_t *setup, uint32_t n,
+                        uint32_t own)
+{
+    uint32_t j;
+
+    memcpy(image, setup, PRESENCE_SETUP_BYTES(n));
+    put(image, n + 3, 0xA0000000 | own << 16 | ones(n));
+    for (j = 1; j <= n; j++) {
+        put(image, n + 3 + j, 0xB0000000 | j << 23 | 1u << 22 | ones(n));
+        put(image, 2 * n + 5 + j, 0xD0000000 | j << 23);
+        put(image, 3 * n + 5 + j, 0xE0000000 | j << 23);
+    }
+    put(image, 2 * n + 4, 0xC0000000 | ones(n));
+    put(image, 2 * n + 5, 0xC0000000 | ones(n));
+}
+
+static void group_opening(void)
+{
+    static const uint32_t wrong_own[] = {
+        0, 17, 32, 33, 0x00010001, 0x80000001, 0xFFFFFFFF
+    };
+    uint8_t s[PRESENCE_MAX_SETUP_BYTES], image[IMAGE_MAX], wanted[IMAGE_MAX];
+    uint32_t n, own, i;
+    size_t setup_len, image_len, len;
+
+    begin("opening");
+    same("setup bytes", PRESENCE_SETUP_BYTES(16), PRESENCE_MAX_SETUP_BYTES);
+    same("image bytes", PRESENCE_IMAGE_BYTES(16), PRESENCE_MAX_IMAGE_BYTES);
+    same("read bytes", PRESENCE_READ_BYTES(16), PRESENCE_MAX_READ_BYTES);
+    for (n = 2; n <= MAX_N; n++) {
+        setup_len = PRESENCE_SETUP_BYTES(n);
+        image_len = PRESENCE_IMAGE_BYTES(n);
+        for (i = 0; i < 6; i++) {
+            if (i == 0)
+                make_setup(s, n, 1, 1, 1);
+            else if (i == 1)
+                make_setup(s, n, 1000000, 8000000, 100000);
+            else
+                random_setup(s, n, i % 2, 1 + below(1000000),
+                             1 + below(8000000));
+            for (own = 1; own <= n; own++) {
+                memset(image, 0, sizeof image);
+                open_module(s, setup_len, own, image_len, 0, 0, image);
+                fresh_image(wanted, s, n, own);
+                if (memcmp(image, wanted, image_len) != 0)
+                    differ("fresh image", 1, 0);
+                save(image, image_len, image_len, 0, 0);
+                same("word of a fresh image",
+                     outgoing(image, image_len, 0, 0), 0x50000000 | ones(n));
+                same("view by PRESENCE_VIEW", PRESENCE_VIEW(image, n), ones(n));
+            }
+            open_module(s, setup_len, n + 1, image_len, 7, 0, NULL);
+            open_module(s, setup_len, n + 1, 0, 7, 0, NULL);
+        }
+        for (i = 0; i < sizeof wrong_own / sizeof wrong_own[0]; i++) {
+            open_module(s, setup_len, wrong_own[i], image_len, 7, 0, NULL);
+            open_module(s, setup_len, wrong_own[i], 1, 7, 0, NULL);
+        }
+        /* 9: every other output length, whole words or not. */
+        for (len = 0; len <= image_len + 12; len++)
+            if (len != image_len)
+                open_module(s, setup_len, n, len, 9, 0, NULL);
+    }
+    end();
+}
+
+/* ---- images ---- */
+
+/*
+ * A read with losses and stray words.  Loudness 0: all heard with all-ones
+ * rows; up to 8: rows of any bits, a quarter not heard.
+ */
+static uint32_t random_read(uint8_t *read, uint32_t n, uint32_t loudness)
+{
+    uint32_t controller = 0, j, word;
+
+    for (j = 0; j < n; j++) {
+        word = 0x50000000 | ones(n);
+        if (below(8) < loudness) {
+            if (below(3) == 0) {
+                word &= ~(1u << below(n)); /* one bit off */
+            } else {
+                word = 0x50000000 | (random32() & ones(n));
+            }
+        }
+        if (below(32) < loudness) {
+            switch (below(4)) {
+            case 0:
+                word = random32();
+                break;
+            case 1:
+                word ^= 1u << (28 + below(4)); /* another kind */
+                break;
+            case 2:
+                word |= 1u << (n + below(28 - n)); /* bit at N or above */
+                break;
+            default:
+                word = 0;
+                break;
+            }
+        }
+        if (below(32) >= loudness)
+            controller |= 1u << j;
+        put(read, j, word);
+    }
+    return controller;
+}
+
+/* Some rounds of a life, by plain.c; leaves a state of many different words. */
+static void lived_image(uint8_t *image, const uint8_t *setup, uint32_t n,
+                        uint32_t own, uint32_t rounds)
+{
+    uint8_t read[PRESENCE_MAX_READ_BYTES], next[IMAGE_MAX];
+    size_t len = PRESENCE_IMAGE_BYTES(n);
+    uint32_t controller;
+
+    plain_open(setup, PRESENCE_SETUP_BYTES(n), own, image, len);
+    while (rounds-- > 0) {
+        controller = random_read(read, n, below(9));
+        plain_step(image, len, read, 4 * n, controller, next, len);
+        memcpy(image, next, len);
+    }
+}
+
+/* A faulty image: refused alike by step, saving and outgoing word. */
+static void refused_image(const uint8_t *image, uint32_t n, uint32_t number,
+                          uint32_t index)
+{
+    uint8_t read[PRESENCE_MAX_READ_BYTES];
+    size_t len = PRESENCE_IMAGE_BYTES(n);
+
+    memset(read, 0, sizeof read);
+    outgoing(image, len, number, index);
+    save(image, len, len, number, index);
+    step(image, len, read, 4 * n, ones(n), len, number, index, NULL);
+    /* Lengths and controller wrong too. */
+    step(image, len, read, 0, 0xFFFFFFFF, 4, number, index, NULL);
+}
+
+/* The image with one word replaced. */
+static void refused_word(const uint8_t *image, uint32_t n, uint32_t at,
+                         uint32_t word, uint32_t number)
+{
+    uint8_t copy[IMAGE_MAX];
+    uint32_t later;
+
+    memcpy(copy, image, PRESENCE_IMAGE_BYTES(n));
+    put(copy, at, word);
+    refused_image(copy, n, number, at);
+    /* A second wrong word further on: the first is named. */
+    later = at + 1 + below(4 * n + 6 - at);
+    if (later < 4 * n + 6) {
+        put(copy, later, 0xFFFFFFFF);
+        refused_image(copy, n, number, at);
+    }
+}
+
+static void group_images_refused(void)
+{
+    uint8_t s[PRESENCE_MAX_SETUP_BYTES], image[IMAGE_MAX];
+    uint32_t n, j, at, b, p = 7, r = 4, crit = 3;
+
+    begin("images refused");
+    for (n = 2; n <= MAX_N; n++) {
+        make_setup(s, n, p, r, crit);
+        fresh_image(image, s, n, n);
+
+        at = n + 3;
+        /* 7: own number 0, N+1, 31; spare bits and view wrong too. */
+        refused_word(image, n, at, 0xA0000000 | ones(n), 7);
+        refused_word(image, n, at, 0xA0000000 | (n + 1) << 16 | ones(n), 7);
+        refused_word(image, n, at, 0xA01F0000 | ones(n), 7);
+        refused_word(image, n, at, 0xAFE0FFFF, 7);
+        /* 8 at the same word: another kind, own number right or wrong. */
+        refused_word(image, n, at, 0xB0010000 | ones(n), 8);
+        refused_word(image, n, at, 0x00000000, 8);
+        refused_word(image, n, at, 0x20000000 | ones(n), 8);
+        for (b = 21; b < 28; b++)
+            refused_word(image, n, at, 0xA0010000 | 1u << b | ones(n), 8);
+        for (b = n; b < 16; b++)
+            refused_word(image, n, at, 0xA0010000 | 1u << b | ones(n), 8);
+
+        for (j = 1; j <= n; j++) {
+            at = n + 3 + j;
+            refused_word(image, n, at, 0xB0000001 | j << 23, 8);
+            refused_word(image, n, at, 0xB0400000 | (j - 1) << 23, 8);
+            refused_word(image, n, at, 0xB0400000 | (j + 1) << 23, 8);
+            refused_word(image, n, at, 0xC0400000 | j << 23, 8);
+            for (b = 16; b < 22; b++)
+                refused_word(image, n, at, 0xB0400000 | j << 23 | 1u << b, 8);
+            for (b = n; b < 16; b++)
+                refused_word(image, n, at, 0xB0400000 | j << 23 | 1u << b, 8);
+        }
+
+        for (at = 2 * n + 4; at <= 2 * n + 5; at++) {
+            refused_word(image, n, at, 0xB0000000, 8);
+            refused_word(image, n, at, 0xD0000000, 8);
+            for (b = n; b < 28; b++)
+                refused_word(image, n, at, 0xC0000000 | 1u << b, 8);
+        }
+
+        for (j = 1; j <= n; j++) {
+            uint8_t out[IMAGE_MAX]; /* module j out of the view */
+
+            at = 2 * n + 5 + j;
+            refused_word(image, n, at, 0xE0000000 | j << 23, 8);
+            refused_word(image, n, at, 0xD0000000 | (j - 1) << 23, 8);
+            refused_word(image, n, at, 0xD0000000 | (j + 1) << 23, 8);
+            refused_word(image, n, at, 0xD0200000 | j << 23, 8);
+            refused_word(image, n, at, 0xD0400000 | j << 23, 8);
+            /* In the view with a penalty over P. */
+            refused_word(image, n, at, 0xD0000000 | j << 23 | (p + 1), 8);
+            refused_word(image, n, at, 0xD0000000 | j << 23 | (p + crit), 8);
+            refused_word(image, n, at, 0xD01FFFFF | j << 23, 8);
+
+            memcpy(out, image, sizeof out);
+            put(out, n + 3, 0xA0010000 | (ones(n) & ~(1u << (j - 1))));
+            refused_image(out, n, 8, at); /* out of it with penalty 0 */
+            refused_word(out, n, at, 0xD0000000 | j << 23 | p, 8);
+            put(out, at, 0xD0000000 | j << 23 | (p + 1));
+            save(out, PRESENCE_IMAGE_BYTES(n), PRESENCE_IMAGE_BYTES(n), 0, 0);
+            put(out, at, 0xD0000000 | j << 23 | (p + crit));
+            save(out, PRESENCE_IMAGE_BYTES(n), PRESENCE_IMAGE_BYTES(n), 0, 0);
+            refused_word(out, n, at, 0xD0000000 | j << 23 | (p + crit + 1), 8);
+            /* Out of the view with a reward below R is accepted. */
+            put(out, 3 * n + 5 + j, 0xE0000000 | j << 23 | (r - 1));
+            save(out, PRESENCE_IMAGE_BYTES(n), PRESENCE_IMAGE_BYTES(n), 0, 0);
+            refused_word(out, n, 3 * n + 5 + j, 0xE0000000 | j << 23 | r, 8);
+
+            at = 3 * n + 5 + j;
+            /* A reward over 0 with penalty 0. */
+            refused_word(image, n, at, 0xE0000001 | j << 23, 8);
+            memcpy(out, image, sizeof out);
+            put(out, 2 * n + 5 + j, 0xD0000001 | j << 23);
+            put(out, at, 0xE0000000 | j << 23 | (r - 1));
+            save(out, PRESENCE_IMAGE_BYTES(n), PRESENCE_IMAGE_BYTES(n), 0, 0);
+            refused_word(out, n, at, 0xE0000000 | j << 23 | r, 8);
+            refused_word(out, n, at, 0xE07FFFFF | j << 23, 8);
+            refused_word(out, n, at, 0xD0000000 | j << 23, 8);
+            refused_word(out, n, at, 0xF0000000 | j << 23, 8);
+            refused_word(out, n, at, 0xE0000000 | (j - 1) << 23, 8);
+            refused_word(out, n, at, 0xE0000000 | (j + 1) << 23, 8);
+        }
+
+        /* The largest counters. */
+        make_setup(s, n, 1000000, 8000000, 100000);
+        fresh_image(image, s, n, 1);
+        put(image, n + 3, 0xA0010000 | (ones(n) & ~1u));
+        put(image, 2 * n + 6, 0xD0800000 | 1100000);
+        put(image, 2 * n + 7, 0xD1000000 | 1000000);
+        put(image, 3 * n + 6, 0xE0800000 | 7999999);
+        put(image, 3 * n + 7, 0xE1000000 | 7999999);
+        save(image, PRESENCE_IMAGE_BYTES(n), PRESENCE_IMAGE_BYTES(n), 0, 0);
+        refused_word(image, n, 2 * n + 6, 0xD0800000 | 1100001, 8);
+        refused_word(image, n, 2 * n + 7, 0xD1000000 | 1000001, 8);
+        refused_word(image, n, 3 * n + 7, 0xE1000000 | 8000000, 8);
+    }
+    end();
+}
+
+/* Every single bit of an image turned, against plain.c. */
+static void group_image_bits(void)
+{
+    uint8_t s[PRESENCE_MAX_SETUP_BYTES], image[IMAGE_MAX];
+    uint8_t read[PRESENCE_MAX_READ_BYTES];
+    struct call c = {OUTGOING, NULL, 0, NULL, 0, 0, 0};
+    struct result r;
+    uint32_t n, u, at, b;
+
+    begin("single bits of images");
+    for (n = 2; n <= MAX_N; n++)
+        for (u = 0; u < 2; u++) {
+            random_setup(s, n, u, 1 + below(12), 2 + below(6));
+            lived_image(image, s, n, 1 + below(n), 40);
+            c.argument = random_read(read, n, 6);
+            c.in = image;
+            c.in_len = PRESENCE_IMAGE_BYTES(n);
+            c.read = read;
+            c.read_len = PRESENCE_READ_BYTES(n);
+            for (at = 0; at < 4 * n + 6; at++)
+                for (b = 0; b < 32; b++) {
+                    put(image, at, get(image, at) ^ 1u << b);
+                    c.out_len = 0;
+                    c.op = OUTGOING;
+                    both(&c, &r);
+                    c.out_len = PRESENCE_IMAGE_BYTES(n);
+                    c.op = SAVE;
+                    both(&c, &r);
+                    c.op = STEP;
+                    both(&c, &r);
+                    put(image, at, get(image, at) ^ 1u << b);
+                }
+        }
+    end();
+}
+
+static void group_image_lengths(void)
+{
+    uint8_t s[PRESENCE_MAX_SETUP_BYTES], image[2 * IMAGE_MAX];
+    uint8_t read[2 * PRESENCE_MAX_READ_BYTES];
+    uint32_t n, number, controller;
+    size_t len, image_len;
+
+    begin("image lengths");
+    for (n = 2; n <= MAX_N; n++) {
+        image_len = PRESENCE_IMAGE_BYTES(n);
+        memset(image, 0xEE, sizeof image);
+        memset(read, 0x55, sizeof read);
+        random_setup(s, n, 1, 5, 3);
+        lived_image(image, s, n, 1, 10);
+        controller = random_read(read, n, 4);
+        for (len = 0; len <= image_len + 12; len++) {
+            number = len == 0 || len % 4 != 0 ? 1 : len != image_len ? 3 : 0;
+            outgoing(image, len, number, 0);
+            save(image, len, image_len, number, 0);
+            step(image, len, read, 4 * n, controller, image_len, number, 0,
+                 NULL);
+        }
+        /* A setup alone is no image, an image no setup. */
+        outgoing(image, PRESENCE_SETUP_BYTES(n), 3, 0);
+        check_setup(image, image_len, 3, 0);
+        /* Output of a saving. */
+        for (len = 0; len <= image_len + 12; len++)
+            save(image, image_len, len, len == image_len ? 0 : 9, 0);
+    }
+    end();
+}
+
+/* ---- step: 9 and 10 ---- */
+
+static void group_step_refused(void)
+{
+    uint8_t s[PRESENCE_MAX_SETUP_BYTES], image[IMAGE_MAX];
+    uint8_t read[2 * PRESENCE_MAX_READ_BYTES];
+    uint32_t n, u, b, controller;
+    size_t image_len, len;
+
+    begin("steps refused");
+    for (n = 2; n <= MAX_N; n++)
+        for (u = 0; u < 2; u++) {
+            image_len = PRESENCE_IMAGE_BYTES(n);
+            memset(read, 0x55, sizeof read);
+            random_setup(s, n, u, 5, 3);
+            lived_image(image, s, n, n, 10);
+            controller = random_read(read, n, 4);
+            /* Read and output, one byte and one word off, and others. */
+            for (len = 0; len <= 4 * n + 12; len++)
+                step(image, image_len, read, len, controller, image_len,
+                     len == 4 * n ? 0 : 9, 0, NULL);
+            for (len = 0; len <= image_len + 12; len++)
+                step(image, image_len, read, 4 * n, controller, len,
+                     len == image_len ? 0 : 9, 0, NULL);
+            step(image, image_len, read, image_len < 128 ? image_len : 128,
+                 controller, 4 * n, 9, 0, NULL);
+            /* Controller bits; 9 goes before 10. */
+            for (b = n; b < 32; b++) {
+                step(image, image_len, read, 4 * n, controller | 1u << b,
+                     image_len, 10, 0, NULL);
+                step(image, image_len, read, 4 * n, 1u << b, image_len, 10, 0,
+                     NULL);
+                step(image, image_len, read, 4 * n - 1, 1u << b, image_len, 9,
+                     0, NULL);
+                step(image, image_len, read, 4 * n, 1u << b, image_len + 4, 9,
+                     0, NULL);
+            }
+            step(image, image_len, read, 4 * n, 0xFFFFFFFF, image_len, 10, 0,
+                 NULL);
+        }
+    end();
+}
+
+/* ---- starred cases of document 01 ---- */
+
+#define ROUNDS 8
+
+/* A backplane: who hears whom is given for each round. */
+struct backplane {
+    uint32_t n;
+    const uint8_t *setup;
+    uint32_t silent[ROUNDS + 1][MAX_N]; /* [k][j-1]: receivers without j */
+    uint8_t image[MAX_N][IMAGE_MAX];
+    uint8_t read[MAX_N][PRESENCE_MAX_READ_BYTES];
+    uint32_t controller[MAX_N];
+    uint32_t health[ROUNDS + 1][MAX_N];
+    uint32_t view[ROUNDS + 1][MAX_N];
+};
+
+static void play(struct backplane *b, uint32_t rounds)
+{
+    size_t len = PRESENCE_IMAGE_BYTES(b->n);
+    uint32_t n = b->n, word[MAX_N], i, j, k, slot;
+
+    for (i = 0; i < n; i++) {
+        open_module(b->setup, PRESENCE_SETUP_BYTES(n), i + 1, len, 0, 0,
+                    b->image[i]);
+        for (j = 0; j < n; j++)
+            put(b->read[i], j, 0x50000000 | ones(n));
+        b->controller[i] = ones(n);
+    }
+    for (k = 1; k <= rounds; k++) {
+        for (i = 0; i < n; i++) /* word of the step before, rule 7 */
+            word[i] = outgoing(b->image[i], len, 0, 0);
+        for (slot = 0; slot <= n; slot++) {
+            for (i = 0; slot > 0 && i < n; i++) { /* module "slot" sends */
+                put(b->read[i], slot - 1, word[slot - 1]);
+                b->controller[i] |= 1u << (slot - 1);
+                if (b->silent[k][slot - 1] >> i & 1)
+                    b->controller[i] &= ~(1u << (slot - 1));
+            }
+            for (i = 0; i < n; i++) { /* those with l = slot step */
+                if ((get(b->setup, 3 + i) >> 17 & 0x1F) != slot)
+                    continue;
+                b->health[k][i] = step(b->image[i], len, b->read[i], 4 * n,
+                                       b->controller[i], len, 0, 0,
+                                       b->image[i]);
+                b->view[k][i] = PRESENCE_VIEW(b->image[i], n);
+                if (get(b->setup, 3 + i) >> 22 & 1) /* with the mark */
+                    word[i] = outgoing(b->image[i], len, 0, 0);
+            }
+        }
+    }
+}
+
+/* Health of all modules in round k; module 1 stands leftmost. */
+static void health_is(const struct backplane *b, uint32_t k,
+                      const char *printed)
+{
+    uint32_t i, j, wanted = 0;
+
+    for (j = 0; j < b->n; j++)
+        if (printed[j] == '1')
+            wanted |= 1u << j;
+    for (i = 0; i < b->n; i++)
+        same("starred health", b->health[k][i], wanted);
+}
+
+static void views_are(const struct backplane *b, uint32_t k, uint32_t wanted)
+{
+    uint32_t i;
+
+    for (i = 0; i < b->n; i++)
+        same("starred view", b->view[k][i], wanted);
+}
+
+static void group_starred(void)
+{
+    static struct backplane b;
+    static const struct backplane empty;
+    uint8_t sheet[PRESENCE_MAX_SETUP_BYTES], marks[PRESENCE_MAX_SETUP_BYTES];
+    uint8_t image[IMAGE_MAX], read[PRESENCE_MAX_READ_BYTES];
+    uint32_t j, k, health;
+    size_t len = PRESENCE_IMAGE_BYTES(4);
+
+    begin("starred cases");
+    make_setup(sheet, 4, 1, 3, 1);
+    make_setup(marks, 4, 1, 3, 1);
+    put(marks, 3, module_word(1, 0, 0, 1));
+    put(marks, 4, module_word(2, 1, 0, 1));
+    put(marks, 5, module_word(3, 1, 1, 1));
+    put(marks, 6, module_word(4, 1, 2, 1));
+
+    /* The sheet: module 2 unheard by all in round 1. */
+    b = empty;
+    b.n = 4;
+    b.setup = sheet;
+    b.silent[1][1] = 0xF;
+    play(&b, 6);
+    health_is(&b, 1, "1111");
+    health_is(&b, 2, "1011");
+    health_is(&b, 3, "1111");
+    views_are(&b, 6, 0xF);
+    /* One charge and three good rounds clear both counters. */
+    same("penalty, one charge, three good", get(b.image[0], 15), 0xD1000000);
+    same("reward, one charge, three good", get(b.image[0], 19), 0xE1000000);
+    b = empty;
+    b.n = 4;
+    b.setup = sheet;
+    b.silent[1][1] = 0xF;
+    play(&b, 4);
+    same("penalty, one charge, two good", get(b.image[0], 15), 0xD1000001);
+    same("reward, one charge, two good", get(b.image[0], 19), 0xE1000002);
+
+    /* A second charge: module 2 leaves. */
+    b = empty;
+    b.n = 4;
+    b.setup = sheet;
+    b.silent[1][1] = 0xF;
+    b.silent[2][1] = 0xF;
+    play(&b, 5);
+    views_are(&b, 2, 0xF);
+    views_are(&b, 3, 0xD);
+    health_is(&b, 5, "1111");
+    same("penalty of one that left", get(b.image[0], 15), 0xD1000002);
+
+    /* Send marks, u = 1. */
+    b = empty;
+    b.n = 4;
+    b.setup = marks;
+    b.silent[1][1] = 0xF;
+    play(&b, 5);
+    for (k = 1; k <= 3; k++)
+        health_is(&b, k, "1111");
+    health_is(&b, 4, "1011");
+    health_is(&b, 5, "1111");
+
+    /* Module 3 alone misses 1 in round 1. */
+    b = empty;
+    b.n = 4;
+    b.setup = sheet;
+    b.silent[1][0] = 0x4;
+    play(&b, 4);
+    health_is(&b, 1, "1111");
+    health_is(&b, 2, "1111");
+    health_is(&b, 3, "1101");
+    health_is(&b, 4, "1111");
+
+    /* Nobody heard in rounds 1 and 2. */
+    b = empty;
+    b.n = 4;
+    b.setup = sheet;
+    for (j = 0; j < 4; j++) {
+        b.silent[1][j] = 0xF;
+        b.silent[2][j] = 0xF;
+    }
+    play(&b, 3);
+    health_is(&b, 1, "1111");
+    health_is(&b, 2, "0000");
+    health_is(&b, 3, "0000");
+    views_are(&b, 2, 0xF);
+    views_are(&b, 3, 0x0);
+
+    /* Votes on module 1 by 2, 3, 4: 1,0,1 gives 1; 1,0 gives 1; 0,0 gives 0. */
+    open_module(sheet, PRESENCE_SETUP_BYTES(4), 1, len, 0, 0, image);
+    put(read, 0, 0x50000000); /* 1's own row does not count */
+    put(read, 1, 0x5000000F);
+    put(read, 2, 0x5000000E);
+    put(read, 3, 0x5000000F);
+    health = step(image, len, read, 16, 0xF, len, 0, 0, NULL);
+    same("votes 1,0,1", health & 1, 1);
+    health = step(image, len, read, 16, 0x7, len, 0, 0, NULL);
+    same("votes 1,0", health & 1, 1);
+    put(read, 1, 0x5000000E);
+    put(read, 3, 0x5000000E);
+    health = step(image, len, read, 16, 0xB, len, 0, 0, NULL);
+    same("votes 0,missing,0", health & 1, 0);
+
+    /* 5000000F is heard, 5000001F and 4000000F are not, nor bit 27. */
+    put(read, 0, 0x5000000F);
+    put(read, 1, 0x5000001F);
+    put(read, 2, 0x4000000F);
+    put(read, 3, 0x5800000F);
+    step(image, len, read, 16, 0xF, len, 0, 0, image);
+    same("heard 5000000F", get(image, 8), 0xB0C0000F);
+    same("heard 5000001F", get(image, 9), 0xB1000000);
+    same("heard 4000000F", get(image, 10), 0xB1800000);
+    same("heard 5800000F", get(image, 11), 0xB2000000);
+    end();
+}
+
+/* ---- lives ---- */
+
+static void life(uint32_t n, uint32_t u, uint32_t style, uint32_t steps)
+{
+    static const uint32_t p_of[] = {1, 20, 3000, 1000000};
+    static const uint32_t r_of[] = {1, 3, 50, 8000000};
+    uint8_t s[PRESENCE_MAX_SETUP_BYTES], read[PRESENCE_MAX_READ_BYTES];
+    uint8_t image[IMAGE_MAX], old[IMAGE_MAX];
+    size_t len = PRESENCE_IMAGE_BYTES(n);
+    uint32_t own = 1 + below(n), k, before, controller, health, word, j;
+    uint32_t loudness = 0;
+
+    random_setup(s, n, u, p_of[style % 4], r_of[below(4)]);
+    open_module(s, PRESENCE_SETUP_BYTES(n), own, len, 0, 0, image);
+    word = outgoing(image, len, 0, 0);
+    for (k = 1; k <= steps; k++) {
+        if (k % 16 == 1)
+            loudness = below(9);
+        controller = random_read(read, n, loudness);
+        if (below(32) == 0)
+            controller = 0; /* nobody heard */
+        if (below(4) == 0)
+            put(read, own - 1, word); /* the module's own word */
+        memcpy(old, image, len);
+        health = step(image, len, read, 4 * n, controller, len, 0, 0, image);
+
+        /* What follows from document 01 without plain.c. */
+        same("health bits at N or above", health & ~ones(n), 0);
+        if (memcmp(image, s, PRESENCE_SETUP_BYTES(n)) != 0)
+            differ("setup in the image", 1, 0);
+        same("own number in the image", get(image, n + 3) >> 16, 0xA000 | own);
+        same("syndrome before", get(image, 2 * n + 5), get(old, 2 * n + 4));
+        same("back in the view", PRESENCE_VIEW(image, n) &
+             ~PRESENCE_VIEW(old, n), 0);
+        for (j = 1; j <= n; j++)
+            if (!(PRESENCE_VIEW(old, n) >> (j - 1) & 1)) {
+                same("penalty of one out", get(image, 2 * n + 5 + j),
+                     get(old, 2 * n + 5 + j));
+                same("reward of one out", get(image, 3 * n + 5 + j),
+                     get(old, 3 * n + 5 + j));
+            }
+        word = outgoing(image, len, 0, 0);
+        before = get(s, 2 + own) >> 22 & 1; /* rule 7 */
+        same("word handed out", word,
+             0x50000000 | (get(image, 2 * n + 4 + before) & 0xFFFF));
+
+        if (below(8) == 0) { /* over a restart */
+            uint8_t saved[OUT_MAX];
+            struct call c = {SAVE, NULL, 0, NULL, 0, 0, 0};
+            struct result r;
+
+            c.in = image;
+            c.in_len = len;
+            c.out_len = len;
+            expect(&c, 0, 0, &r);
+            memcpy(saved, r.out, len);
+            memset(image, 0, sizeof image);
+            memcpy(image, saved, len);
+        }
+        if (below(8) == 0) /* a refused step between */
+            step(image, len, read, 4 * n, controller | 1u << n, len, 10, 0,
+                 image);
+    }
+}
+
+static void group_lives(void)
+{
+    uint32_t n, u, style;
+
+    begin("lives");
+    for (n = 2; n <= MAX_N; n++)
+        for (u = 0; u < 2; u++)
+            for (style = 0; style < 4; style++)
+                life(n, u, style, 300);
+    end();
+}
+
+/* Two lives in turn, and each step twice: nothing is kept between calls. */
+static void group_nothing_kept(void)
+{
+    uint8_t s[2][PRESENCE_MAX_SETUP_BYTES], image[2][IMAGE_MAX];
+    uint8_t read[2][PRESENCE_MAX_READ_BYTES];
+    struct call c[2];
+    struct result first, second, other;
+    uint32_t n[2] = {16, 3}, i, k;
+
+    begin("nothing kept");
+    for (i = 0; i < 2; i++) {
+        random_setup(s[i], n[i], i, 20, 3);
+        open_module(s[i], PRESENCE_SETUP_BYTES(n[i]), 2,
+                    PRESENCE_IMAGE_BYTES(n[i]), 0, 0, image[i]);
+    }
+    for (k = 0; k < 300; k++)
+        for (i = 0; i < 2; i++) {
+            c[i].op = STEP;
+            c[i].in = image[i];
+            c[i].in_len = PRESENCE_IMAGE_BYTES(n[i]);
+            c[i].read = read[i];
+            c[i].read_len = PRESENCE_READ_BYTES(n[i]);
+            c[i].argument = random_read(read[i], n[i], 4);
+            c[i].out_len = PRESENCE_IMAGE_BYTES(n[i]);
+            both(&c[i], &first);
+            if (k > 0)
+                both(&c[1 - i], &other);
+            both(&c[i], &second);
+            same("number, second time", second.number, first.number);
+            same("health, second time", second.value, first.value);
+            if (memcmp(first.out, second.out, c[i].out_len) != 0)
+                differ("image, second time", 1, 0);
+            memcpy(image[i], first.out, c[i].out_len);
+        }
+    end();
+}
+
+/* ---- addresses ---- */
+
+static void group_addresses(void)
+{
+    uint8_t s[PRESENCE_MAX_SETUP_BYTES], image[IMAGE_MAX];
+    uint8_t read[PRESENCE_MAX_READ_BYTES];
+    struct call c = {STEP, NULL, 0, NULL, 0, 0, 0};
+    struct result wanted, r;
+    uint32_t n, op;
+    size_t in_off, read_off, out_off;
+
+    begin("odd addresses");
+    for (n = 2; n <= MAX_N; n += 7) {
+        random_setup(s, n, 1, 5, 3);
+        lived_image(image, s, n, 1, 30);
+        for (op = SETUP; op <= OUTGOING; op++) {
+            c.op = (enum op)op;
+            c.in = op == SETUP || op == OPEN ? s : image;
+            c.in_len = op == SETUP || op == OPEN ? PRESENCE_SETUP_BYTES(n)
+                                                 : PRESENCE_IMAGE_BYTES(n);
+            c.read = read;
+            c.read_len = op == STEP ? PRESENCE_READ_BYTES(n) : 0;
+            c.argument = random_read(read, n, 4);
+            if (op == OPEN)
+                c.argument = n;
+            c.out_len = op == SETUP || op == OUTGOING
+                            ? 0 : PRESENCE_IMAGE_BYTES(n);
+            plain(&c, &wanted);
+            for (in_off = 0; in_off < 8; in_off++)
+                for (read_off = 0; read_off < 8; read_off++)
+                    for (out_off = 0; out_off < 8; out_off++) {
+                        place_call(&c, in_off, read_off, out_off, &r);
+                        same("number", r.number, 0);
+                        same("health or word", r.value, wanted.value);
+                        if (memcmp(r.out, wanted.out, c.out_len) != 0)
+                            differ("image", 1, 0);
+                    }
+        }
+    }
+    end();
+}
+
+/* ---- calls file ---- */
+
+#define LINE_MAX_CHARS 16384
+#define FIELDS 12
+
+/* Hexadecimal bytes, - for none.  Returns the length, -1 if malformed. */
+static long parse_bytes(const char *text, uint8_t *bytes, size_t room)
+{
+    size_t len = strlen(text), i;
+    char two[3] = {0, 0, 0}, *stop;
+
+    if (strcmp(text, "-") == 0)
+        return 0;
+    if (len % 2 != 0 || len / 2 > room)
+        return -1;
+    for (i = 0; i < len / 2; i++) {
+        two[0] = text[2 * i];
+        two[1] = text[2 * i + 1];
+        bytes[i] = (uint8_t)strtoul(two, &stop, 16);
+        if (*stop != 0)
+            return -1;
+    }
+    return (long)(len / 2);
+}
+
+static int parse_number(const char *text, int base, uint32_t *value)
+{
+    char *stop;
+    unsigned long v = strtoul(text, &stop, base);
+
+    *value = (uint32_t)v;
+    return *text != 0 && *stop == 0 && v <= 0xFFFFFFFFul;
+}
+
+/* One line, already split.  Returns 0 if the line is malformed. */
+static int do_line(char **f, int fields)
+{
+    static uint8_t in[LINE_MAX_CHARS], read[LINE_MAX_CHARS];
+    static uint8_t image[LINE_MAX_CHARS];
+    struct call c = {SETUP, NULL, 0, NULL, 0, 0, 0};
+    struct result r, p;
+    uint32_t number, index, health, out_len = 0;
+    long in_len, read_len = 0, image_len = 0;
+    int arguments, answers;
+
+    if (strcmp(f[0], "setup") == 0 || strcmp(f[0], "state") == 0) {
+        arguments = 1;
+        answers = 2;
+    } else if (strcmp(f[0], "open") == 0) {
+        c.op = OPEN;
+        arguments = 3;
+        answers = 4;
+    } else if (strcmp(f[0], "step") == 0) {
+        c.op = STEP;
+        arguments = 4;
+        answers = 4;
+    } else if (strcmp(f[0], "save") == 0) {
+        c.op = SAVE;
+        arguments = 2;
+        answers = 4;
+    } else {
+        return 0;
+    }
+    if (fields != arguments + answers + 2 || strcmp(f[arguments + 1], "=") != 0)
+        return 0;
+
+    in_len = parse_bytes(f[1], in, sizeof in);
+    if (c.op == OPEN && !parse_number(f[2], 10, &c.argument))
+        return 0;
+    if (c.op == STEP) {
+        read_len = parse_bytes(f[2], read, sizeof read);
+        if (!parse_number(f[3], 16, &c.argument))
+            return 0;
+    }
+    if (c.op != SETUP && !parse_number(f[arguments], 10, &out_len))
+        return 0;
+    if (!parse_number(f[arguments + 2], 10, &number) ||
+        !parse_number(f[arguments + 3], 10, &index))
+        return 0;
+    if (answers == 4) {
+        if (!parse_number(f[arguments + 4], 16, &health))
+            return 0;
+        image_len = parse_bytes(f[arguments + 5], image, sizeof image);
+    } else {
+        health = 0;
+    }
+    if (in_len < 0 || read_len < 0 || image_len < 0 || out_len > OUT_MAX)
+        return 0;
+    if (answers == 4 && (number == 0 ? (long)out_len : 0) != image_len)
+        return 0;
+
+    c.in = in;
+    c.in_len = (size_t)in_len;
+    c.read = read;
+    c.read_len = (size_t)read_len;
+    c.out_len = out_len;
+    if (strcmp(f[0], "state") == 0) {
+        /* Reading a state: by the outgoing word and by saving. */
+        outgoing(in, c.in_len, number, index);
+        if (in_len <= OUT_MAX)
+            save(in, c.in_len, c.in_len, number, index);
+        return 1;
+    }
+    library(&c, &r);
+    same("number, library", r.number, number);
+    same("index, library", r.index, index);
+    same("health, library", r.value, health);
+    if (image_len > 0 && memcmp(r.out, image, (size_t)image_len) != 0)
+        differ("image, library", 1, 0);
+    plain(&c, &p);
+    same("number, plain.c", p.number, number);
+    same("index, plain.c", p.index, index);
+    same("health, plain.c", p.value, health);
+    if (image_len > 0 && memcmp(p.out, image, (size_t)image_len) != 0)
+        differ("image, plain.c", 1, 0);
+    return 1;
+}
+
+static void group_calls_file(const char *name)
+{
+    static char line[LINE_MAX_CHARS];
+    FILE *file = fopen(name, "r");
+    unsigned long line_number = 0, lines = 0;
+    char title[64], *field[FIELDS], *at;
+    int fields;
+
+    begin("calls file");
+    if (file == NULL) {
+        printf("  cannot open %s\n", name);
+        differ("file", 0, 1);
+        end();
+        return;
+    }
+    while (fgets(line, sizeof line, file) != NULL) {
+        unsigned long before = differences;
+
+        line_number++;
+        if (strchr(line, '\n') == NULL && !feof(file)) {
+            differ("line too long", line_number, 0);
+            break;
+        }
+        fields = 0;
+        for (at = strtok(line, " \t\r\n"); at != NULL && fields < FIELDS;
+             at = strtok(NULL, " \t\r\n"))
+            field[fields++] = at;
+        if (fields == 0 || field[0][0] == '#')
+            continue;
+        lines++;
+        if (!do_line(field, fields))
+            differ("malformed line", line_number, 0);
+        if (differences != before)
+            printf("  %s:%lu differs\n", name, line_number);
+    }
+    fclose(file);
+    if (lines == 0)
+        differ("lines in the file", 0, 1);
+    sprintf(title, "calls file, %lu lines", lines);
+    group_name = title;
+    end();
+}
+
+int main(int argc, char **argv)
+{
+    int number;
+
+    group_setups_accepted();
+    group_setups_refused();
+    group_setup_lengths();
+    group_opening();
+    group_images_refused();
+    group_image_bits();
+    group_image_lengths();
+    group_step_refused();
+    group_starred();
+    group_lives();
+    group_nothing_kept();
+    group_addresses();
+    group_calls_file(argc > 1 ? argv[1] : "harness/data/calls.txt");
+    printf("%-28s %8lu calls %6lu differences\n", "total", all_calls,
+           all_differences);
+    printf("answers");
+    for (number = 0; number < 12; number++)
+        printf(" %d:%lu", number, answered[number]);
+    printf("\n");
+    return all_differences == 0 ? 0 : 1;
+}

@@ -1,0 +1,462 @@
+/*
+ * plain.c - the functions of presence.h by hand in plain C99.
+ *
+ * Rule numbers are those of "One step, round k", refusal numbers those of
+ * "Answers and their order" in document 01.  Module j stands at place j-1 of
+ * the arrays and is bit j-1 of the vectors.
+ */
+#include <stdbool.h>
+
+#include "plain.h"
+
+#define MAX PRESENCE_MAX_MODULES
+
+enum kind {
+    HEAD = 1,
+    PENALTY_LIMIT = 2,
+    REWARD_LIMIT = 3,
+    MODULE = 4,
+    BUS_WORD = 5,
+    OWN_AND_VIEW = 10,
+    PREVIOUS = 11,
+    SYNDROME = 12,
+    PENALTY = 13,
+    REWARD = 14
+};
+
+struct setup {
+    uint32_t n;             /* number of modules */
+    uint32_t penalty_limit; /* P */
+    uint32_t reward_limit;  /* R */
+    bool mark[MAX];         /* send mark */
+    uint32_t place[MAX];    /* read place l */
+    uint32_t criticality[MAX];
+};
+
+struct state {
+    struct setup setup;
+    uint32_t own;        /* own number, 1..N */
+    uint32_t view;       /* vector */
+    bool heard[MAX];     /* previous read */
+    uint32_t row[MAX];   /* previous read, 0 if not heard */
+    uint32_t latest;     /* syndrome of the latest step */
+    uint32_t before;     /* syndrome of the step before */
+    uint32_t penalty[MAX];
+    uint32_t reward[MAX];
+};
+
+static presence_answer answer(uint32_t number, uint32_t index, uint32_t health)
+{
+    presence_answer a;
+
+    a.number = number;
+    a.index = index;
+    a.health = health;
+    return a;
+}
+
+static uint32_t get_word(const uint8_t *bytes, uint32_t index)
+{
+    const uint8_t *b = bytes + 4 * index;
+
+    return (uint32_t)b[0] << 24 | (uint32_t)b[1] << 16 | (uint32_t)b[2] << 8 |
+           (uint32_t)b[3];
+}
+
+static void put_word(uint8_t *bytes, uint32_t index, uint32_t word)
+{
+    uint8_t *b = bytes + 4 * index;
+
+    b[0] = (uint8_t)(word >> 24);
+    b[1] = (uint8_t)(word >> 16);
+    b[2] = (uint8_t)(word >> 8);
+    b[3] = (uint8_t)word;
+}
+
+static uint32_t kind_of(uint32_t word)
+{
+    return word >> 28;
+}
+
+/* Number of a module or sender, bits 27..23. */
+static uint32_t number_of(uint32_t word)
+{
+    return word >> 23 & 0x1F;
+}
+
+/* The vector with all modules set. */
+static uint32_t all(uint32_t n)
+{
+    return (1u << n) - 1;
+}
+
+static bool bit(uint32_t vector, uint32_t j)
+{
+    return (vector >> j & 1) != 0;
+}
+
+/* Rules 2 and 9: kind 5, no bit at N or above below the kind. */
+static bool is_bus_word(uint32_t word, uint32_t n)
+{
+    return kind_of(word) == BUS_WORD && (word & 0x0FFFFFFF) <= all(n);
+}
+
+/*
+ * Reads a setup, or the setup part of an image.  Refusals 1 to 6; an image
+ * differs in the length asked for by 3.
+ */
+static presence_answer load_setup(struct setup *s, const uint8_t *bytes,
+                                  size_t len, bool image)
+{
+    uint32_t word, j;
+
+    if (len == 0 || len % 4 != 0)
+        return answer(1, 0, 0);
+
+    word = get_word(bytes, 0);
+    s->n = word & 0x1F;
+    if (kind_of(word) != HEAD || (word & 0x0FFFFFE0) != 0 ||
+        s->n < 2 || s->n > MAX)
+        return answer(2, 0, 0);
+
+    if (len != (image ? PRESENCE_IMAGE_BYTES(s->n)
+                      : PRESENCE_SETUP_BYTES(s->n)))
+        return answer(3, 0, 0);
+
+    word = get_word(bytes, 1);
+    s->penalty_limit = word & 0x0FFFFFFF;
+    if (kind_of(word) != PENALTY_LIMIT ||
+        s->penalty_limit < 1 || s->penalty_limit > 1000000)
+        return answer(4, 1, 0);
+
+    word = get_word(bytes, 2);
+    s->reward_limit = word & 0x0FFFFFFF;
+    if (kind_of(word) != REWARD_LIMIT ||
+        s->reward_limit < 1 || s->reward_limit > 8000000)
+        return answer(4, 2, 0);
+
+    for (j = 0; j < s->n; j++) {
+        word = get_word(bytes, 3 + j);
+        s->mark[j] = bit(word, 22);
+        s->place[j] = word >> 17 & 0x1F;
+        s->criticality[j] = word & 0x1FFFF;
+        if (kind_of(word) != MODULE || number_of(word) != j + 1 ||
+            s->place[j] > s->n ||
+            s->criticality[j] < 1 || s->criticality[j] > 100000)
+            return answer(5, 3 + j, 0);
+    }
+
+    for (j = 0; j < s->n; j++)
+        if (s->mark[j] && (j == 0 || s->place[j] >= j + 1))
+            return answer(6, 3 + j, 0);
+
+    return answer(0, 0, 0);
+}
+
+/* Reads an image.  Refusals 1 to 8. */
+static presence_answer load_state(struct state *s, const uint8_t *bytes,
+                                  size_t len)
+{
+    presence_answer a = load_setup(&s->setup, bytes, len, true);
+    uint32_t n, at, word, j;
+
+    if (a.number != 0)
+        return a;
+    n = s->setup.n;
+
+    at = n + 3;
+    word = get_word(bytes, at);
+    if (kind_of(word) != OWN_AND_VIEW)
+        return answer(8, at, 0);
+    s->own = word >> 16 & 0x1F;
+    s->view = word & 0xFFFF;
+    if (s->own < 1 || s->own > n)
+        return answer(7, at, 0);
+    if ((word & 0x0FE00000) != 0 || s->view > all(n))
+        return answer(8, at, 0);
+
+    for (j = 0; j < n; j++) {
+        at = n + 4 + j;
+        word = get_word(bytes, at);
+        s->heard[j] = bit(word, 22);
+        s->row[j] = word & 0xFFFF;
+        if (kind_of(word) != PREVIOUS || number_of(word) != j + 1 ||
+            (word & 0x003F0000) != 0 || s->row[j] > all(n) ||
+            (!s->heard[j] && s->row[j] != 0))
+            return answer(8, at, 0);
+    }
+
+    at = 2 * n + 4;
+    word = get_word(bytes, at);
+    s->latest = word & 0x0FFFFFFF;
+    if (kind_of(word) != SYNDROME || s->latest > all(n))
+        return answer(8, at, 0);
+
+    at = 2 * n + 5;
+    word = get_word(bytes, at);
+    s->before = word & 0x0FFFFFFF;
+    if (kind_of(word) != SYNDROME || s->before > all(n))
+        return answer(8, at, 0);
+
+    for (j = 0; j < n; j++) {
+        at = 2 * n + 6 + j;
+        word = get_word(bytes, at);
+        s->penalty[j] = word & 0x001FFFFF;
+        if (kind_of(word) != PENALTY || number_of(word) != j + 1 ||
+            (word & 0x00600000) != 0 ||
+            s->penalty[j] > s->setup.penalty_limit + s->setup.criticality[j] ||
+            bit(s->view, j) != (s->penalty[j] <= s->setup.penalty_limit))
+            return answer(8, at, 0);
+    }
+
+    for (j = 0; j < n; j++) {
+        at = 3 * n + 6 + j;
+        word = get_word(bytes, at);
+        s->reward[j] = word & 0x007FFFFF;
+        if (kind_of(word) != REWARD || number_of(word) != j + 1 ||
+            s->reward[j] >= s->setup.reward_limit ||
+            (s->reward[j] > 0 && s->penalty[j] == 0))
+            return answer(8, at, 0);
+    }
+
+    return answer(0, 0, 0);
+}
+
+static void store_setup(const struct setup *s, uint8_t *out)
+{
+    uint32_t j;
+
+    put_word(out, 0, (uint32_t)HEAD << 28 | s->n);
+    put_word(out, 1, (uint32_t)PENALTY_LIMIT << 28 | s->penalty_limit);
+    put_word(out, 2, (uint32_t)REWARD_LIMIT << 28 | s->reward_limit);
+    for (j = 0; j < s->n; j++)
+        put_word(out, 3 + j,
+                 (uint32_t)MODULE << 28 | (j + 1) << 23 |
+                 (uint32_t)s->mark[j] << 22 | s->place[j] << 17 |
+                 s->criticality[j]);
+}
+
+static void store_state(const struct state *s, uint8_t *out)
+{
+    uint32_t n = s->setup.n, j;
+
+    store_setup(&s->setup, out);
+    put_word(out, n + 3, (uint32_t)OWN_AND_VIEW << 28 | s->own << 16 | s->view);
+    for (j = 0; j < n; j++)
+        put_word(out, n + 4 + j,
+                 (uint32_t)PREVIOUS << 28 | (j + 1) << 23 |
+                 (uint32_t)s->heard[j] << 22 | s->row[j]);
+    put_word(out, 2 * n + 4, (uint32_t)SYNDROME << 28 | s->latest);
+    put_word(out, 2 * n + 5, (uint32_t)SYNDROME << 28 | s->before);
+    for (j = 0; j < n; j++)
+        put_word(out, 2 * n + 6 + j,
+                 (uint32_t)PENALTY << 28 | (j + 1) << 23 | s->penalty[j]);
+    for (j = 0; j < n; j++)
+        put_word(out, 3 * n + 6 + j,
+                 (uint32_t)REWARD << 28 | (j + 1) << 23 | s->reward[j]);
+}
+
+/* Rule 7: without the mark the latest syndrome, with it the one before. */
+static uint32_t word_handed_out(const struct state *s)
+{
+    uint32_t syndrome = s->setup.mark[s->own - 1] ? s->before : s->latest;
+
+    return (uint32_t)BUS_WORD << 28 | syndrome;
+}
+
+/* Rule 1. */
+static uint32_t delay(const struct setup *s)
+{
+    uint32_t j;
+
+    for (j = 0; j < s->n; j++)
+        if (s->place[j] != s->n)
+            return 1;
+    return 0;
+}
+
+/* Rule 4: the vote on each module over the present rows of the others. */
+static uint32_t vote(uint32_t n, const bool *present, const uint32_t *row,
+                     uint32_t own_syndrome)
+{
+    uint32_t health = 0, ones, zeros, i, j;
+    bool result;
+
+    for (j = 0; j < n; j++) {
+        ones = 0;
+        zeros = 0;
+        for (i = 0; i < n; i++) {
+            if (i == j || !present[i])
+                continue;
+            if (bit(row[i], j))
+                ones++;
+            else
+                zeros++;
+        }
+        if (ones == 0 && zeros == 0)
+            result = bit(own_syndrome, j);
+        else
+            result = ones >= zeros;
+        if (result)
+            health |= 1u << j;
+    }
+    return health;
+}
+
+/* Rule 5: row j differs from the health vector at some h other than j.  The
+   lowest such h is not part of an answer to C. */
+static bool is_accused(uint32_t j, uint32_t row, uint32_t health)
+{
+    return ((row ^ health) & ~(1u << j)) != 0;
+}
+
+/* Rule 8. */
+static void count(struct state *s, uint32_t health)
+{
+    uint32_t j;
+
+    for (j = 0; j < s->setup.n; j++) {
+        if (!bit(s->view, j))
+            continue;
+        if (!bit(health, j)) {
+            s->penalty[j] += s->setup.criticality[j];
+            s->reward[j] = 0;
+            if (s->penalty[j] > s->setup.penalty_limit)
+                s->view &= ~(1u << j);
+        } else if (s->penalty[j] > 0) {
+            s->reward[j]++;
+            if (s->reward[j] >= s->setup.reward_limit) {
+                s->penalty[j] = 0;
+                s->reward[j] = 0;
+            }
+        }
+    }
+}
+
+presence_answer plain_check_setup(const uint8_t *setup, size_t setup_len)
+{
+    struct setup s;
+
+    return load_setup(&s, setup, setup_len, false);
+}
+
+presence_answer plain_open(const uint8_t *setup, size_t setup_len,
+                           uint32_t own, uint8_t *out, size_t out_len)
+{
+    struct state s;
+    presence_answer a = load_setup(&s.setup, setup, setup_len, false);
+    uint32_t n, j;
+
+    if (a.number != 0)
+        return a;
+    n = s.setup.n;
+    if (own < 1 || own > n)
+        return answer(7, 0, 0);
+    if (out_len != PRESENCE_IMAGE_BYTES(n))
+        return answer(9, 0, 0);
+
+    s.own = own;
+    s.view = all(n);
+    for (j = 0; j < n; j++) {
+        s.heard[j] = true;
+        s.row[j] = all(n);
+        s.penalty[j] = 0;
+        s.reward[j] = 0;
+    }
+    s.latest = all(n);
+    s.before = all(n);
+    store_state(&s, out);
+    return answer(0, 0, 0);
+}
+
+presence_answer plain_step(const uint8_t *state, size_t state_len,
+                           const uint8_t *read, size_t read_len,
+                           uint32_t controller,
+                           uint8_t *out, size_t out_len)
+{
+    struct state s;
+    presence_answer a = load_state(&s, state, state_len);
+    bool heard[MAX], present[MAX];
+    uint32_t row[MAX], aligned[MAX];
+    uint32_t n, u, place, health, syndrome, word, j;
+
+    if (a.number != 0)
+        return a;
+    n = s.setup.n;
+    if (read_len != PRESENCE_READ_BYTES(n) ||
+        out_len != PRESENCE_IMAGE_BYTES(n))
+        return answer(9, 0, 0);
+    if (controller > all(n))
+        return answer(10, 0, 0);
+
+    /* Rule 2. */
+    for (j = 0; j < n; j++) {
+        word = get_word(read, j);
+        heard[j] = bit(controller, j) && is_bus_word(word, n);
+        row[j] = heard[j] ? word & 0xFFFF : 0;
+    }
+
+    /* Rules 1 and 3: with u = 1 entries j <= l come from the previous read. */
+    u = delay(&s.setup);
+    place = s.setup.place[s.own - 1];
+    for (j = 0; j < n; j++) {
+        if (u == 1 && j + 1 <= place) {
+            present[j] = s.heard[j];
+            aligned[j] = s.row[j];
+        } else {
+            present[j] = heard[j];
+            aligned[j] = row[j];
+        }
+    }
+
+    /* Rule 4; the own syndrome of round k-u-1. */
+    health = vote(n, present, aligned, u == 1 ? s.before : s.latest);
+
+    /* Rules 5 and 6. */
+    syndrome = 0;
+    for (j = 0; j < n; j++)
+        if (present[j] && !is_accused(j, aligned[j], health))
+            syndrome |= 1u << j;
+
+    count(&s, health);
+
+    s.before = s.latest;
+    s.latest = syndrome;
+    for (j = 0; j < n; j++) {
+        s.heard[j] = heard[j];
+        s.row[j] = row[j];
+    }
+
+    /* Rule 9. */
+    if (!is_bus_word(word_handed_out(&s), n))
+        return answer(11, 0, 0);
+
+    store_state(&s, out);
+    return answer(0, 0, health);
+}
+
+presence_answer plain_save(const uint8_t *state, size_t state_len,
+                           uint8_t *out, size_t out_len)
+{
+    struct state s;
+    presence_answer a = load_state(&s, state, state_len);
+
+    if (a.number != 0)
+        return a;
+    if (out_len != PRESENCE_IMAGE_BYTES(s.setup.n))
+        return answer(9, 0, 0);
+    store_state(&s, out);
+    return answer(0, 0, 0);
+}
+
+presence_word plain_outgoing(const uint8_t *state, size_t state_len)
+{
+    struct state s;
+    presence_answer a = load_state(&s, state, state_len);
+    presence_word w;
+
+    w.number = a.number;
+    w.index = a.index;
+    w.word = a.number == 0 ? word_handed_out(&s) : 0;
+    return w;
+}

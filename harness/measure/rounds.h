@@ -1,0 +1,191 @@
+/*
+ * rounds.h - the inputs that are measured: a setup and a table of reads that
+ * is gone through again and again.  Always the same for the same N, u and
+ * kind of rounds.
+ *
+ *   quiet   all heard, all rows ones
+ *   loud    nearly every row differs from the health vector; a quarter of the
+ *           words is lost or of a stray form
+ *   late    all heard; every row but two differs from the health vector, at
+ *           position N or N-1 only, so that a search for the lowest
+ *           difference is longest; the health vector is all ones
+ *
+ * P = 1,000,000 and criticality 1: no module leaves the view.
+ */
+#ifndef ROUNDS_H
+#define ROUNDS_H
+
+#include <stdlib.h>
+#include <string.h>
+
+#include "presence.h"
+
+#define PERIOD 16u
+#define TRIES 40
+
+enum rounds_kind { QUIET, LOUD, LATE };
+
+struct rounds {
+    uint32_t n, u, own, place;
+    enum rounds_kind kind;
+    uint8_t setup[PRESENCE_MAX_SETUP_BYTES];
+    uint32_t word[PERIOD][PRESENCE_MAX_MODULES];
+    uint32_t controller[PERIOD];
+    uint8_t read[PERIOD][PRESENCE_MAX_READ_BYTES];
+    uint32_t rows, present, different; /* over one period, after alignment */
+};
+
+static uint32_t rounds_random_state;
+
+static uint32_t rounds_random(void)
+{
+    rounds_random_state ^= rounds_random_state << 13;
+    rounds_random_state ^= rounds_random_state >> 17;
+    rounds_random_state ^= rounds_random_state << 5;
+    return rounds_random_state >> 3;
+}
+
+static void rounds_put(uint8_t *bytes, uint32_t index, uint32_t word)
+{
+    bytes[4 * index] = (uint8_t)(word >> 24);
+    bytes[4 * index + 1] = (uint8_t)(word >> 16);
+    bytes[4 * index + 2] = (uint8_t)(word >> 8);
+    bytes[4 * index + 3] = (uint8_t)word;
+}
+
+/* Rows present after alignment in round t, and how many of them differ from
+   the health vector elsewhere than at their own position. */
+static void rounds_count(const struct rounds *r, uint32_t t, uint32_t *present,
+                         uint32_t *different)
+{
+    uint32_t row[PRESENCE_MAX_MODULES], there = 0, health = 0, i, j;
+    int votes;
+
+    for (j = 0; j < r->n; j++) {
+        uint32_t from = t;
+
+        if (r->u == 1 && j < r->place)
+            from = (t + PERIOD - 1) % PERIOD;
+        row[j] = r->word[from][j];
+        if ((r->controller[from] >> j & 1) &&
+            row[j] >> r->n == 0x50000000u >> r->n)
+            there |= 1u << j;
+    }
+    for (j = 0; j < r->n; j++) {
+        votes = 0;
+        for (i = 0; i < r->n; i++)
+            if (i != j && (there >> i & 1))
+                votes += (row[i] >> j & 1) ? 1 : -1;
+        if (votes >= 0)
+            health |= 1u << j;
+    }
+    *present = 0;
+    *different = 0;
+    for (j = 0; j < r->n; j++)
+        if (there >> j & 1) {
+            *present += 1;
+            if (((row[j] ^ health) & ((1u << r->n) - 1) & ~(1u << j)) != 0)
+                *different += 1;
+        }
+}
+
+/* A random loud round at place t of the table. */
+static void rounds_loud(struct rounds *r, uint32_t t)
+{
+    uint32_t n = r->n, j, m, missing = n >= 4 ? n / 4 : t % 2;
+
+    r->controller[t] = (1u << n) - 1;
+    for (j = 0; j < n; j++)
+        r->word[t][j] = 0x50000000 | (rounds_random() & ((1u << n) - 1));
+    for (m = 0; m < missing; m++) {
+        j = rounds_random() % n;
+        switch ((t + m) % 4) {
+        case 0:
+        case 2:
+            r->controller[t] &= ~(1u << j); /* lost */
+            break;
+        case 1:
+            r->word[t][j] ^= 0x10000000; /* kind 4 */
+            break;
+        default:
+            r->word[t][j] |= 1u << (n + rounds_random() % (28 - n));
+            break;
+        }
+    }
+}
+
+static void rounds_make(struct rounds *r, uint32_t n, uint32_t u,
+                        enum rounds_kind kind)
+{
+    uint32_t all = (1u << n) - 1, t, j, i, present, different, best;
+    struct rounds trial;
+
+    memset(r, 0, sizeof *r);
+    r->n = n;
+    r->u = u;
+    r->kind = kind;
+    r->own = n;
+    r->place = u == 1 ? n / 2 : n;
+    rounds_put(r->setup, 0, 0x10000000 | n);
+    rounds_put(r->setup, 1, 0x20000000 | 1000000);
+    rounds_put(r->setup, 2, 0x30000000 | (kind == LATE ? 8000000u : 3u));
+    for (j = 1; j <= n; j++)
+        rounds_put(r->setup, 2 + j,
+                   0x40000000 | j << 23 |
+                   (u == 1 && r->place < j ? 1u << 22 : 0) | r->place << 17 | 1);
+
+    for (t = 0; t < PERIOD; t++) {
+        r->controller[t] = all;
+        for (j = 0; j < n; j++) {
+            r->word[t][j] = 0x50000000 | all;
+            if (kind == LATE) /* bit N or bit N-1 is 0 */
+                r->word[t][j] &= j == n - 1 || (j != n - 2 && j % 2 == 0)
+                                     ? ~(1u << (n - 1)) : ~(1u << (n - 2));
+        }
+    }
+
+    /* Loud: of some random rounds the one in which most rows differ. */
+    rounds_random_state = 12345 + 2 * n + u;
+    trial = *r;
+    for (t = 0; kind == LOUD && t < PERIOD; t++) {
+        best = 0;
+        for (i = 0; i < TRIES; i++) {
+            rounds_loud(&trial, t);
+            rounds_count(&trial, t, &present, &different);
+            if (i == 0 || different > best) {
+                best = different;
+                memcpy(r->word[t], trial.word[t], sizeof r->word[t]);
+                r->controller[t] = trial.controller[t];
+            }
+        }
+        memcpy(trial.word[t], r->word[t], sizeof r->word[t]);
+        trial.controller[t] = r->controller[t];
+    }
+
+    for (t = 0; t < PERIOD; t++) {
+        for (j = 0; j < n; j++)
+            rounds_put(r->read[t], j, r->word[t][j]);
+        rounds_count(r, t, &present, &different);
+        r->rows += n;
+        r->present += present;
+        r->different += different;
+    }
+}
+
+/* Arguments N, u, kind.  Returns 0 if they are wrong. */
+static int rounds_from(struct rounds *r, char **argument)
+{
+    static const char *const names[] = {"quiet", "loud", "late"};
+    uint32_t n = (uint32_t)atoi(argument[0]), u = (uint32_t)atoi(argument[1]);
+    int k;
+
+    for (k = 0; k < 3; k++)
+        if (n >= 2 && n <= PRESENCE_MAX_MODULES && u <= 1 &&
+            strcmp(argument[2], names[k]) == 0) {
+            rounds_make(r, n, u, (enum rounds_kind)k);
+            return 1;
+        }
+    return 0;
+}
+
+#endif
