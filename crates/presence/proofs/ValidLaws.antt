@@ -46,7 +46,7 @@ pub record StateFits (st : State) : Type 0 where
 
 -- ---- one account, as its two words are tested
 
-account-is : (p r k : ℕ) (present : Bool) (penalty reward : ℕ) → penaltyFits p k present penalty ≡ true → rewardFits r penalty reward ≡ true
+pub account-is : (p r k : ℕ) (present : Bool) (penalty reward : ℕ) → penaltyFits p k present penalty ≡ true → rewardFits r penalty reward ≡ true
     → AccountFits p r k (record { present = present; penalty = penalty; reward = reward })
 unfolding penaltyFits rewardFits
 account-is p r k present penalty reward e d = record {
@@ -58,13 +58,13 @@ account-is p r k present penalty reward e d = record {
       (or-cases (eqb reward 0) (not (eqb penalty 0)) (and-r (ltb reward r) _ d));
 }
 
-penalty-of : (p r k : ℕ) (present : Bool) (penalty reward : ℕ)
+pub penalty-of : (p r k : ℕ) (present : Bool) (penalty reward : ℕ)
     → AccountFits p r k (record { present = present; penalty = penalty; reward = reward }) → penaltyFits p k present penalty ≡ true
 unfolding penaltyFits
 penalty-of p r k present penalty reward f =
     and-true (leb penalty (p + k)) _ (le-leb penalty (p + k) (f .penalty)) (rw (f .view) (beq-refl (leb penalty p)))
 
-reward-of : (p r k : ℕ) (present : Bool) (penalty reward : ℕ)
+pub reward-of : (p r k : ℕ) (present : Bool) (penalty reward : ℕ)
     → AccountFits p r k (record { present = present; penalty = penalty; reward = reward }) → rewardFits r penalty reward ≡ true
 unfolding rewardFits
 reward-of p r k present penalty reward f =

@@ -25,12 +25,15 @@ pub record Called : Type 0 where
 abbrev pub answer : ℕ → ℕ → ℕ → Answer
 answer number index health = record { number = number; index = index; health = health }
 
+abbrev pub called : Answer → List ℕ → Called
+called a out = record { answer = a; out = out }
+
 unfoldable pub refusedCall : ℕ → ℕ → List ℕ → Called
-refusedCall number index out = record { answer = answer number index 0; out = out }
+refusedCall number index out = called (answer number index 0) out
 
 -- a state written to the output
 unfoldable pub wrote : ℕ → State → Called
-wrote health st = record { answer = answer 0 0 health; out = imageOf st }
+wrote health st = called (answer 0 0 health) (imageOf st)
 
 -- setup check: 1 to 6
 unfoldable pub checkCall : List ℕ → Answer

@@ -4,10 +4,10 @@ use mathlib.Core.Bool.{Bool, true, false, cond, not, _&&_}
 use mathlib.Core.Logic.{⊎-elim}
 use Prim.Native.Nat.{ℕ, _≤_, _<_}
 use lib.Dec.{eqb}
-use borrow.Author.Tests.{eq-eqb, eqb-true}
+use borrow.Author.Tests.{eq-eqb, eqb-true, not-false}
 use Rattle.words.specs.Bits.{bit}
 use Rattle.words.specs.Count.{any, lowest}
-use Rattle.words.proofs.Truth.{clash, which, iff-eq, not-both}
+use Rattle.words.proofs.Truth.{clash, which, iff-eq, not-both, and-l, cond-true}
 use Rattle.words.proofs.CountLaws.{any-none, any-empty}
 use Rattle.words.proofs.LowestLaws.{lowest-zero, lowest-empty}
 use Rattle.rules.specs.Accusation.{differsAt, accusationOf}
@@ -35,3 +35,14 @@ unfolding accusationOf
 unaccused n voters row health j =
     ⊎-elim (λ (t : bit voters j ≡ true). rw t (lowest-any n (differsAt row health j))) (λ (f : bit voters j ≡ false). rw f)
     (which (bit voters j))
+
+-- ---- the same with the test already made
+
+module _ (n voters row health j : ℕ) where
+  pub clean-unaccused : not (bit voters j && any n (differsAt row health j)) ≡ true → accusationOf n voters row health j ≡ 0
+  clean-unaccused t = eqb-true _ 0 (unaccused n voters row health j ∙ t)
+
+  pub unclean-accused : not (bit voters j && any n (differsAt row health j)) ≡ false
+      → accusationOf n voters row health j ≡ lowest n (differsAt row health j)
+  unfolding accusationOf
+  unclean-accused f = cond-true _ _ (and-l (bit voters j) _ (not-false (bit voters j && any n (differsAt row health j)) f))

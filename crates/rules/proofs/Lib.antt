@@ -1,6 +1,10 @@
 pub mod HearingLaws
 pub mod AlignmentLaws
+pub mod MaskLaws
 pub mod VoteLaws
+pub mod LaneLaws
 pub mod AccusationLaws
+pub mod CompareLaws
 pub mod SyndromeLaws
 pub mod AccountLaws
+pub mod RangeLaws

@@ -4,9 +4,9 @@ use mathlib.Core.Bool.{Bool, not, _&&_}
 use Prim.Native.Nat.{ℕ, _^_, _≤_, _<_}
 use lib.ListN.{getD}
 use lib.Dec.{eqb}
-use Rattle.words.specs.Bits.{bit}
+use Rattle.words.specs.Bits.{bit, pack}
 use Rattle.words.specs.Count.{any}
-use Rattle.words.proofs.BitLaws.{bit-pack, pack-lt}
+use Rattle.words.proofs.BitLaws.{bit-pack, pack-ext, pack-lt}
 use Rattle.words.proofs.ArrayLaws.{array-at}
 use Rattle.rules.specs.Vote.{voteOf, healthOf}
 use Rattle.rules.specs.Accusation.{differsAt, accusationsOf}
@@ -36,3 +36,13 @@ module _ (n : ℕ) (aligned : Reading) (own : ℕ) where
         bit-pack n _ j h
         ∙ ap (λ (a : ℕ). bit (aligned .heard) j && eqb a 0) (array-at n _ j h small)
         ∙ ap (λ (b : Bool). bit (aligned .heard) j && b) (unaccused n (votersOf aligned) (getD (aligned .rows) j 0) (judgementOf n aligned own .health) j)
+
+-- the syndrome without the accusations: who is heard, and has a row that differs nowhere
+pub syndrome-by : (n : ℕ) (aligned : Reading) (health : ℕ) → n ≤ 16
+    → pack n (λ j. bit (aligned .heard) j && not (bit (votersOf aligned) j && any n (differsAt (getD (aligned .rows) j 0) health j)))
+    ≡ syndromeOf n (aligned .heard) (accusationsOf n (votersOf aligned) (aligned .rows) health)
+unfolding syndromeOf accusationsOf
+syndrome-by n aligned health small =
+    pack-ext n _ _ (λ j h. ap (λ (b : Bool). bit (aligned .heard) j && b)
+    (sym (unaccused n (votersOf aligned) (getD (aligned .rows) j 0) health j)
+    ∙ ap (λ (a : ℕ). eqb a 0) (sym (array-at n _ j h small))))

@@ -1,7 +1,10 @@
 pub mod Lag
 pub mod Hearing
 pub mod Alignment
+pub mod Mask
 pub mod Vote
+pub mod Lanes
 pub mod Accusation
 pub mod Syndrome
 pub mod Account
+pub mod Range

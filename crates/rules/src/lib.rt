@@ -1,6 +1,15 @@
 // Rules 1 to 8 of a step, each by itself, on numbers, vectors and arrays: no state.
 //
 // This file has what the rules hand to one another. Entries and bits of module j + 1 stand at j; those from n on are 0.
+pub mod accounts;
+pub mod accuse;
+pub mod align;
+pub mod hearing;
+pub mod judge;
+pub mod lag;
+pub mod mask;
+pub mod vote;
+
 // What became of one module's bus word: whether it is heard, and its row, 0 if it is not.
 pub struct Entry {
     pub heard: bool,

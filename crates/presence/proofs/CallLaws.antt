@@ -1,0 +1,205 @@
+-- What a call from C answers and leaves in its output, put together from the answers of its parts.
+use mathlib.Core.Path.{_≡_, refl, ap, ap₂, _∙_, sym, subst}
+use mathlib.Core.Bool.{Bool, true, false, cond}
+use mathlib.Core.List.{List}
+use Prim.Native.Nat.{ℕ, _+_, _*_}
+use lib.Dec.{eqb}
+use lib.ListN.{length}
+use borrow.Author.Tests.{eq-eqb, ne-eqb}
+use Rattle.words.proofs.Truth.{cond-true, cond-false}
+use Rattle.setup.specs.Verdict.{verdict, accepted, isAccepted}
+use Rattle.setup.specs.Setup.{setupOf, blankSetup}
+use Rattle.setup.specs.Check.{checkSetup, readSetup}
+use Rattle.setup.specs.declared.Setup.{Setup}
+use Rattle.setup.specs.declared.SetupRead.{SetupRead}
+use Rattle.setup.specs.declared.Verdict.{Verdict}
+use Rattle.presence.specs.Valid.{Valid}
+use Rattle.presence.specs.Opening.{blank, openOf}
+use Rattle.presence.specs.Step.{afterRound, acceptedStep, readStep, stepOf}
+use Rattle.presence.specs.Image.{imageOf, stateOf, checkImage, loadOf, roomFor}
+use Rattle.presence.specs.Calls.{Called, answer, called, refusedCall, wrote, openCall, stepCall, saveCall, handedOut, outgoingCall}
+use Rattle.presence.specs.declared.State.{State}
+use Rattle.presence.specs.declared.Answer.{Answer}
+use Rattle.presence.specs.declared.Outgoing.{Outgoing}
+use Rattle.presence.specs.declared.Opened.{Opened}
+use Rattle.presence.specs.declared.Stepped.{Stepped}
+use Rattle.presence.proofs.StepLaws.{step-accepted, step-valid, open-valid}
+use Rattle.presence.proofs.RoundLaws.{step-goes}
+use Rattle.presence.proofs.ImageLaws.{load-valid, image-zero}
+
+-- a refusal by the verdict v, answered by what was found of it
+refused-by : {v w : Verdict} (out : List ℕ) → v ≡ w → called (answer (v .number) (v .index) 0) out ≡ refusedCall (w .number) (w .index) out
+unfolding refusedCall
+refused-by out e = ap (λ (x : Verdict). called (answer (x .number) (x .index) 0) out) e
+
+-- ---- what was read
+
+abbrev pub verdictIn : Opened → Verdict
+verdictIn o = verdict (o .number) (o .index)
+
+module _ (image : List ℕ) {o : Opened} (e : o ≡ loadOf image) where
+  pub loaded-verdict : verdictIn o ≡ checkImage image
+  unfolding loadOf
+  loaded-verdict = ap verdictIn e
+
+  pub loaded-state : o .number ≡ 0 → o .state ≡ stateOf image
+  unfolding loadOf
+  loaded-state z = ap (λ (x : Opened). x .state) e ∙ cond-true (stateOf image) blank (eq-eqb _ 0 (ap (λ (x : Opened). x .number) (sym e) ∙ z))
+
+  pub loaded-valid : o .number ≡ 0 → Valid (o .state)
+  unfolding loadOf
+  loaded-valid z =
+      subst Valid (sym (loaded-state z)) (load-valid image (ap (λ (x : Opened). x .number) (sym e) ∙ z))
+
+-- what was opened is valid
+pub opened-valid : (s : Setup) (own : ℕ) {o : Opened} → o ≡ openOf s own → o .number ≡ 0 → Valid (o .state)
+opened-valid s own {o} e z =
+    subst (λ (x : Opened). Valid (x .state)) (sym e) (open-valid s own (ap (λ (x : Opened). x .number) (sym e) ∙ z))
+
+-- the output has room for a state of n modules, or not
+pub room-is : (st : State) {k : State} (out : List ℕ) → k ≡ st → length out ≡ (4 * k .setup .n + 6) * 4 → roomFor st out ≡ true
+unfolding roomFor
+room-is st {k} out e l = eq-eqb (length out) _ (l ∙ ap (λ (x : State). (4 * x .setup .n + 6) * 4) e)
+
+pub room-not : (st : State) {k : State} (out : List ℕ) → k ≡ st → (length out ≡ (4 * k .setup .n + 6) * 4 → ⊥) → roomFor st out ≡ false
+unfolding roomFor
+room-not st {k} out e f = ne-eqb (length out) _ (λ l. f (l ∙ ap (λ (x : State). (4 * x .setup .n + 6) * 4) (sym e)))
+
+-- a step of a valid state is one of that state as it was read
+pub step-of : (st : State) {k : State} (read : List ℕ) (controller : ℕ) {t : Stepped} → k ≡ st → Valid k → t ≡ readStep k read controller
+    → t ≡ stepOf st read controller
+step-of st {k} read controller {t} e v h =
+    step-goes k read controller refl v h ∙ ap (λ (x : State). stepOf x read controller) e
+
+-- and leaves a valid one
+pub stepped-valid : (k : State) (read : List ℕ) (controller : ℕ) {t : Stepped} → Valid k → t ≡ readStep k read controller → t .number ≡ 0
+    → Valid (t .state)
+stepped-valid k read controller {t} v h z =
+    let e : t ≡ stepOf k read controller = step-goes k read controller refl v h in
+    subst (λ (x : Stepped). Valid (x .state)) (sym e) (step-valid k read controller (ap (λ (x : Stepped). x .number) (sym e) ∙ z))
+
+-- of the same setup
+pub stepped-setup : (k : State) (read : List ℕ) (controller : ℕ) {t : Stepped} → Valid k → t ≡ readStep k read controller → t .number ≡ 0
+    → t .state .setup .n ≡ k .setup .n
+unfolding acceptedStep afterRound
+stepped-setup k read controller {t} v h z =
+    let e : t ≡ stepOf k read controller = step-goes k read controller refl v h in
+    ap (λ (x : Stepped). x .state .setup .n) (e ∙ step-accepted k read controller (ap (λ (x : Stepped). x .number) (sym e) ∙ z) .1)
+
+-- ---- the word to put on the bus
+
+module _ (image : List ℕ) {o : Opened} (e : o ≡ loadOf image) where
+  out-by : {v : Verdict} {w : ℕ} → v ≡ checkImage image → w ≡ cond (isAccepted v) (handedOut (stateOf image)) 0
+      → _≡_ {A = Outgoing} (record { number = v .number; index = v .index; word = w }) (outgoingCall image)
+  unfolding outgoingCall
+  out-by {v} {w} h g =
+      ap₂ (λ (x : Verdict) (y : ℕ). record { number = x .number; index = x .index; word = y }) h
+      (g ∙ ap (λ (x : Verdict). cond (isAccepted x) (handedOut (stateOf image)) 0) h)
+
+  pub outgoing-refused : (o .number ≡ 0 → ⊥) → _≡_ {A = Outgoing} (record { number = o .number; index = o .index; word = 0 }) (outgoingCall image)
+  outgoing-refused f = out-by {v = verdictIn o} (loaded-verdict image e) (sym (cond-false _ _ (ne-eqb (o .number) 0 f)))
+
+  pub outgoing-made : {w : ℕ} → o .number ≡ 0 → w ≡ handedOut (o .state)
+      → _≡_ {A = Outgoing} (record { number = 0; index = 0; word = w }) (outgoingCall image)
+  outgoing-made z h =
+      let v : accepted ≡ checkImage image = sym (image-zero image (ap (λ (x : Verdict). x .number) (sym (loaded-verdict image e)) ∙ z)) in
+      out-by {v = accepted} v (h ∙ ap handedOut (loaded-state image e z))
+
+-- ---- the setup that was read
+
+abbrev pub setupVerdictIn : SetupRead → Verdict
+setupVerdictIn r = verdict (r .number) (r .index)
+
+module _ (bytes : List ℕ) {r : SetupRead} (e : r ≡ readSetup bytes) where
+  pub setup-verdict : setupVerdictIn r ≡ checkSetup bytes
+  unfolding readSetup
+  setup-verdict = ap setupVerdictIn e
+
+  pub setup-read : r .number ≡ 0 → r .setup ≡ setupOf bytes
+  unfolding readSetup
+  setup-read z = ap (λ (x : SetupRead). x .setup) e ∙ cond-true (setupOf bytes) blankSetup (eq-eqb _ 0 (ap (λ (x : SetupRead). x .number) (sym e) ∙ z))
+
+-- ---- opening
+
+module _ (setup : List ℕ) (own : ℕ) (out : List ℕ) {v : Verdict} (e : v ≡ checkSetup setup) where
+  pub open-bad-setup : (v .number ≡ 0 → ⊥) → called (answer (v .number) (v .index) 0) out ≡ openCall setup own out
+  unfolding openCall
+  open-bad-setup f = refused-by out e ∙ sym (cond-false _ _ (ap isAccepted (sym e) ∙ ne-eqb (v .number) 0 f))
+
+  module _ (z : v .number ≡ 0) {o : Opened} (h : o ≡ openOf (setupOf setup) own) where
+    inside : cond (eqb (openOf (setupOf setup) own .number) 0)
+        (cond (roomFor (openOf (setupOf setup) own .state) out) (wrote 0 (openOf (setupOf setup) own .state)) (refusedCall 9 0 out))
+        (refusedCall (openOf (setupOf setup) own .number) (openOf (setupOf setup) own .index) out)
+        ≡ openCall setup own out
+    unfolding openCall
+    inside = sym (cond-true _ _ (ap isAccepted (sym e) ∙ eq-eqb (v .number) 0 z))
+
+    pub open-refused-call : (o .number ≡ 0 → ⊥) → called (answer (o .number) (o .index) 0) out ≡ openCall setup own out
+    unfolding refusedCall
+    open-refused-call f =
+        ap (λ (x : Opened). called (answer (x .number) (x .index) 0) out) h
+        ∙ sym (cond-false _ _ (ap (λ (x : Opened). eqb (x .number) 0) (sym h) ∙ ne-eqb (o .number) 0 f)) ∙ inside
+
+    pub open-no-room : o .number ≡ 0 → roomFor (o .state) out ≡ false → called (answer 9 0 0) out ≡ openCall setup own out
+    unfolding refusedCall
+    open-no-room n f =
+        sym (cond-true _ _ (ap (λ (x : Opened). eqb (x .number) 0) (sym h) ∙ eq-eqb (o .number) 0 n)
+        ∙ cond-false _ _ (ap (λ (x : Opened). roomFor (x .state) out) (sym h) ∙ f)) ∙ inside
+
+    pub open-wrote : {r : Answer} {b : List ℕ} → r ≡ answer 0 0 0 → o .number ≡ 0 → roomFor (o .state) out ≡ true → b ≡ imageOf (o .state)
+        → called r b ≡ openCall setup own out
+    unfolding wrote
+    open-wrote q n t w =
+        ap₂ called q (w ∙ ap (λ (x : Opened). imageOf (x .state)) h)
+        ∙ sym (cond-true _ _ (ap (λ (x : Opened). eqb (x .number) 0) (sym h) ∙ eq-eqb (o .number) 0 n)
+        ∙ cond-true _ _ (ap (λ (x : Opened). roomFor (x .state) out) (sym h) ∙ t)) ∙ inside
+
+-- ---- an image that is checked
+
+module _ (image out : List ℕ) {v : Verdict} (e : v ≡ checkImage image) where
+  -- ---- saving
+
+  pub save-bad-image : (v .number ≡ 0 → ⊥) → called (answer (v .number) (v .index) 0) out ≡ saveCall image out
+  unfolding saveCall
+  save-bad-image f = refused-by out e ∙ sym (cond-false _ _ (ap isAccepted (sym e) ∙ ne-eqb (v .number) 0 f))
+
+  pub save-no-room : v .number ≡ 0 → roomFor (stateOf image) out ≡ false → called (answer 9 0 0) out ≡ saveCall image out
+  unfolding saveCall refusedCall
+  save-no-room z f = sym (cond-true _ _ (ap isAccepted (sym e) ∙ eq-eqb (v .number) 0 z) ∙ cond-false _ _ f)
+
+  pub save-wrote : {r : Answer} {b : List ℕ} → r ≡ answer 0 0 0 → v .number ≡ 0 → roomFor (stateOf image) out ≡ true → b ≡ imageOf (stateOf image)
+      → called r b ≡ saveCall image out
+  unfolding saveCall wrote
+  save-wrote q z t w =
+      ap₂ called q w ∙ sym (cond-true _ _ (ap isAccepted (sym e) ∙ eq-eqb (v .number) 0 z) ∙ cond-true _ _ t)
+
+  -- ---- step
+
+  module _ (read : List ℕ) (controller : ℕ) where
+    pub step-bad-image : (v .number ≡ 0 → ⊥) → called (answer (v .number) (v .index) 0) out ≡ stepCall image read controller out
+    unfolding stepCall
+    step-bad-image f = refused-by out e ∙ sym (cond-false _ _ (ap isAccepted (sym e) ∙ ne-eqb (v .number) 0 f))
+
+    pub step-no-room : v .number ≡ 0 → roomFor (stateOf image) out ≡ false → called (answer 9 0 0) out ≡ stepCall image read controller out
+    unfolding stepCall refusedCall
+    step-no-room z f = sym (cond-true _ _ (ap isAccepted (sym e) ∙ eq-eqb (v .number) 0 z) ∙ cond-false _ _ f)
+
+    module _ (z : v .number ≡ 0) (room : roomFor (stateOf image) out ≡ true) {t : Stepped} (h : t ≡ stepOf (stateOf image) read controller) where
+      within : cond (eqb (stepOf (stateOf image) read controller .number) 0)
+          (wrote (stepOf (stateOf image) read controller .health) (stepOf (stateOf image) read controller .state))
+          (refusedCall (stepOf (stateOf image) read controller .number) (stepOf (stateOf image) read controller .index) out)
+          ≡ stepCall image read controller out
+      unfolding stepCall
+      within = sym (cond-true _ _ (ap isAccepted (sym e) ∙ eq-eqb (v .number) 0 z) ∙ cond-true _ _ room)
+
+      pub step-refused-call : (t .number ≡ 0 → ⊥) → called (answer (t .number) (t .index) 0) out ≡ stepCall image read controller out
+      unfolding refusedCall
+      step-refused-call f =
+          ap (λ (x : Stepped). called (answer (x .number) (x .index) 0) out) h
+          ∙ sym (cond-false _ _ (ap (λ (x : Stepped). eqb (x .number) 0) (sym h) ∙ ne-eqb (t .number) 0 f)) ∙ within
+
+      pub step-wrote : {b : List ℕ} → t .number ≡ 0 → b ≡ imageOf (t .state) → called (answer 0 0 (t .health)) b ≡ stepCall image read controller out
+      unfolding wrote
+      step-wrote {b} n w =
+          ap₂ (λ (x : Stepped) (y : List ℕ). called (answer 0 0 (x .health)) y) h (w ∙ ap (λ (x : Stepped). imageOf (x .state)) h)
+          ∙ sym (cond-true _ _ (ap (λ (x : Stepped). eqb (x .number) 0) (sym h) ∙ eq-eqb (t .number) 0 n)) ∙ within

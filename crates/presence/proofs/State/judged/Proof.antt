@@ -1,0 +1,31 @@
+-- The parts are those of the rules, and N is at most 16.
+use native.Mathlib.Omega.{arith}
+use borrow.Author.Needs.{needs}
+use Rattle.presence.proofs.ValidLaws.{valid-fits}
+use Rattle.presence.proofs.RoundLaws.{judged-made}
+use Rattle.presence.proofs.State.judged.Statement.{statement}
+use Rattle.presence.proofs.State.judged.Tie as tie
+
+is-skewed-requires : tie.Need-is-skewed-requires
+is-skewed-requires c κs = valid-fits _ (c .before .before .pre) .setup .most
+
+place-requires : tie.Need-place-requires
+place-requires c κs = search needs
+
+aligned-requires : tie.Need-aligned-requires
+aligned-requires c κs = valid-fits _ (c .before .before .before .before .before .pre) .setup .most
+
+pick-requires : tie.Need-pick-requires
+pick-requires c κs = search needs
+
+judgement-requires : tie.Need-judgement-requires
+judgement-requires c κs = valid-fits _ (c .before .before .before .before .before .before .before .pre) .setup .most
+
+returns : tie.Need-returns
+returns c =
+    let s = c .before .before .before .before .before in
+    judged-made _ _ (s .is-skewed .ensures) (c .before .before .before .place .ensures) (c .before .before .aligned .ensures) (c .before .pick .ensures)
+    (c .judgement .ensures)
+
+pub judged-spec : {M : Type 1} → statement M
+judged-spec = tie.close (tie.spec is-skewed-requires place-requires aligned-requires pick-requires judgement-requires returns)

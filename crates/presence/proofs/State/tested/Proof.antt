@@ -1,0 +1,41 @@
+-- The round is judged, its word tested, and the answer put together.
+use native.Mathlib.Omega.{arith}
+use borrow.Author.Needs.{needs}
+use mathlib.Core.Path.{sym, _∙_}
+use Rattle.presence.proofs.ValidLaws.{valid-fits}
+use Rattle.presence.proofs.RoundLaws.{tested-accepted, tested-refused}
+use Rattle.presence.proofs.State.tested.Statement.{statement}
+use Rattle.presence.proofs.State.tested.Tie as tie
+
+judged-requires : tie.Need-judged-requires
+judged-requires c κs = search needs
+
+outgoing-requires : tie.Need-outgoing-requires
+outgoing-requires c κs = search needs
+
+word-heard-requires : tie.Need-word-heard-requires
+word-heard-requires c κs =
+    let f = valid-fits _ (c .before .before .before .pre) in
+    let s = f .setup in
+    omega arith
+
+after-requires : tie.Need-after-requires
+after-requires c κs = search needs
+
+returns : tie.Need-returns
+returns c =
+    let w = c .before .before .before in
+    let o = w .before in
+    tested-accepted _ _ (o .before .judged .ensures) (o .outgoing .ensures) (c .after .ensures) (sym (w .word-heard .ensures) ∙ c .before .before .if1 .taken)
+
+refused-requires : tie.Need-refused-requires
+refused-requires c κs = search needs
+
+returns-2 : tie.Need-returns-2
+returns-2 c =
+    let w = c .before .before in
+    let o = w .before in
+    tested-refused _ _ (o .before .judged .ensures) (o .outgoing .ensures) (c .refused .ensures) (sym (w .word-heard .ensures) ∙ c .before .if1 .left)
+
+pub tested-spec : {M : Type 1} → statement M
+tested-spec = tie.close (tie.spec judged-requires outgoing-requires word-heard-requires after-requires returns refused-requires returns-2)

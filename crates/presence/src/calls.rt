@@ -1,0 +1,130 @@
+// The calls from C: a state is its saved image, read from one slice and written to the output. A refused call writes nothing.
+use crate::Answer;
+use crate::Outgoing;
+use crate::State;
+use crate::check::check_image;
+use crate::save::save_words;
+ghost use mathlib.Core.Path.{_≡_};
+ghost use Rattle.presence.specs.Valid.{Valid};
+ghost use Rattle.presence.specs.Calls.{answer, called, checkCall, openCall, stepCall, saveCall, handedOut, outgoingCall};
+
+// An answer without health.
+pub fn refuse(number: u32, index: u32) -> Answer
+    ensures { λ r. ⌜ r ≡ answer number index 0 ⌝ }
+{
+    Answer {
+        number,
+        index,
+        health: 0,
+    }
+}
+
+// Numbers 1 to 6 of a setup.
+#[no_mangle]
+pub extern "C" fn presence_check_setup(bytes: &[u8]) -> Answer
+    ensures { λ r. ⌜ r ≡ checkCall (now (bytes .entry)) ⌝ }
+{
+    let v = setup::check::check(bytes);
+    refuse(v.number, v.index)
+}
+
+// Opens module `own` of a setup, and writes its image: 1 to 6, 7, 9.
+#[no_mangle]
+pub extern "C" fn presence_open(bytes: &[u8], own: u32, out: &mut [u8]) -> Answer
+    ensures { λ r. ⌜ called r (now (out .exit)) ≡ openCall (now (bytes .entry)) own (now (out .entry)) ⌝ }
+{
+    let read = setup::read::read(bytes);
+    if read.number != 0 {
+        return refuse(read.number, read.index);
+    }
+    let setup = read.setup;
+    let opened = State::open(setup, own as usize);
+    if opened.number != 0 {
+        return refuse(opened.number, opened.index);
+    }
+    let state = opened.state;
+    if out.len() != (4 * state.setup.n + 6) * 4 {
+        return refuse(9, 0);
+    }
+    save_words(state, out);
+    refuse(0, 0)
+}
+
+// One step, from image to image: 1 to 8, 9 for the read or the output, 10, 11.
+#[no_mangle]
+pub extern "C" fn presence_step(
+    image: &[u8],
+    read: &[u8],
+    controller: u32,
+    out: &mut [u8],
+) -> Answer
+    ensures { λ r. ⌜ called r (now (out .exit)) ≡ stepCall (now (image .entry)) (now (read .entry)) controller (now (out .entry)) ⌝ }
+{
+    let loaded = State::load(image);
+    if loaded.number != 0 {
+        return refuse(loaded.number, loaded.index);
+    }
+    let state = loaded.state;
+    if out.len() != (4 * state.setup.n + 6) * 4 {
+        return refuse(9, 0);
+    }
+    let t = state.stepped(read, controller);
+    if t.number != 0 {
+        return refuse(t.number, t.index);
+    }
+    let next = t.state;
+    save_words(next, out);
+    Answer {
+        number: 0,
+        index: 0,
+        health: t.health,
+    }
+}
+
+// Reads an image and writes it again: 1 to 8, 9.
+#[no_mangle]
+pub extern "C" fn presence_save(image: &[u8], out: &mut [u8]) -> Answer
+    ensures { λ r. ⌜ called r (now (out .exit)) ≡ saveCall (now (image .entry)) (now (out .entry)) ⌝ }
+{
+    let loaded = State::load(image);
+    if loaded.number != 0 {
+        return refuse(loaded.number, loaded.index);
+    }
+    let state = loaded.state;
+    if out.len() != (4 * state.setup.n + 6) * 4 {
+        return refuse(9, 0);
+    }
+    save_words(state, out);
+    refuse(0, 0)
+}
+
+impl State {
+    // The word handed out by the step or opening that left this state.
+    pub fn handed_out(self) -> u32
+        requires { ⌜ Valid self ⌝ }
+        ensures { λ r. ⌜ r ≡ handedOut self ⌝ }
+    {
+        rules::judge::outgoing(self.marked(), self.earlier, self.latest)
+    }
+}
+
+// The word to put on the bus, from an image: 1 to 8.
+#[no_mangle]
+pub extern "C" fn presence_outgoing(image: &[u8]) -> Outgoing
+    ensures { λ r. ⌜ r ≡ outgoingCall (now (image .entry)) ⌝ }
+{
+    let loaded = State::load(image);
+    if loaded.number != 0 {
+        return Outgoing {
+            number: loaded.number,
+            index: loaded.index,
+            word: 0,
+        };
+    }
+    let state = loaded.state;
+    Outgoing {
+        number: 0,
+        index: 0,
+        word: state.handed_out(),
+    }
+}

@@ -1,0 +1,88 @@
+// Opening a module from a setup and its own number.
+use crate::Opened;
+use crate::State;
+use rules::Counters;
+use rules::Reading;
+use setup::Setup;
+use words::array::filled;
+use words::bits::full_of;
+ghost use mathlib.Core.Path.{_≡_};
+ghost use Prim.Native.Nat.{_≤_};
+ghost use Rattle.presence.specs.Opening.{fresh, blank, openOf};
+
+impl State {
+    // A fresh module: all-ones syndromes and rows, all heard, zero counters, full view.
+    pub fn fresh(setup: Setup, own: usize) -> State
+        requires { ⌜ setup .n ≤ 16 ⌝ }
+        ensures { λ r. ⌜ r ≡ fresh setup own ⌝ }
+    {
+        let n = setup.n;
+        let full = full_of(n);
+        let zeros = [0u32; 16];
+        let rows = filled(n, full);
+        State {
+            setup,
+            own,
+            counters: Counters {
+                view: full,
+                penalty: zeros,
+                reward: zeros,
+            },
+            previous: Reading { heard: full, rows },
+            latest: full,
+            earlier: full,
+        }
+    }
+
+    // What is held where nothing was opened: all zeros. No step of it is accepted.
+    pub fn blank() -> State
+        ensures { λ r. ⌜ r ≡ blank ⌝ }
+    {
+        let setup = setup::read::blank();
+        let zeros = [0u32; 16];
+        State {
+            setup,
+            own: 0,
+            counters: Counters {
+                view: 0,
+                penalty: zeros,
+                reward: zeros,
+            },
+            previous: Reading {
+                heard: 0,
+                rows: zeros,
+            },
+            latest: 0,
+            earlier: 0,
+        }
+    }
+
+    // Opens module `own` of a setup: numbers 2 and 4 to 6 of the setup, then 7.
+    pub fn open(setup: Setup, own: usize) -> Opened
+        ensures { λ r. ⌜ r ≡ openOf setup own ⌝ }
+    {
+        let v = setup::fields::verdict(setup);
+        if v.number != 0 {
+            let state = State::blank();
+            return Opened {
+                number: v.number,
+                index: v.index,
+                state,
+            };
+        }
+        if (own < 1) | (setup.n < own) {
+            let state = State::blank();
+            return Opened {
+                number: 7,
+                index: 0,
+                state,
+            };
+        }
+        let state = State::fresh(setup, own);
+        Opened {
+            number: 0,
+            index: 0,
+            state,
+        }
+    }
+}

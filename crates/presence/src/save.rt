@@ -1,0 +1,154 @@
+// Writing a state as words.
+use crate::State;
+use crate::image_word::counter_word;
+use crate::image_word::own_word;
+use crate::image_word::row_word;
+use crate::image_word::syndrome_word;
+use setup::Verdict;
+use setup::check::answer;
+use setup::write::write_words;
+use words::bits::bit_at;
+use words::word::put_word;
+ghost use mathlib.Core.Path.{_≡_};
+ghost use mathlib.Core.List.{_++_};
+ghost use Prim.Native.Nat.{ℕ, _+_, _*_, _^_, _≤_, _<_};
+ghost use lib.ListN.{length, getD};
+ghost use Rattle.words.specs.Word.{wordBytes, bytesOf};
+ghost use Rattle.words.specs.Bits.{bit};
+ghost use Rattle.presence.specs.Valid.{Valid};
+ghost use Rattle.presence.specs.Image.{ownWord, rowWord, syndromeWord, counterWord, imageLength, imageOf, saveVerdict, savedOut};
+
+// Writes one word.
+pub fn save_word(w: u32, out: &mut [u8])
+    requires { ⌜ length (now out) ≡ 4 ⌝ }
+    ensures { λ _. ⌜ now (out .exit) ≡ wordBytes w ⌝ }
+{
+    put_word(out, 0, w);
+}
+
+// Writes the rows of the previous read.
+pub fn save_rows(n: usize, heard: u32, rows: [u32; 16], out: &mut [u8])
+    requires { ⌜ (n ≤ 16) × ((j : ℕ) → j < n → getD rows j 0 < 2 ^ 16) × (length (now out) ≡ n * 4) ⌝ }
+    ensures { λ _. ⌜ now (out .exit) ≡ bytesOf n (λ j. rowWord j (bit heard j) (getD rows j 0)) ⌝ }
+{
+    for j in 0..n {
+        let w = row_word(j, bit_at(heard, j), rows[j]);
+        put_word(out, j, w);
+    }
+}
+
+// Writes one counter of every module.
+pub fn save_counter(kind: u32, n: usize, values: [u32; 16], out: &mut [u8])
+    requires { ⌜ (kind ≤ 14) × (n ≤ 16) × ((j : ℕ) → j < n → getD values j 0 < 2 ^ 23) × (length (now out) ≡ n * 4) ⌝ }
+    ensures { λ _. ⌜ now (out .exit) ≡ bytesOf n (λ j. counterWord kind j (getD values j 0)) ⌝ }
+{
+    for j in 0..n {
+        let w = counter_word(kind, j, values[j]);
+        put_word(out, j, w);
+    }
+}
+
+// Writes the penalties and the rewards.
+pub fn save_counters(state: State, out: &mut [u8])
+    requires { ⌜ Valid state × (length (now out) ≡ state .setup .n * 8) ⌝ }
+    ensures { λ _. ⌜ now (out .exit)
+        ≡ bytesOf (state .setup .n) (λ j. counterWord 13 j (getD (state .counters .penalty) j 0))
+        ++ bytesOf (state .setup .n) (λ j. counterWord 14 j (getD (state .counters .reward) j 0)) ⌝ }
+{
+    let n = state.setup.n;
+    let counters = state.counters;
+    let penalty = counters.penalty;
+    let reward = counters.reward;
+    let k = n * 4;
+    save_counter(13, n, penalty, &mut out[..k]);
+    save_counter(14, n, reward, &mut out[k..]);
+}
+
+// Writes the syndrome before the latest, and what follows it.
+pub fn save_earlier(state: State, out: &mut [u8])
+    requires { ⌜ Valid state × (length (now out) ≡ 4 + state .setup .n * 8) ⌝ }
+    ensures { λ _. ⌜ now (out .exit)
+        ≡ wordBytes (syndromeWord (state .earlier))
+        ++ (bytesOf (state .setup .n) (λ j. counterWord 13 j (getD (state .counters .penalty) j 0))
+        ++ bytesOf (state .setup .n) (λ j. counterWord 14 j (getD (state .counters .reward) j 0))) ⌝ }
+{
+    let k: usize = 4;
+    let w = syndrome_word(state.earlier);
+    save_word(w, &mut out[..k]);
+    save_counters(state, &mut out[k..]);
+}
+
+// Writes the latest syndrome, and what follows it.
+pub fn save_latest(state: State, out: &mut [u8])
+    requires { ⌜ Valid state × (length (now out) ≡ 8 + state .setup .n * 8) ⌝ }
+    ensures { λ _. ⌜ now (out .exit)
+        ≡ wordBytes (syndromeWord (state .latest)) ++ (wordBytes (syndromeWord (state .earlier))
+        ++ (bytesOf (state .setup .n) (λ j. counterWord 13 j (getD (state .counters .penalty) j 0))
+        ++ bytesOf (state .setup .n) (λ j. counterWord 14 j (getD (state .counters .reward) j 0)))) ⌝ }
+{
+    let k: usize = 4;
+    let w = syndrome_word(state.latest);
+    save_word(w, &mut out[..k]);
+    save_earlier(state, &mut out[k..]);
+}
+
+// Writes the rows, and what follows them.
+pub fn save_previous(state: State, out: &mut [u8])
+    requires { ⌜ Valid state × (length (now out) ≡ 8 + state .setup .n * 12) ⌝ }
+    ensures { λ _. ⌜ now (out .exit)
+        ≡ bytesOf (state .setup .n) (λ j. rowWord j (bit (state .previous .heard) j) (getD (state .previous .rows) j 0))
+        ++ (wordBytes (syndromeWord (state .latest)) ++ (wordBytes (syndromeWord (state .earlier))
+        ++ (bytesOf (state .setup .n) (λ j. counterWord 13 j (getD (state .counters .penalty) j 0))
+        ++ bytesOf (state .setup .n) (λ j. counterWord 14 j (getD (state .counters .reward) j 0))))) ⌝ }
+{
+    let n = state.setup.n;
+    let previous = state.previous;
+    let rows = previous.rows;
+    let k = n * 4;
+    save_rows(n, previous.heard, rows, &mut out[..k]);
+    save_latest(state, &mut out[k..]);
+}
+
+// Writes the own number and the view, and what follows them.
+pub fn save_own(state: State, out: &mut [u8])
+    requires { ⌜ Valid state × (length (now out) ≡ 12 + state .setup .n * 12) ⌝ }
+    ensures { λ _. ⌜ now (out .exit)
+        ≡ wordBytes (ownWord (state .own) (state .counters .view))
+        ++ (bytesOf (state .setup .n) (λ j. rowWord j (bit (state .previous .heard) j) (getD (state .previous .rows) j 0))
+        ++ (wordBytes (syndromeWord (state .latest)) ++ (wordBytes (syndromeWord (state .earlier))
+        ++ (bytesOf (state .setup .n) (λ j. counterWord 13 j (getD (state .counters .penalty) j 0))
+        ++ bytesOf (state .setup .n) (λ j. counterWord 14 j (getD (state .counters .reward) j 0)))))) ⌝ }
+{
+    let k: usize = 4;
+    let w = own_word(state.own, state.counters.view);
+    save_word(w, &mut out[..k]);
+    save_previous(state, &mut out[k..]);
+}
+
+// Writes all words of a state.
+pub fn save_words(state: State, out: &mut [u8])
+    requires { ⌜ Valid state × (length (now out) ≡ imageLength (state .setup .n)) ⌝ }
+    ensures { λ _. ⌜ now (out .exit) ≡ imageOf state ⌝ }
+{
+    let setup = state.setup;
+    let k = (setup.n + 3) * 4;
+    write_words(setup, &mut out[..k]);
+    save_own(state, &mut out[k..]);
+}
+
+impl State {
+    // Saves a state, or refuses it and leaves the output as it was.
+    pub fn save(self, out: &mut [u8]) -> Verdict
+        ensures { λ r. ⌜ (r ≡ saveVerdict self (now (out .entry))) × (now (out .exit) ≡ savedOut self (now (out .entry))) ⌝ }
+    {
+        let v = self.verdict();
+        if v.number != 0 {
+            return v;
+        }
+        if out.len() != (4 * self.setup.n + 6) * 4 {
+            return answer(9, 0);
+        }
+        save_words(self, out);
+        answer(0, 0)
+    }
+}

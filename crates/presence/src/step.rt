@@ -1,0 +1,140 @@
+// One round at a module: rules 1 to 9 in their order.
+use crate::State;
+use crate::Stepped;
+use rules::Judgement;
+use rules::Reading;
+use words::bits::bit_at;
+use words::bits::pick;
+use words::bits::power;
+ghost use mathlib.Core.Path.{_≡_};
+ghost use Rattle.presence.specs.Valid.{Valid};
+ghost use Rattle.presence.specs.Step.{placeOf, markOf, ownSyndrome, judgementFor, outgoingFor, afterRound, refusedStep, testedStep, readStep, stepOf};
+
+impl State {
+    // The module's own read place.
+    pub fn place(self) -> u32
+        requires { ⌜ Valid self ⌝ }
+        ensures { λ r. ⌜ r ≡ placeOf self ⌝ }
+    {
+        let setup = self.setup;
+        let i = self.own - 1;
+        setup.places[i]
+    }
+
+    // Whether the module has the send mark.
+    pub fn marked(self) -> bool
+        requires { ⌜ Valid self ⌝ }
+        ensures { λ r. ⌜ r ≡ markOf self ⌝ }
+    {
+        let setup = self.setup;
+        let i = self.own - 1;
+        bit_at(setup.marks, i)
+    }
+
+    // Rules 1 and 3 to 6: what the module makes of this read.
+    pub fn judged(self, this: Reading) -> Judgement
+        requires { ⌜ Valid self ⌝ }
+        ensures { λ r. ⌜ r ≡ judgementFor self this ⌝ }
+    {
+        let setup = self.setup;
+        let n = setup.n;
+        let places = setup.places;
+        let skew = rules::lag::is_skewed(n, places);
+        let previous = self.previous;
+        let aligned = rules::align::aligned(n, skew, self.place(), previous, this);
+        let own = pick(skew, self.earlier, self.latest);
+        rules::judge::judgement(n, aligned, own)
+    }
+
+    // Rule 7: the word handed out.
+    pub fn outgoing(self, this: Reading, j: Judgement) -> u32
+        requires { ⌜ Valid self ⌝ }
+        requires { ⌜ j ≡ judgementFor self this ⌝ }
+        ensures { λ r. ⌜ r ≡ outgoingFor self this ⌝ }
+    {
+        rules::judge::outgoing(self.marked(), self.latest, j.syndrome)
+    }
+
+    // Rule 8, and what the next step needs.
+    pub fn after(self, this: Reading, j: Judgement) -> State
+        requires { ⌜ Valid self ⌝ }
+        requires { ⌜ j ≡ judgementFor self this ⌝ }
+        ensures { λ r. ⌜ r ≡ afterRound self this ⌝ }
+    {
+        let setup = self.setup;
+        let counters = self.counters;
+        let counted = rules::accounts::counters(setup, j.health, counters);
+        State {
+            setup,
+            own: self.own,
+            counters: counted,
+            previous: this,
+            latest: j.syndrome,
+            earlier: self.latest,
+        }
+    }
+
+    // A refusal leaves the state as it was.
+    pub fn refused(self, number: u32, index: u32) -> Stepped
+        ensures { λ r. ⌜ r ≡ refusedStep self number index ⌝ }
+    {
+        Stepped {
+            number,
+            index,
+            health: 0,
+            accusations: [0u32; 16],
+            word: 0,
+            state: self,
+        }
+    }
+
+    // A round, and rule 9: the outgoing word is tested.
+    pub fn tested(self, this: Reading) -> Stepped
+        requires { ⌜ Valid self ⌝ }
+        ensures { λ r. ⌜ r ≡ testedStep self this ⌝ }
+    {
+        let setup = self.setup;
+        let j = self.judged(this);
+        let word = self.outgoing(this, j);
+        if rules::hearing::word_heard(setup.n, word) {
+            let accusations = j.accusations;
+            let state = self.after(this, j);
+            return Stepped {
+                number: 0,
+                index: 0,
+                health: j.health,
+                accusations,
+                word,
+                state,
+            };
+        }
+        self.refused(11, 0)
+    }
+
+    // 9 for a read of other than N words, 10 for a controller bit at N or above, then the round.
+    pub fn stepped(self, read: &[u8], controller: u32) -> Stepped
+        requires { ⌜ Valid self ⌝ }
+        ensures { λ r. ⌜ r ≡ readStep self (now (read .entry)) controller ⌝ }
+    {
+        let setup = self.setup;
+        let n = setup.n;
+        if read.len() != n * 4 {
+            return self.refused(9, 0);
+        }
+        if power(n) <= controller {
+            return self.refused(10, 0);
+        }
+        self.tested(rules::hearing::reading(n, read, controller))
+    }
+
+    // One step of any state: one outside the limits is refused first.
+    pub fn step(self, read: &[u8], controller: u32) -> Stepped
+        ensures { λ r. ⌜ r ≡ stepOf self (now (read .entry)) controller ⌝ }
+    {
+        let v = self.verdict();
+        if v.number != 0 {
+            return self.refused(v.number, v.index);
+        }
+        self.stepped(read, controller)
+    }
+}

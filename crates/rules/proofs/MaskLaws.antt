@@ -1,0 +1,90 @@
+-- Bits of a conjunction, of a vector with one bit cleared, and of every fourth bit.
+use mathlib.Core.Path.{_≡_, refl, ap, ap₂, _∙_, sym}
+use mathlib.Core.Bool.{Bool, true, false, not, _&&_, Bool·beq, and-comm}
+use Prim.Native.Nat.{ℕ, zero, suc, _+_, _-_, _*_, _/_, _%_, _^_, _<_, _≤_}
+use native.Mathlib.Omega.{arith}
+use lib.Dec.{eqb}
+use lib.Bits.{bitAnd, and-shr, and-mod, and-block, and-mask, and-le-r}
+use lib.Pow.{shr-shr}
+use Rattle.words.specs.Bits.{bit, b2n, pack}
+use Rattle.words.specs.Count.{all}
+use Rattle.words.proofs.Truth.{beq-eq}
+use Rattle.words.proofs.CountLaws.{all-at}
+use Rattle.words.proofs.BitLaws.{b2n-bit, bit-pack, bit-ext, pack-lt}
+use Rattle.rules.specs.Mask.{without}
+use Rattle.rules.specs.Lanes.{laneOf}
+
+and-one : (x y : ℕ) → x < 2 → y < 2 → eqb (bitAnd x y) 1 ≡ eqb x 1 && eqb y 1
+and-one zero zero h k = refl
+and-one zero (suc zero) h k = refl
+and-one (suc zero) zero h k = refl
+and-one (suc zero) (suc zero) h k = refl
+and-one zero (suc (suc y)) h k = absurd (omega arith)
+and-one (suc zero) (suc (suc y)) h k = absurd (omega arith)
+and-one (suc (suc x)) y h k = absurd (omega arith)
+
+-- a bit of a conjunction
+pub bit-and : (a b h : ℕ) → bit (bitAnd a b) h ≡ bit a h && bit b h
+unfolding bit
+bit-and a b h =
+    ap (λ (x : ℕ). eqb (x % 2) 1) (and-shr a b h)
+    ∙ ap (λ (x : ℕ). eqb x 1) (and-mod (a / 2 ^ h) (b / 2 ^ h) 1)
+    ∙ and-one (a / 2 ^ h % 2) (b / 2 ^ h % 2) (omega arith) (omega arith)
+
+-- the mask that clears bit j has every other bit
+mask-bit : (j h : ℕ) → j < 32 → h < 32 → bit (2 ^ 32 - 1 - 2 ^ j) h ≡ not (eqb h j)
+unfolding bit all
+mask-bit j h lj lh =
+    beq-eq (bit (2 ^ 32 - 1 - 2 ^ j) h) (not (eqb h j))
+    (all-at 32 (λ k. Bool·beq (bit (2 ^ 32 - 1 - 2 ^ j) k) (not (eqb k j)))
+    (all-at 32 (λ i. all 32 (λ k. Bool·beq (bit (2 ^ 32 - 1 - 2 ^ i) k) (not (eqb k i)))) refl j lj) h lh)
+
+-- and so it clears bit j
+pub masked : (v j : ℕ) → j < 32 → bitAnd v (2 ^ 32 - 1 - 2 ^ j) ≡ without v j
+unfolding without
+masked v j h =
+    let mask = 2 ^ 32 - 1 - 2 ^ j in
+    bit-ext 32 (bitAnd v mask) (pack 32 (λ k. not (eqb k j) && bit v k)) (omega (arith, and-le-r v mask)) (pack-lt 32 _)
+    (λ k l. bit-and v mask k ∙ and-comm (bit v k) (bit mask k) ∙ ap (λ (b : Bool). b && bit v k) (mask-bit j k h l)
+    ∙ sym (bit-pack 32 (λ i. not (eqb i j) && bit v i) k l))
+
+-- a bit of what is left
+pub without-bit : (v j h : ℕ) → h < 32 → bit (without v j) h ≡ not (eqb h j) && bit v h
+unfolding without
+without-bit v j h l = bit-pack 32 (λ i. not (eqb i j) && bit v i) h l
+
+-- every fourth bit of x
+and-fourth : (x : ℕ) → bitAnd x 4369 ≡ x % 2 + x / 16 % 2 * 16 + x / 256 % 2 * 256 + x / 4096 % 2 * 4096
+and-fourth x =
+    let p : x / 16 / 16 ≡ x / 256 = omega arith in
+    let q : x / 16 / 16 / 16 ≡ x / 4096 = omega arith in
+    let r : x / 16 / 16 / 16 % 2 ≡ x / 4096 % 2 = rw q in
+    let t : x / 16 / 16 % 2 ≡ x / 256 % 2 = rw p in
+    step x 273 ∙ ap (λ (y : ℕ). y * 16 + x % 2) (step (x / 16) 17) ∙ ap (λ (y : ℕ). (y * 16 + x / 16 % 2) * 16 + x % 2) (step (x / 16 / 16) 1)
+    ∙ ap (λ (y : ℕ). ((y * 16 + x / 16 / 16 % 2) * 16 + x / 16 % 2) * 16 + x % 2) (and-mask (x / 16 / 16 / 16) 1)
+    ∙ ap₂ (λ (y z : ℕ). ((y * 16 + z) * 16 + x / 16 % 2) * 16 + x % 2) r t ∙ sum (x % 2) (x / 16 % 2) (x / 256 % 2) (x / 4096 % 2)
+  where
+    sum : (a b c d : ℕ) → ((d * 16 + c) * 16 + b) * 16 + a ≡ a + b * 16 + c * 256 + d * 4096
+    sum a b c d = omega arith
+
+    step : (y m : ℕ) → bitAnd y (m * 16 + 1) ≡ bitAnd (y / 16) m * 16 + y % 2
+    step y m =
+        let e : y ≡ y / 16 * 2 ^ 4 + y % 16 = omega arith in
+        let f : y % 16 % 2 ≡ y % 2 = omega arith in
+        ap (λ (z : ℕ). bitAnd z (m * 16 + 1)) e ∙ and-block 4 (y / 16) m (y % 16) 1 (omega arith) (omega arith)
+        ∙ ap (λ (z : ℕ). bitAnd (y / 16) m * 16 + z) (and-mask (y % 16) 1 ∙ f)
+
+-- a lane of a row
+pub lane-bits : (row k : ℕ) → bitAnd (row / 2 ^ k) 4369 ≡ laneOf k (λ j. b2n (bit row j))
+unfolding laneOf
+lane-bits row k =
+    and-fourth (row / 2 ^ k)
+    ∙ rw (
+      b2n-bit row k,
+      b2n-bit row (k + 4),
+      b2n-bit row (k + 8),
+      b2n-bit row (k + 12),
+      ← (shr-shr row k 4),
+      ← (shr-shr row k 8),
+      ← (shr-shr row k 12),
+    )

@@ -1,0 +1,30 @@
+-- The accounts of one module: read field by field they are in range, and rule 8 gives the account of the definition.
+use mathlib.Core.Path.{_≡_}
+use mathlib.Core.Bool.{Bool}
+use Prim.Native.Nat.{ℕ, _≤_}
+use native.Mathlib.Omega.{arith}
+use lib.ListN.{getD}
+use Rattle.words.specs.Bits.{bit}
+use Rattle.setup.specs.declared.Setup.{Setup}
+use Rattle.rules.specs.declared.Account.{Account}
+use Rattle.rules.specs.declared.Counters.{Counters}
+use Rattle.rules.specs.Account.{accounted, accountAt, accountedAt}
+use Rattle.rules.specs.Range.{InRange}
+use Rattle.rules.proofs.AccountLaws.{AccountFits}
+
+-- an account as rounds from opening on leave it is in range, by the limits of an accepted setup
+pub fits-in-range : (p r k : ℕ) (a : Account) → p ≤ 1000000 → r ≤ 8000000 → k ≤ 100000 → AccountFits p r k a → InRange k a
+fits-in-range p r k a hp hr hk f =
+    record { penalty = omega (arith, f .penalty); charge = hk; reward = omega (arith, f .reward) }
+
+module _ (c : Counters) (j : ℕ) {b : Bool} (e : b ≡ bit (c .view) j) where
+  pub range-by : {k : ℕ} → InRange k (accountAt c j)
+      → InRange k (record { present = b; penalty = getD (c .penalty) j 0; reward = getD (c .reward) j 0 })
+  unfolding accountAt
+  range-by f = record { penalty = f .penalty; charge = f .charge; reward = f .reward }
+
+  pub accounted-by : {h : Bool} {x : Account} (s : Setup) (health : ℕ) → h ≡ bit health j
+      → x ≡ accounted (s .p) (s .r) (getD (s .criticality) j 0) h (record { present = b; penalty = getD (c .penalty) j 0; reward = getD (c .reward) j 0 })
+      → x ≡ accountedAt s health c j
+  unfolding accountedAt accountAt
+  accounted-by s health q r = rw (e, q) at r

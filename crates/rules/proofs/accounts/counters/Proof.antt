@@ -1,0 +1,125 @@
+-- After j turns the view and both arrays hold the accounts below j.
+use Prim.Native.Nat.{_-_, _≤_, _<_}
+use mathlib.Core.Path.{_≡_, refl, ap}
+use native.Mathlib.Omega.{arith}
+use Rattle.words.specs.Bits.{pack}
+use Rattle.words.specs.Array.{array}
+use Rattle.words.proofs.BitLaws.{pack-step, pack-lt}
+use Rattle.words.proofs.ArrayLaws.{array-step}
+use Rattle.rules.specs.declared.Account.{Account}
+use Rattle.rules.specs.Account.{accountedAt, countersOf}
+use Rattle.rules.proofs.RangeLaws.{range-by, accounted-by}
+use Rattle.rules.proofs.accounts.counters.Statement.{statement}
+use Rattle.rules.proofs.accounts.counters.Tie as tie
+
+abbrev Inv-loop : tie.InvT-loop
+Inv-loop health setup c n view₀ penalty₀ reward₀ j₀ view penalty reward j = (n ≡ setup .n) × (j ≤ n) × (view ≡ pack j (λ k. accountedAt setup health c k .present))
+    × (penalty ≡ array j (λ k. accountedAt setup health c k .penalty))
+    × (reward ≡ array j (λ k. accountedAt setup health c k .reward))
+
+abbrev μ-loop : tie.MeasureT-loop
+μ-loop health setup c n view₀ penalty₀ reward₀ j₀ view penalty reward j = n - j
+
+loop-holds : tie.Need-loop-holds Inv-loop μ-loop
+unfolding pack array
+loop-holds c = (refl, omega arith, refl, refl, refl)
+
+bit-at-requires : tie.Need-bit-at-requires Inv-loop μ-loop
+bit-at-requires c κs = omega arith
+
+mul-t17 : tie.Need-mul-t17 Inv-loop μ-loop
+mul-t17 c = omega arith
+
+element-copy-out-t20 : tie.Need-element-copy-out-t20 Inv-loop μ-loop
+element-copy-out-t20 c = omega arith
+
+mul-accounted : tie.Need-mul-accounted Inv-loop μ-loop
+mul-accounted c = omega arith
+
+element-copy-out-accounted : tie.Need-element-copy-out-accounted Inv-loop μ-loop
+element-copy-out-accounted c = omega arith
+
+mul-criticality : tie.Need-mul-criticality Inv-loop μ-loop
+mul-criticality c = omega arith
+
+element-copy-out-criticality : tie.Need-element-copy-out-criticality Inv-loop μ-loop
+element-copy-out-criticality c = omega arith
+
+bit-at-requires-2 : tie.Need-bit-at-requires-2 Inv-loop μ-loop
+bit-at-requires-2 c κs = omega arith
+
+accounted-requires : tie.Need-accounted-requires Inv-loop μ-loop
+accounted-requires c κs =
+    let g = c .before .before .before .before .before .before in
+    let a = g .before in
+    let l : g .loop .j < a .args .t1 .n = omega arith in
+    range-by (a .args .t3) (g .loop .j) (c .before .before .before .before .bit-at .ensures) (a .pre .1 (g .loop .j) l)
+
+with-bit-requires : tie.Need-with-bit-requires Inv-loop μ-loop
+with-bit-requires c κs = (rw (c .before .before .before .before .before .before .before .loop .inv .2) (pack-lt _ _), omega arith)
+
+mul-penalty : tie.Need-mul-penalty Inv-loop μ-loop
+mul-penalty c = omega arith
+
+array-write-penalty : tie.Need-array-write-penalty Inv-loop μ-loop
+array-write-penalty c = omega arith
+
+mul-reward : tie.Need-mul-reward Inv-loop μ-loop
+mul-reward c = omega arith
+
+array-write-reward : tie.Need-array-write-reward Inv-loop μ-loop
+array-write-reward c = omega arith
+
+add-j : tie.Need-add-j Inv-loop μ-loop
+add-j c = omega arith
+
+loop-less : tie.Need-loop-less Inv-loop μ-loop
+loop-less c = omega arith
+
+loop-again : tie.Need-loop-again Inv-loop μ-loop
+loop-again c =
+    let g = c .before .before .before .before .before .before .before .before in
+    let a = g .before .args in
+    let i = g .loop .inv in
+    let q : c .before .accounted .result ≡ accountedAt (a .t1) (a .health) (a .t3) (g .loop .j) =
+    accounted-by (a .t3) (g .loop .j) (c .before .before .before .before .before .before .bit-at .ensures) (a .t1) (a .health)
+    (c .before .before .bit-at2 .ensures) (c .before .accounted .ensures)
+    in (
+      i .0,
+      omega arith,
+      pack-step _ _ (i .2) (ap (λ (x : Account). x .present) q) (c .with-bit .ensures),
+      array-step _ _ (i .3) (ap (λ (x : Account). x .penalty) q),
+      array-step _ _ (i .4) (ap (λ (x : Account). x .reward) q),
+    )
+
+returns : tie.Need-returns Inv-loop μ-loop
+unfolding countersOf
+returns c =
+    let e : c .before .loop .j ≡ c .before .before .args .t1 .n = omega arith in
+    cc
+
+pub counters-spec : {M : Type 1} → statement M
+counters-spec =
+    tie.close
+    (tie.spec
+    Inv-loop
+    μ-loop
+    loop-holds
+    bit-at-requires
+    mul-t17
+    element-copy-out-t20
+    mul-accounted
+    element-copy-out-accounted
+    mul-criticality
+    element-copy-out-criticality
+    bit-at-requires-2
+    accounted-requires
+    with-bit-requires
+    mul-penalty
+    array-write-penalty
+    mul-reward
+    array-write-reward
+    add-j
+    loop-less
+    loop-again
+    returns)

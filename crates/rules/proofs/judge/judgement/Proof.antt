@@ -1,0 +1,22 @@
+-- The three fields are those of `judgementOf`.
+use borrow.Author.Needs.{needs}
+use Rattle.rules.specs.Syndrome.{judgementOf}
+use Rattle.rules.proofs.judge.judgement.Statement.{statement}
+use Rattle.rules.proofs.judge.judgement.Tie as tie
+
+health-requires : tie.Need-health-requires
+health-requires c κs = search needs
+
+accusations-requires : tie.Need-accusations-requires
+accusations-requires c κs = search needs
+
+syndrome-requires : tie.Need-syndrome-requires
+syndrome-requires c κs = search needs
+
+returns : tie.Need-returns
+unfolding judgementOf
+returns c = cc
+
+pub judgement-spec : {M : Type 1} → statement M
+judgement-spec =
+    tie.close (tie.spec health-requires accusations-requires syndrome-requires returns)

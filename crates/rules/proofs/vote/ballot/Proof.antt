@@ -1,0 +1,21 @@
+-- The row without bit l where l is present, else 0.
+use borrow.Author.Needs.{needs}
+use Rattle.rules.specs.Lanes.{ballotOf}
+use Rattle.rules.proofs.vote.ballot.Statement.{statement}
+use Rattle.rules.proofs.vote.ballot.Tie as tie
+
+bit-at-requires : tie.Need-bit-at-requires
+bit-at-requires c κs = search needs
+
+without-requires : tie.Need-without-requires
+without-requires c κs = search needs
+
+pick-requires : tie.Need-pick-requires
+pick-requires c κs = search needs
+
+returns : tie.Need-returns
+unfolding ballotOf
+returns c = cc
+
+pub ballot-spec : {M : Type 1} → statement M
+ballot-spec = tie.close (tie.spec bit-at-requires without-requires pick-requires returns)

@@ -1,0 +1,30 @@
+-- The row of j is taken off the rows present, where it is one of them.
+use mathlib.Core.Path.{ap}
+use native.Mathlib.Omega.{arith}
+use borrow.Author.Needs.{needs}
+use Rattle.words.specs.Bits.{b2n}
+use Rattle.rules.proofs.vote.verdict.Statement.{statement}
+use Rattle.rules.proofs.vote.verdict.Tie as tie
+
+bit-at-requires : tie.Need-bit-at-requires
+bit-at-requires c κs = search needs
+
+flag-requires : tie.Need-flag-requires
+flag-requires c κs = search needs
+
+sub-decide : tie.Need-sub-decide
+sub-decide c = omega (arith, ap b2n (c .before .bit-at .ensures))
+
+bit-at-requires-2 : tie.Need-bit-at-requires-2
+bit-at-requires-2 c κs = search needs
+
+decide-requires : tie.Need-decide-requires
+decide-requires c κs = omega (arith, ap b2n (c .before .before .bit-at .ensures))
+
+returns : tie.Need-returns
+returns c = cc
+
+pub verdict-spec : {M : Type 1} → statement M
+verdict-spec =
+    tie.close
+    (tie.spec bit-at-requires flag-requires sub-decide bit-at-requires-2 decide-requires returns)

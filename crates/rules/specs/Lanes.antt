@@ -1,0 +1,40 @@
+-- Counting the votes on all modules at once: sixteen counts of at most 15, in four lanes of four.
+use Prim.Native.Nat.{ℕ, _+_, _-_, _*_, _/_, _%_, _^_}
+use mathlib.Core.Bool.{Bool, cond, not, _&&_}
+use mathlib.Core.List.{List, [], _∷_}
+use lib.ListN.{getD}
+use lib.Dec.{eqb}
+use Rattle.words.specs.Bits.{bit, b2n}
+use Rattle.words.specs.Count.{count}
+use Rattle.rules.specs.Mask.{without}
+use Rattle.rules.specs.declared.vote.Tally.{Tally}
+
+-- the votes of l: bit j is its vote on j, 0 where it has none
+unfoldable pub ballotOf : ℕ → ℕ → ℕ → ℕ
+ballotOf voters row l = cond (bit voters l) (without row l) 0
+
+-- how many of n modules vote 1 on j
+unfoldable pub onesOn : ℕ → ℕ → List ℕ → ℕ → ℕ
+onesOn n voters rows j = count n (λ l. (not (eqb l j) && bit voters l) && bit (getD rows l 0) j)
+
+-- numbers k, k + 4, k + 8 and k + 12, four bits for each
+unfoldable pub laneOf : ℕ → (ℕ → ℕ) → ℕ
+laneOf k f = f k + f (k + 4) * 2 ^ 4 + f (k + 8) * 2 ^ 8 + f (k + 12) * 2 ^ 12
+
+-- number j in its lane
+abbrev pub columnIn : ℕ → ℕ → ℕ
+columnIn lane j = lane / 2 ^ (j / 4 * 4) % 16
+
+-- number j of four lanes
+unfoldable pub columnOf : List ℕ → ℕ → ℕ
+columnOf lanes j = columnIn (getD lanes (j % 4) 0) j
+
+-- the rows present without that of j
+abbrev pub votesBut : ℕ → ℕ → ℕ → ℕ
+votesBut present voters j = present - b2n (bit voters j)
+
+-- the counts of n rows
+unfoldable pub tallyOf : ℕ → ℕ → List ℕ → Tally
+tallyOf n voters rows =
+    let ones = onesOn n voters rows in
+    record { present = count n (bit voters); ones = laneOf 0 ones ∷ laneOf 1 ones ∷ laneOf 2 ones ∷ laneOf 3 ones ∷ [] }

@@ -1,0 +1,9 @@
+-- A vector without one of its bits.
+use Prim.Native.Nat.{ℕ}
+use mathlib.Core.Bool.{not, _&&_}
+use lib.Dec.{eqb}
+use Rattle.words.specs.Bits.{bit, pack}
+
+-- the 32 bits of v with bit j cleared
+unfoldable pub without : ℕ → ℕ → ℕ
+without v j = pack 32 (λ h. not (eqb h j) && bit v h)

@@ -1,0 +1,8 @@
+-- The bounds within which rule 8 adds: every accepted setup and every state that it leads to keeps them.
+use Prim.Native.Nat.{ℕ, _≤_, _<_}
+use Rattle.rules.specs.declared.Account.{Account}
+
+pub record InRange (criticality : ℕ) (a : Account) : Type 0 where
+  pub penalty : a .penalty ≤ 1100000
+  pub charge : criticality ≤ 100000
+  pub reward : a .reward < 8000000

@@ -1,0 +1,55 @@
+// Rules 4 to 7 together: what a module makes of the aligned rows, and the word that it hands out.
+use crate::Judgement;
+use crate::Reading;
+use crate::accuse::accusations;
+use crate::accuse::clean;
+use crate::hearing::bus_word;
+use crate::vote::health;
+use words::bits::bit_at;
+use words::bits::pick;
+use words::bits::with_bit;
+ghost use mathlib.Core.Path.{_≡_};
+ghost use Prim.Native.Nat.{_^_, _≤_, _<_};
+ghost use Rattle.rules.specs.Accusation.{accusationsOf};
+ghost use Rattle.rules.specs.Syndrome.{syndromeOf, votersOf, judgementOf, outgoingOf};
+
+// Rule 6, from the comparison of rows and health vector: a caller that leaves the accusations unused does not pay for them.
+pub fn syndrome(n: usize, aligned: Reading, health: u32) -> u32
+    requires { ⌜ n ≤ 16 ⌝ }
+    ensures { λ r. ⌜ r ≡ syndromeOf n (aligned .heard) (accusationsOf n (votersOf aligned) (aligned .rows) health) ⌝ }
+{
+    let heard = aligned.heard;
+    let rows = aligned.rows;
+    let voters = heard;
+    let mut acc: u32 = 0;
+    for j in 0..n {
+        let good = bit_at(heard, j) & clean(n, voters, rows[j], health, j);
+        acc = with_bit(acc, j, good);
+    }
+    acc
+}
+
+// Rules 4 to 6. An empty vote falls back on `own`.
+pub fn judgement(n: usize, aligned: Reading, own: u32) -> Judgement
+    requires { ⌜ n ≤ 16 ⌝ }
+    ensures { λ r. ⌜ r ≡ judgementOf n aligned own ⌝ }
+{
+    let voters = aligned.heard;
+    let rows = aligned.rows;
+    let health = health(n, voters, rows, own);
+    let accusations = accusations(n, voters, rows, health);
+    let syndrome = syndrome(n, aligned, health);
+    Judgement {
+        health,
+        accusations,
+        syndrome,
+    }
+}
+
+// Rule 7: the word handed out.
+pub fn outgoing(mark: bool, latest: u32, syndrome: u32) -> u32
+    requires { ⌜ (latest < 2 ^ 28) × (syndrome < 2 ^ 28) ⌝ }
+    ensures { λ r. ⌜ r ≡ outgoingOf mark latest syndrome ⌝ }
+{
+    bus_word(pick(mark, latest, syndrome))
+}

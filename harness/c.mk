@@ -1,0 +1,64 @@
+# c.mk - builds and runs the C side.
+#
+#   make -f c.mk PRESENCE_LIB=folder check check-asan firmware
+#   make -f c.mk PRESENCE_LIB=folder measure
+#
+# PRESENCE_LIB   folder of libpresence.a
+# PRESENCE_LIBS  further linker arguments that the archive needs, if any
+# CALLS          file of calls
+# C_BUILD        folder for what is built here
+
+PRESENCE_LIB ?= target/release
+PRESENCE_LIBS ?=
+CALLS ?= harness/data/calls.txt
+C_BUILD ?= build/c
+
+C_FLAGS = -std=c99 -Wall -Wextra -Werror -Iinclude
+C_LINK = -L$(PRESENCE_LIB) -lpresence $(PRESENCE_LIBS)
+C_ARCHIVE = $(PRESENCE_LIB)/libpresence.a
+C_CHECK = harness/c/check.c harness/c/plain.c
+C_HEADERS = include/presence.h harness/c/plain.h
+
+.PHONY: check check-asan check-valgrind header firmware measure c-all
+
+c-all: header check check-asan firmware
+
+# Every function against document 01 and plain.c.
+check: $(C_BUILD)/check
+	$(C_BUILD)/check $(CALLS)
+
+# The same with address and undefined-behaviour sanitizers in check and plain.c.
+check-asan: $(C_BUILD)/check-asan
+	$(C_BUILD)/check-asan $(CALLS)
+
+# The same under memcheck, which sees the library's own reads and writes too.
+check-valgrind: $(C_BUILD)/check
+	valgrind -q --error-exitcode=9 $(C_BUILD)/check $(CALLS)
+
+# The header alone, as C99 and as C++.
+header: | $(C_BUILD)
+	printf '#include "presence.h"\n#include "presence.h"\nextern int x;\n' > $(C_BUILD)/header.c
+	gcc $(C_FLAGS) -pedantic -Wstrict-prototypes -c $(C_BUILD)/header.c -o $(C_BUILD)/header.o
+	g++ -x c++ -std=c++98 -Wall -Wextra -Werror -Iinclude -c $(C_BUILD)/header.c -o $(C_BUILD)/header.o
+
+# The example; its output must be the stored one.
+firmware: $(C_BUILD)/card
+	$(C_BUILD)/card > $(C_BUILD)/card.out
+	diff examples/firmware/expected.txt $(C_BUILD)/card.out
+	@echo firmware example: output as expected
+
+# Instructions, stack and code size of a step against plain.c.
+measure: $(C_ARCHIVE)
+	python3 harness/measure/measure.py --lib $(PRESENCE_LIB) --libs="$(PRESENCE_LIBS)" --build $(C_BUILD)/measure
+
+$(C_BUILD):
+	mkdir -p $(C_BUILD)
+
+$(C_BUILD)/check: $(C_CHECK) $(C_HEADERS) $(C_ARCHIVE) | $(C_BUILD)
+	gcc $(C_FLAGS) -O2 $(C_CHECK) $(C_LINK) -o $@
+
+$(C_BUILD)/check-asan: $(C_CHECK) $(C_HEADERS) $(C_ARCHIVE) | $(C_BUILD)
+	gcc $(C_FLAGS) -O1 -g -fsanitize=address,undefined -fno-sanitize-recover=all $(C_CHECK) $(C_LINK) -o $@
+
+$(C_BUILD)/card: examples/firmware/card.c $(C_HEADERS) $(C_ARCHIVE) | $(C_BUILD)
+	gcc $(C_FLAGS) -O2 examples/firmware/card.c $(C_LINK) -o $@

@@ -1,0 +1,328 @@
+//! Compares library and model on random calls of all functions.
+//! Usage: differential ROUNDS SEED
+//!
+//! A round is one of: a setup with openings, a state with its calls, a damaged state, any bytes,
+//! or a life of many steps in which each output image is the next input. All calls follow from
+//! the seed. The first difference is shown with all arguments and ends the run.
+
+use harness::call::{Call, Lent, Reply};
+use harness::ffi::Library;
+use harness::hex::to_hex;
+use harness::model::calls::Model;
+use harness::model::setup::Setup;
+use harness::model::state::{image_length, image_words, State};
+use harness::model::words::{bytes_of, words_of};
+use harness::random::damage::{any_bytes, damaged};
+use harness::random::reads::{read, spoiled_controller};
+use harness::random::scripts::{script, script_bytes, WAYS};
+use harness::random::setups::{lively_setup, setup};
+use harness::random::states::{reached_state, state};
+use harness::random::Random;
+use std::collections::BTreeMap;
+use std::env;
+use std::process::{exit, ExitCode};
+
+struct Comparison {
+    random: Random,
+    seed: u64,
+    calls: u64,
+    /// How often each number was answered.
+    numbers: BTreeMap<u32, u64>,
+}
+
+fn main() -> ExitCode {
+    let arguments: Vec<String> = env::args().collect();
+    let numbers: Option<Vec<u64>> = arguments[1..].iter().map(|text| text.parse().ok()).collect();
+    let (rounds, seed) = match numbers.as_deref() {
+        Some([rounds, seed]) => (*rounds, *seed),
+        _ => {
+            eprintln!("usage: differential ROUNDS SEED");
+            return ExitCode::from(2);
+        }
+    };
+    let mut comparison = Comparison { random: Random::new(seed), seed, calls: 0, numbers: BTreeMap::new() };
+    for _ in 0..rounds {
+        comparison.round();
+    }
+    let counts: Vec<String> =
+        comparison.numbers.iter().map(|(number, count)| format!("{number}:{count}")).collect();
+    println!("answers by number {}", counts.join(" "));
+    println!("differential: {} calls, seed {seed}: all equal", comparison.calls);
+    ExitCode::SUCCESS
+}
+
+impl Comparison {
+    fn round(&mut self) {
+        match self.random.below(10) {
+            0 => self.setups(),
+            1 => self.damaged_setups(),
+            2 => self.states(),
+            3 | 4 => self.damaged_states(),
+            5 => self.any_bytes(),
+            6 => self.wrong_lengths(),
+            _ => self.life(),
+        }
+    }
+
+    fn setup(&mut self) -> Setup {
+        if self.random.chance(1, 2) {
+            lively_setup(&mut self.random)
+        } else {
+            setup(&mut self.random)
+        }
+    }
+
+    fn state(&mut self, setup: &Setup) -> State {
+        if self.random.chance(1, 3) {
+            reached_state(&mut self.random, setup)
+        } else {
+            state(&mut self.random, setup)
+        }
+    }
+
+    /// An accepted setup: checked, and opened with numbers in and out of range.
+    fn setups(&mut self) {
+        let setup = self.setup();
+        let bytes = bytes_of(&setup.words());
+        self.compare(Call::CheckSetup { setup: bytes.clone() });
+        for own in 1..=setup.n as u32 {
+            self.compare(Call::Open { setup: bytes.clone(), own, out_len: 4 * image_length(setup.n) });
+        }
+        for _ in 0..3 {
+            let own = self.own_number(setup.n);
+            let out_len = self.out_length(setup.n);
+            self.compare(Call::Open { setup: bytes.clone(), own, out_len });
+        }
+    }
+
+    fn damaged_setups(&mut self) {
+        let setup = self.setup();
+        for _ in 0..8 {
+            let bytes = if self.random.chance(1, 12) {
+                bytes_of(&harness::script::check::words(&script(&mut self.random)))
+            } else {
+                damaged(&mut self.random, &setup.words())
+            };
+            self.compare(Call::CheckSetup { setup: bytes.clone() });
+            let own = self.own_number(setup.n);
+            let out_len = self.out_length(setup.n);
+            self.compare(Call::Open { setup: bytes, own, out_len });
+        }
+    }
+
+    /// An accepted state: saved, its outgoing word, and several steps from it.
+    fn states(&mut self) {
+        let setup = self.setup();
+        let state = self.state(&setup);
+        let bytes = bytes_of(&image_words(&setup, &state));
+        self.compare(Call::Outgoing { state: bytes.clone() });
+        self.compare(Call::Save { state: bytes.clone(), out_len: bytes.len() });
+        for _ in 0..6 {
+            let (words, controller) = read(&mut self.random, &setup, &state);
+            self.compare(Call::Step {
+                state: bytes.clone(),
+                read: bytes_of(&words),
+                controller,
+                out_len: bytes.len(),
+            });
+        }
+    }
+
+    fn damaged_states(&mut self) {
+        let setup = self.setup();
+        let state = self.state(&setup);
+        let words = image_words(&setup, &state);
+        for _ in 0..6 {
+            let bytes = damaged(&mut self.random, &words);
+            self.compare(Call::Outgoing { state: bytes.clone() });
+            let out_len = self.out_length(setup.n);
+            self.compare(Call::Save { state: bytes.clone(), out_len });
+            self.any_step(&setup, &state, bytes);
+        }
+    }
+
+    /// Scripts and any bytes, as setup and as state.
+    fn any_bytes(&mut self) {
+        let n = self.random.between(2, 16) as usize;
+        for _ in 0..3 {
+            let bytes = if self.random.chance(1, 8) {
+                let way = self.random.below(WAYS);
+                script_bytes(&mut self.random, way)
+            } else {
+                any_bytes(&mut self.random)
+            };
+            let own = self.own_number(n);
+            let out_len = self.out_length(n);
+            let controller = self.random.word();
+            let read = any_bytes(&mut self.random);
+            self.compare(Call::CheckSetup { setup: bytes.clone() });
+            self.compare(Call::Open { setup: bytes.clone(), own, out_len });
+            self.compare(Call::Outgoing { state: bytes.clone() });
+            self.compare(Call::Save { state: bytes.clone(), out_len });
+            self.compare(Call::Step { state: bytes, read, controller, out_len });
+        }
+    }
+
+    /// Accepted states with reads and outputs of wrong length and controller bits at N or above.
+    fn wrong_lengths(&mut self) {
+        let setup = self.setup();
+        let state = self.state(&setup);
+        let bytes = bytes_of(&image_words(&setup, &state));
+        for _ in 0..6 {
+            let out_len = self.out_length(setup.n);
+            self.compare(Call::Save { state: bytes.clone(), out_len });
+            self.any_step(&setup, &state, bytes.clone());
+        }
+    }
+
+    /// A step whose read, controller word and output may each be wrong.
+    fn any_step(&mut self, setup: &Setup, state: &State, bytes: Vec<u8>) {
+        let (words, mut controller) = read(&mut self.random, setup, state);
+        if self.random.chance(1, 3) {
+            controller = spoiled_controller(&mut self.random, setup.n);
+        }
+        let mut read = bytes_of(&words);
+        if self.random.chance(1, 3) {
+            let length = self.other_length(read.len());
+            read.resize(length, 0x55);
+        }
+        let out_len = self.out_length(setup.n);
+        self.compare(Call::Step { state: bytes, read, controller, out_len });
+    }
+
+    /// Opening and many steps; each output image is the next input. Refused calls lie between.
+    fn life(&mut self) {
+        let setup = self.setup();
+        let n = setup.n;
+        let own = self.random.between(1, n as u32);
+        let out_len = 4 * image_length(n);
+        let opened = self.compare(Call::Open { setup: bytes_of(&setup.words()), own, out_len });
+        let mut image = opened.expect("opening an accepted setup is accepted");
+        let steps = if self.random.chance(1, 200) { 2_000 } else { 5 + self.random.below(60) };
+        for _ in 0..steps {
+            let (_, state) =
+                harness::model::state::read_image(&image).expect("an image of a life is accepted");
+            if self.random.chance(1, 15) {
+                self.any_step(&setup, &state, image.clone());
+            }
+            if self.random.chance(1, 15) {
+                let words = words_of(&image).expect("an image is whole words");
+                let spoiled = damaged(&mut self.random, &words);
+                self.any_step(&setup, &state, spoiled);
+            }
+            let (words, controller) = read(&mut self.random, &setup, &state);
+            let stepped =
+                self.compare(Call::Step { state: image, read: bytes_of(&words), controller, out_len });
+            image = stepped.expect("a step of a life is accepted");
+            if self.random.chance(1, 10) {
+                self.compare(Call::Outgoing { state: image.clone() });
+            }
+        }
+        self.compare(Call::Save { state: image.clone(), out_len });
+        self.compare(Call::Outgoing { state: image });
+    }
+
+    /// Mostly 1..N.
+    fn own_number(&mut self, n: usize) -> u32 {
+        let n = n as u32;
+        let inside = self.random.between(1, n);
+        match self.random.below(8) {
+            0 => 0,
+            1 => n + 1,
+            2 => self.random.pick(&[16, 17, 31, 32, 33, 1 << 16, u32::MAX]),
+            // The own number again after a cut to 5, 8 or 16 bits.
+            3 => inside + self.random.pick(&[32, 256, 1 << 16, 1 << 31]),
+            _ => inside,
+        }
+    }
+
+    /// Bytes of an output: mostly right.
+    fn out_length(&mut self, n: usize) -> usize {
+        let right = 4 * image_length(n);
+        if self.random.chance(2, 3) {
+            right
+        } else {
+            self.other_length(right)
+        }
+    }
+
+    /// A length other than `right`: 0, off by a byte, off by a word, another N, huge.
+    fn other_length(&mut self, right: usize) -> usize {
+        let length = match self.random.below(40) {
+            0..=7 => 0,
+            8..=12 => right - 1,
+            13..=17 => right + 1,
+            18..=22 => right - 4,
+            23..=27 => right + 4,
+            28..=32 => 4 * image_length(self.random.between(2, 16) as usize),
+            33..=35 => self.random.below(2 * right),
+            36..=38 => right + 256,
+            _ => {
+                if self.random.chance(1, 20) {
+                    1 << 20
+                } else {
+                    65_540
+                }
+            }
+        };
+        if length == right {
+            0
+        } else {
+            length
+        }
+    }
+
+    /// Makes the call on model and library. The answer is the output if the call is accepted.
+    fn compare(&mut self, call: Call) -> Option<Vec<u8>> {
+        self.calls += 1;
+        let pattern = self.random.word();
+        let given = Lent::new(call.out_len(), pattern);
+        let mut by_model = given.clone();
+        let mut by_library = given.clone();
+        let model = call.make(&Model, by_model.output());
+        let lent_call = call.clone();
+        let library = lent_call.make(&Library, by_library.output());
+
+        let refused_but_written = model.number != 0 && by_library != given;
+        if model != library || by_model != by_library || refused_but_written || lent_call != call {
+            self.show(&call, pattern, (model, &by_model), (library, &by_library), &given, lent_call != call);
+            exit(1);
+        }
+        *self.numbers.entry(model.number).or_insert(0) += 1;
+        (model.number == 0).then(|| by_model.written().to_vec())
+    }
+
+    fn show(
+        &self,
+        call: &Call,
+        pattern: u32,
+        model: (Reply, &Lent),
+        library: (Reply, &Lent),
+        given: &Lent,
+        input_changed: bool,
+    ) {
+        println!(
+            "differential: DIFFERENCE at call {}, seed {}, pattern {pattern:08X}",
+            self.calls, self.seed
+        );
+        println!("  {}", call.text());
+        println!("  model   {}", answer_text(model, given));
+        println!("  library {}", answer_text(library, given));
+        if !library.1.same_margins(given) {
+            println!("  the library wrote outside its output");
+        }
+        if input_changed {
+            println!("  the library changed its input");
+        }
+    }
+}
+
+/// Number, index, health or word, and what the output then holds.
+fn answer_text((reply, lent): (Reply, &Lent), given: &Lent) -> String {
+    let output = if lent.written() == given.written() {
+        "output as given".to_string()
+    } else {
+        to_hex(lent.written())
+    };
+    format!("{} {} {:08X} {output}", reply.number, reply.index, reply.value)
+}

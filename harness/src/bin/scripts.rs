@@ -1,0 +1,144 @@
+//! Runs a bench program on run scripts and compares with the model byte for byte.
+//! Usage: scripts COUNT SEED BENCH
+//!        scripts --dir DIR BENCH    (all NNN.bin with NNN.out of a folder, also against the model)
+
+use harness::random::scripts::{script_bytes, WAYS};
+use harness::random::Random;
+use harness::script::run;
+use std::collections::BTreeMap;
+use std::env;
+use std::fs;
+use std::io::Write;
+use std::path::PathBuf;
+use std::process::{Command, ExitCode, Stdio};
+use std::thread;
+
+fn main() -> ExitCode {
+    let arguments: Vec<String> = env::args().skip(1).collect();
+    let result = match arguments.iter().map(String::as_str).collect::<Vec<_>>().as_slice() {
+        ["--dir", folder, bench] => run_folder(folder, bench),
+        [count, seed, bench] => match (count.parse(), seed.parse()) {
+            (Ok(count), Ok(seed)) => run_random(count, seed, bench),
+            _ => usage(),
+        },
+        _ => usage(),
+    };
+    match result {
+        Ok(()) => ExitCode::SUCCESS,
+        Err(error) => {
+            println!("scripts: {error}");
+            ExitCode::FAILURE
+        }
+    }
+}
+
+fn usage() -> Result<(), String> {
+    Err("usage: scripts COUNT SEED BENCH, or scripts --dir DIR BENCH".to_string())
+}
+
+fn run_random(count: usize, seed: u64, bench: &str) -> Result<(), String> {
+    let mut random = Random::new(seed);
+    let mut kinds: BTreeMap<String, u64> = BTreeMap::new();
+    for at in 0..count {
+        let bytes = script_bytes(&mut random, at % WAYS);
+        let wanted = by_model(&bytes);
+        let found = by_bench(bench, &bytes)?;
+        if found != wanted {
+            let path = env::temp_dir().join(format!("scripts-{seed}-{at}.bin"));
+            let kept = match fs::write(&path, &bytes) {
+                Ok(()) => format!("script kept in {}", path.display()),
+                Err(error) => format!("script not kept: {error}"),
+            };
+            return Err(format!(
+                "DIFFERENCE at script {at}, seed {seed}; {kept}\n{}",
+                first_difference(&wanted, &found)
+            ));
+        }
+        *kinds.entry(kind_of(&wanted)).or_insert(0) += 1;
+    }
+    let counts: Vec<String> = kinds.iter().map(|(kind, count)| format!("{kind}:{count}")).collect();
+    println!("outputs by kind {}", counts.join(" "));
+    println!("scripts: {count} scripts, seed {seed}: all equal");
+    Ok(())
+}
+
+fn run_folder(folder: &str, bench: &str) -> Result<(), String> {
+    let entries = fs::read_dir(folder).map_err(|error| format!("{folder}: {error}"))?;
+    let mut paths: Vec<PathBuf> = entries.filter_map(|entry| Some(entry.ok()?.path())).collect();
+    paths.retain(|path| path.extension().is_some_and(|extension| extension == "bin"));
+    paths.sort();
+    if paths.is_empty() {
+        return Err(format!("no .bin file in {folder}"));
+    }
+    let mut differences = 0;
+    for path in &paths {
+        let read = |path: PathBuf| fs::read(&path).map_err(|error| format!("{}: {error}", path.display()));
+        let bytes = read(path.clone())?;
+        let wanted = read(path.with_extension("out"))?;
+        for (name, found) in [("model", by_model(&bytes)), ("bench", by_bench(bench, &bytes)?)] {
+            if found != wanted {
+                println!("{}: {name} differs\n{}", path.display(), first_difference(&wanted, &found));
+                differences += 1;
+            }
+        }
+    }
+    println!("scripts: {} vectors, model and bench, {differences} differences", paths.len());
+    if differences == 0 {
+        Ok(())
+    } else {
+        Err(format!("{differences} differences"))
+    }
+}
+
+fn by_model(bytes: &[u8]) -> Vec<u8> {
+    let mut out = Vec::new();
+    run(bytes, &mut out).expect("writing to memory works");
+    out
+}
+
+/// Standard input to standard output of the program; it may stop reading early.
+fn by_bench(bench: &str, bytes: &[u8]) -> Result<Vec<u8>, String> {
+    let mut child = Command::new(bench)
+        .stdin(Stdio::piped())
+        .stdout(Stdio::piped())
+        .spawn()
+        .map_err(|error| format!("{bench}: {error}"))?;
+    let mut input = child.stdin.take().expect("standard input is piped");
+    let bytes = bytes.to_vec();
+    let writer = thread::spawn(move || {
+        let _ = input.write_all(&bytes);
+    });
+    let output = child.wait_with_output().map_err(|error| format!("{bench}: {error}"))?;
+    writer.join().expect("the writer ends");
+    if output.status.code().is_none() {
+        return Err(format!("{bench}: {}", output.status));
+    }
+    Ok(output.stdout)
+}
+
+/// `played`, or `refused N`.
+fn kind_of(output: &[u8]) -> String {
+    let text = String::from_utf8_lossy(output);
+    match text.strip_prefix("refused ") {
+        Some(rest) => format!("refused {:>2}", rest.split(' ').next().unwrap_or("?")),
+        None => "played".to_string(),
+    }
+}
+
+/// The first line in which two outputs differ.
+fn first_difference(wanted: &[u8], found: &[u8]) -> String {
+    let wanted = String::from_utf8_lossy(wanted).into_owned();
+    let found = String::from_utf8_lossy(found).into_owned();
+    let mut wanted_lines = wanted.split_inclusive('\n');
+    let mut found_lines = found.split_inclusive('\n');
+    let mut number = 1;
+    loop {
+        match (wanted_lines.next(), found_lines.next()) {
+            (None, None) => return "  no difference in lines".to_string(),
+            (wanted, found) if wanted != found => {
+                return format!("  line {number}: wanted {wanted:?}, found {found:?}");
+            }
+            _ => number += 1,
+        }
+    }
+}

@@ -1,0 +1,108 @@
+//! The calls file: one call a line with the answer it must give. Besides the calls named at the
+//! top of that file, `outgoing STATE = NUMBER INDEX WORD` is understood.
+
+use crate::call::{Call, Lent};
+use crate::hex::{from_hex, to_hex};
+use crate::model::calls::Functions;
+
+/// A call and what must come out.
+#[derive(Clone, PartialEq, Eq, Debug)]
+pub struct Case {
+    pub call: Call,
+    pub number: u32,
+    pub index: u32,
+    /// Health, or the outgoing word; `None` if the line does not say it.
+    pub value: Option<u32>,
+    /// The output after the call; `None` if it stays as given.
+    pub output: Option<Vec<u8>>,
+}
+
+/// The cases of a line: none for comments and empty lines, else one, but two for reading a
+/// state. That is asked through saving (with an output of the image's length) and through the
+/// outgoing word, since both begin by reading the state.
+pub fn parse(text: &str) -> Result<Vec<Case>, String> {
+    let text = text.trim();
+    if text.is_empty() || text.starts_with('#') {
+        return Ok(Vec::new());
+    }
+    let (call, answer) = text.split_once(" = ").ok_or("no = in the line")?;
+    let call: Vec<&str> = call.split_whitespace().collect();
+    let answer: Vec<&str> = answer.split_whitespace().collect();
+    match (call.as_slice(), answer.as_slice()) {
+        (["setup", setup], [number, index]) => {
+            let call = Call::CheckSetup { setup: bytes(setup)? };
+            Ok(vec![case(call, number, index, Some("0"), "-")?])
+        }
+        (["state", state], [number, index]) => {
+            let bytes = bytes(state)?;
+            let output = if *number == "0" { state } else { "-" };
+            let value = if *number == "0" { None } else { Some("0") };
+            let save = Call::Save { state: bytes.clone(), out_len: bytes.len() };
+            let outgoing = Call::Outgoing { state: bytes };
+            Ok(vec![
+                case(save, number, index, Some("0"), output)?,
+                case(outgoing, number, index, value, "-")?,
+            ])
+        }
+        (["outgoing", state], [number, index, word]) => {
+            let call = Call::Outgoing { state: bytes(state)? };
+            Ok(vec![case(call, number, index, Some(word), "-")?])
+        }
+        (["open", setup, own, out_len], [number, index, health, output]) => {
+            let out_len = decimal(out_len)? as usize;
+            let call = Call::Open { setup: bytes(setup)?, own: decimal(own)?, out_len };
+            Ok(vec![case(call, number, index, Some(health), output)?])
+        }
+        (["step", state, read, controller, out_len], [number, index, health, output]) => {
+            let controller = hexadecimal(controller)?;
+            let out_len = decimal(out_len)? as usize;
+            let call = Call::Step { state: bytes(state)?, read: bytes(read)?, controller, out_len };
+            Ok(vec![case(call, number, index, Some(health), output)?])
+        }
+        (["save", state, out_len], [number, index, health, output]) => {
+            let call = Call::Save { state: bytes(state)?, out_len: decimal(out_len)? as usize };
+            Ok(vec![case(call, number, index, Some(health), output)?])
+        }
+        _ => Err("unknown call, or arguments missing".to_string()),
+    }
+}
+
+fn case(call: Call, number: &str, index: &str, value: Option<&str>, output: &str) -> Result<Case, String> {
+    let value = value.map(hexadecimal).transpose()?;
+    let output = if output == "-" { None } else { Some(bytes(output)?) };
+    if output.as_ref().is_some_and(|output| output.len() != call.out_len()) {
+        return Err("the image after = is not of the output's length".to_string());
+    }
+    Ok(Case { call, number: decimal(number)?, index: decimal(index)?, value, output })
+}
+
+fn bytes(text: &str) -> Result<Vec<u8>, String> {
+    from_hex(text).ok_or_else(|| format!("no bytes: {text}"))
+}
+
+fn decimal(text: &str) -> Result<u32, String> {
+    text.parse().map_err(|_| format!("no decimal number: {text}"))
+}
+
+fn hexadecimal(text: &str) -> Result<u32, String> {
+    u32::from_str_radix(text, 16).map_err(|_| format!("no hexadecimal number: {text}"))
+}
+
+/// Makes the call and compares number, index, health or word, and the whole lent buffer.
+/// The error says what came out instead.
+pub fn compare(case: &Case, on: &dyn Functions, pattern: u32) -> Result<(), String> {
+    let given = Lent::new(case.call.out_len(), pattern);
+    let mut wanted = given.clone();
+    if let Some(output) = &case.output {
+        wanted.output().copy_from_slice(output);
+    }
+    let mut lent = given.clone();
+    let reply = case.call.make(on, lent.output());
+    let value_right = case.value.is_none_or(|value| value == reply.value);
+    if reply.number == case.number && reply.index == case.index && value_right && lent == wanted {
+        return Ok(());
+    }
+    let output = if lent.written() == given.written() { "-".to_string() } else { to_hex(lent.written()) };
+    let outside = if lent.same_margins(&given) { "" } else { ", and wrote outside the output" };
+    Err(format!("{} {} {:04X} {output}{outside}", reply.number, reply.index, reply.value))
+}

@@ -1,0 +1,10 @@
+//! Test harness for the presence library, after document 01.
+
+pub mod call;
+pub mod calls_file;
+#[cfg(feature = "library")]
+pub mod ffi;
+pub mod hex;
+pub mod model;
+pub mod random;
+pub mod script;

@@ -1,0 +1,141 @@
+//! A module's state and its saved image. Numbers 7 and 8.
+
+use super::setup::{read_setup, Holds, Setup};
+use super::words::{bits, full, has, kind, OwnWord, PenaltyWord, PreviousRead, RewardWord, Vector, MAX};
+use super::{refusal, Refusal};
+
+/// One sender in a read: heard with a row, or missing with row 0.
+#[derive(Clone, Copy, PartialEq, Eq, Debug, Default)]
+pub struct Entry {
+    pub heard: bool,
+    pub row: u32,
+}
+
+/// The state of one module; its setup is kept beside it. Module j stands at j-1 in the arrays.
+#[derive(Clone, Copy, PartialEq, Eq, Debug)]
+pub struct State {
+    pub own: usize,
+    pub view: u32,
+    pub previous: [Entry; MAX],
+    /// The syndrome of the latest round.
+    pub latest: u32,
+    /// The syndrome of the round before it.
+    pub before: u32,
+    pub penalty: [u32; MAX],
+    pub reward: [u32; MAX],
+}
+
+/// A fresh module: all-ones syndromes and rows, all heard, zero counters, full view.
+pub fn fresh(setup: &Setup, own: usize) -> State {
+    let ones = full(setup.n);
+    let mut previous = [Entry::default(); MAX];
+    for j in 1..=setup.n {
+        previous[j - 1] = Entry { heard: true, row: ones };
+    }
+    State { own, view: ones, previous, latest: ones, before: ones, penalty: [0; MAX], reward: [0; MAX] }
+}
+
+/// Rule 7 read from the image: the syndrome that the step which made this state handed out.
+/// A fresh unmarked module hands out the all-ones word, and so does a fresh marked one.
+pub fn handed_out(setup: &Setup, state: &State) -> u32 {
+    let syndrome = if setup.module(state.own).send_mark { state.before } else { state.latest };
+    Vector { kind: 5, bits: syndrome }.word()
+}
+
+/// Words of a saved state.
+pub fn image_length(n: usize) -> usize {
+    4 * n + 6
+}
+
+/// The setup, one 10, N of 11, the latest and the one before as two 12, N of 13, N of 14.
+pub fn image_words(setup: &Setup, state: &State) -> Vec<u32> {
+    let n = setup.n;
+    let mut words = setup.words();
+    words.push(OwnWord { own: state.own as u32, view: state.view }.word());
+    for j in 1..=n {
+        let entry = state.previous[j - 1];
+        words.push(PreviousRead { sender: j as u32, heard: entry.heard, row: entry.row }.word());
+    }
+    words.push(Vector { kind: 12, bits: state.latest }.word());
+    words.push(Vector { kind: 12, bits: state.before }.word());
+    for j in 1..=n {
+        words.push(PenaltyWord { module: j as u32, penalty: state.penalty[j - 1] }.word());
+    }
+    for j in 1..=n {
+        words.push(RewardWord { module: j as u32, reward: state.reward[j - 1] }.word());
+    }
+    words
+}
+
+/// Numbers 1 to 8. Words are tested in their order, so the first wrong one is named.
+pub fn read_image(bytes: &[u8]) -> Result<(Setup, State), Refusal> {
+    let (setup, words) = read_setup(bytes, Holds::State)?;
+    let n = setup.n;
+
+    // 7 is tested only where the word is kind 10.
+    let mut at = n + 3;
+    let own = bits(words[at], 20, 16) as usize;
+    if kind(words[at]) == 10 && !(1..=n).contains(&own) {
+        return Err(refusal(7, at));
+    }
+
+    let own_word = OwnWord::split(words[at]).ok_or(refusal(8, at))?;
+    if own_word.view > full(n) {
+        return Err(refusal(8, at));
+    }
+    let view = own_word.view;
+    at += 1;
+
+    let mut previous = [Entry::default(); MAX];
+    for j in 1..=n {
+        previous[j - 1] = read_previous(words[at], j, n).ok_or(refusal(8, at))?;
+        at += 1;
+    }
+
+    let latest = read_syndrome(words[at], n).ok_or(refusal(8, at))?;
+    at += 1;
+    let before = read_syndrome(words[at], n).ok_or(refusal(8, at))?;
+    at += 1;
+
+    let mut penalty = [0; MAX];
+    for j in 1..=n {
+        penalty[j - 1] = read_penalty(words[at], j, &setup, has(view, j)).ok_or(refusal(8, at))?;
+        at += 1;
+    }
+
+    let mut reward = [0; MAX];
+    for j in 1..=n {
+        reward[j - 1] = read_reward(words[at], j, &setup, penalty[j - 1]).ok_or(refusal(8, at))?;
+        at += 1;
+    }
+
+    Ok((setup, State { own, view, previous, latest, before, penalty, reward }))
+}
+
+fn read_previous(word: u32, j: usize, n: usize) -> Option<Entry> {
+    let read = PreviousRead::split(word)?;
+    let right = read.sender as usize == j && read.row <= full(n) && (read.heard || read.row == 0);
+    right.then_some(Entry { heard: read.heard, row: read.row })
+}
+
+fn read_syndrome(word: u32, n: usize) -> Option<u32> {
+    let syndrome = Vector::split(12, word)?;
+    (syndrome.bits <= full(n)).then_some(syndrome.bits)
+}
+
+/// A penalty over P goes with a clear view bit, and any other with a set one.
+fn read_penalty(word: u32, j: usize, setup: &Setup, in_view: bool) -> Option<u32> {
+    let penalty = PenaltyWord::split(word)?;
+    let right = penalty.module as usize == j
+        && penalty.penalty <= setup.penalty_limit + setup.module(j).criticality
+        && in_view == (penalty.penalty <= setup.penalty_limit);
+    right.then_some(penalty.penalty)
+}
+
+fn read_reward(word: u32, j: usize, setup: &Setup, penalty: u32) -> Option<u32> {
+    let reward = RewardWord::split(word)?;
+    let right = reward.module as usize == j
+        && reward.reward < setup.reward_limit
+        && (reward.reward == 0 || penalty > 0);
+    right.then_some(reward.reward)
+}

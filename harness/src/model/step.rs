@@ -1,0 +1,153 @@
+//! One step of one module, rules 1 to 9. Numbers 10 and 11.
+
+use super::setup::Setup;
+use super::state::{Entry, State};
+use super::words::{full, has, only, Vector, MAX};
+use super::{refusal, Refusal};
+
+/// What a step answers besides the new state.
+#[derive(Clone, Copy, PartialEq, Eq, Debug)]
+pub struct Outcome {
+    pub health: u32,
+    /// For each module the lowest h at which its row differs from the health vector, or 0.
+    pub accused: [u32; MAX],
+    /// The syndrome of this round.
+    pub syndrome: u32,
+    /// The outgoing word.
+    pub word: u32,
+}
+
+/// Rule 2: the syndrome of a word that is heard, `None` if the word is not.
+pub fn heard_word(n: usize, word: u32) -> Option<u32> {
+    let bus = Vector::split(5, word)?;
+    (bus.bits <= full(n)).then_some(bus.bits)
+}
+
+/// Rule 2 with the controller bit.
+pub fn hear(n: usize, controller_bit: bool, word: u32) -> Entry {
+    if controller_bit {
+        if let Some(row) = heard_word(n, word) {
+            return Entry { heard: true, row };
+        }
+    }
+    Entry { heard: false, row: 0 }
+}
+
+/// Rule 3: entries j <= l come from the previous read if u = 1, all others from this read.
+pub fn align(n: usize, u: usize, l: usize, previous: &[Entry; MAX], this: &[Entry; MAX]) -> [Entry; MAX] {
+    let mut aligned = [Entry::default(); MAX];
+    for j in 1..=n {
+        let from_previous = u == 1 && j <= l;
+        aligned[j - 1] = if from_previous { previous[j - 1] } else { this[j - 1] };
+    }
+    aligned
+}
+
+/// Rule 4 for one module: the vote on j over the present rows of all modules but j;
+/// an empty vote answers bit j of the own syndrome of round k-u-1.
+pub fn vote(n: usize, j: usize, rows: &[Entry; MAX], own_syndrome: u32) -> bool {
+    let mut ones = 0;
+    let mut zeros = 0;
+    for i in 1..=n {
+        let entry = rows[i - 1];
+        if i != j && entry.heard {
+            if has(entry.row, j) {
+                ones += 1;
+            } else {
+                zeros += 1;
+            }
+        }
+    }
+    if ones + zeros == 0 {
+        has(own_syndrome, j)
+    } else {
+        ones >= zeros
+    }
+}
+
+/// Rule 5 for one module: the lowest h other than j at which a present row differs, or 0.
+pub fn accusation(n: usize, j: usize, entry: Entry, health: u32) -> u32 {
+    if entry.heard {
+        for h in 1..=n {
+            if h != j && has(entry.row, h) != has(health, h) {
+                return h as u32;
+            }
+        }
+    }
+    0
+}
+
+/// Rule 8 for one module.
+fn count(setup: &Setup, state: &mut State, j: usize, healthy: bool) {
+    if !has(state.view, j) {
+        return;
+    }
+    let penalty = &mut state.penalty[j - 1];
+    let reward = &mut state.reward[j - 1];
+    if !healthy {
+        *penalty += setup.module(j).criticality;
+        *reward = 0;
+        if *penalty > setup.penalty_limit {
+            state.view &= !only(j);
+        }
+    } else if *penalty > 0 {
+        *reward += 1;
+        if *reward == setup.reward_limit {
+            *penalty = 0;
+            *reward = 0;
+        }
+    }
+}
+
+/// One step with a read of N words. A refusal leaves the state as it was.
+pub fn step(setup: &Setup, state: &mut State, read: &[u32], controller: u32) -> Result<Outcome, Refusal> {
+    let n = setup.n;
+    let u = setup.u();
+    let own = *setup.module(state.own);
+
+    if controller > full(n) {
+        return Err(refusal(10, 0));
+    }
+
+    // Rules 2 and 3.
+    let mut this = [Entry::default(); MAX];
+    for j in 1..=n {
+        this[j - 1] = hear(n, has(controller, j), read[j - 1]);
+    }
+    let aligned = align(n, u, own.place as usize, &state.previous, &this);
+
+    // Rule 4. The state holds the syndromes of rounds k-1 (latest) and k-2 (before).
+    let own_syndrome = if u == 0 { state.latest } else { state.before };
+    let mut health = 0;
+    for j in 1..=n {
+        if vote(n, j, &aligned, own_syndrome) {
+            health |= only(j);
+        }
+    }
+
+    // Rules 5 and 6.
+    let mut accused = [0; MAX];
+    let mut syndrome = 0;
+    for j in 1..=n {
+        accused[j - 1] = accusation(n, j, aligned[j - 1], health);
+        if aligned[j - 1].heard && accused[j - 1] == 0 {
+            syndrome |= only(j);
+        }
+    }
+
+    // Rules 7 and 9.
+    let handed = if own.send_mark { state.latest } else { syndrome };
+    let word = Vector { kind: 5, bits: handed }.word();
+    if heard_word(n, word).is_none() {
+        return Err(refusal(11, 0));
+    }
+
+    // Rule 8.
+    for j in 1..=n {
+        count(setup, state, j, has(health, j));
+    }
+    state.previous = this;
+    state.before = state.latest;
+    state.latest = syndrome;
+    Ok(Outcome { health, accused, syndrome, word })
+}

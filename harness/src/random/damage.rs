@@ -1,0 +1,162 @@
+//! Damaged bytes: setups, states and scripts with something wrong.
+
+use super::Random;
+use crate::model::words::{bytes_of, kind};
+
+/// Damages words in one or several ways and answers them as bytes.
+/// The result may still be accepted, since some damages change nothing that is tested.
+pub fn damaged(random: &mut Random, words: &[u32]) -> Vec<u8> {
+    if random.chance(1, 60) {
+        return any_bytes(random);
+    }
+    let times = if random.chance(2, 3) { 1 } else { 2 + random.below(4) };
+    let mut words = words.to_vec();
+    for _ in 0..times {
+        damage_once(random, &mut words);
+    }
+    let mut bytes = bytes_of(&words);
+    if random.chance(1, 25) {
+        cut_bytes(random, &mut bytes);
+    }
+    bytes
+}
+
+/// Any bytes, at times empty.
+pub fn any_bytes(random: &mut Random) -> Vec<u8> {
+    let length = match random.below(4) {
+        0 => 0,
+        1 => random.below(9),
+        2 => 4 * random.below(80),
+        _ => random.below(320),
+    };
+    let mut bytes = Vec::with_capacity(length);
+    for _ in 0..length {
+        bytes.push(random.word() as u8);
+    }
+    bytes
+}
+
+fn cut_bytes(random: &mut Random, bytes: &mut Vec<u8>) {
+    match random.below(3) {
+        0 => bytes.truncate(random.below(bytes.len() + 1)),
+        1 => bytes.truncate(bytes.len().saturating_sub(1 + random.below(3))),
+        _ => {
+            for _ in 0..1 + random.below(3) {
+                bytes.push(random.word() as u8);
+            }
+        }
+    }
+}
+
+fn damage_once(random: &mut Random, words: &mut Vec<u32>) {
+    if words.is_empty() {
+        return;
+    }
+    let at = random.below(words.len());
+    match random.below(16) {
+        // The fields of one word, at or beyond their limits.
+        0..=5 => spoil_field(random, words, at),
+        6 | 7 => words[at] ^= 1 << random.below(32),
+        8 => words[at] = random.word(),
+        9 => words[at] = (words[at] & 0x0FFF_FFFF) | random.word() << 28,
+        10 => {
+            let other = random.below(words.len());
+            words.swap(at, other);
+        }
+        11 => {
+            let other = (at + 1) % words.len();
+            words.swap(at, other);
+        }
+        12 => {
+            words.remove(at);
+        }
+        13 => words.insert(at, words[at]),
+        14 => {
+            words[at] =
+                if random.chance(1, 2) { words[at].wrapping_add(1) } else { words[at].wrapping_sub(1) }
+        }
+        _ => match random.below(3) {
+            0 => words.truncate(at),
+            1 => words.push(random.word()),
+            _ => words[at] = 0,
+        },
+    }
+}
+
+/// Sets one field of a word to a value at or just beyond its limit.
+fn spoil_field(random: &mut Random, words: &mut [u32], at: usize) {
+    let n = (words[0] & 31).clamp(2, 16);
+    let penalty_limit = words.get(1).map_or(1, |word| word & 0x0FFF_FFFF);
+    let reward_limit = words.get(2).map_or(1, |word| word & 0x0FFF_FFFF);
+    let word = words[at];
+    let bit_at_n = 1 << (n + random.below(2) as u32);
+    words[at] = match kind(word) {
+        1 => 1 << 28 | random.pick(&[0, 1, 2, 15, 16, 17, 31, 32 | n]),
+        2 => 2 << 28 | random.pick(&[0, 1, 999_999, 1_000_000, 1_000_001, 0x0FFF_FFFF]),
+        3 => 3 << 28 | random.pick(&[0, 1, 7_999_999, 8_000_000, 8_000_001, 0x0FFF_FFFF]),
+        4 => match random.below(5) {
+            0 => field(word, 27, 23, random.pick(&[0, 1, n, n + 1, 31])),
+            1 => word ^ 1 << 22,
+            2 => field(word, 21, 17, random.pick(&[0, n, n + 1, 31])),
+            3 => field(word, 21, 17, word >> 23 & 31) | 1 << 22,
+            _ => field(word, 16, 0, random.pick(&[0, 1, 99_999, 100_000, 100_001, 131_071])),
+        },
+        6 => match random.below(2) {
+            0 => word | bit_at_n,
+            _ => word | 1 << random.between(16, 27),
+        },
+        7 | 8 => match random.below(5) {
+            0 => field(word, 27, 23, random.pick(&[0, 1, n, n + 1, 31])),
+            1 => word | 1 << random.between(16, 22),
+            2 => field(word, 15, 0, 0),
+            3 => word | bit_at_n,
+            _ => word ^ 1 << 28,
+        },
+        9 => 9 << 28 | random.pick(&[0, 1, 999, 1_000, 1_001, 0x0FFF_FFFF]),
+        10 => match random.below(5) {
+            0 => field(word, 20, 16, random.pick(&[0, 1, n, n + 1, 31])),
+            1 => word ^ 1 << random.below(n as usize),
+            2 => word | bit_at_n,
+            3 => field(word, 20, 16, 0) | 1 << random.between(21, 27),
+            _ => word | 1 << random.between(21, 27),
+        },
+        11 => match random.below(5) {
+            0 => field(word, 27, 23, random.pick(&[0, 1, n, n + 1, 31])),
+            1 => word ^ 1 << 22,
+            2 => word | bit_at_n,
+            3 => field(word, 22, 22, 0) | 1 << random.below(n as usize),
+            _ => word | 1 << random.between(16, 21),
+        },
+        12 => match random.below(2) {
+            0 => word | bit_at_n,
+            _ => word | 1 << random.between(16, 27),
+        },
+        13 => match random.below(5) {
+            0 => field(word, 27, 23, random.pick(&[0, 1, n, n + 1, 31])),
+            1 => word | 1 << random.between(21, 22),
+            2 => field(word, 20, 0, penalty_limit),
+            3 => field(word, 20, 0, penalty_limit + 1),
+            _ => {
+                let criticality = words.get((word >> 23 & 31) as usize + 2).map_or(1, |word| word & 0x1_FFFF);
+                let most = penalty_limit.wrapping_add(criticality);
+                field(word, 20, 0, random.pick(&[0, 1, most, most + 1, 0x1F_FFFF]))
+            }
+        },
+        14 => match random.below(3) {
+            0 => field(word, 27, 23, random.pick(&[0, 1, n, n + 1, 31])),
+            1 => field(word, 22, 0, 1),
+            _ => {
+                let value =
+                    random.pick(&[reward_limit, reward_limit.wrapping_sub(1), reward_limit + 1, 0x7F_FFFF]);
+                field(word, 22, 0, value)
+            }
+        },
+        _ => word ^ 1 << random.below(32),
+    };
+}
+
+/// The word with bits high..low replaced.
+fn field(word: u32, high: u32, low: u32, value: u32) -> u32 {
+    let mask = ((1u32 << (high - low + 1)) - 1) << low;
+    (word & !mask) | (value << low & mask)
+}

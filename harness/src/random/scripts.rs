@@ -1,0 +1,245 @@
+//! Run scripts: accepted ones, and refused ones for every number.
+
+use super::damage::{any_bytes, damaged};
+use super::setups::{lively_setup, setup, setup_of};
+use super::Random;
+use crate::model::setup::Setup;
+use crate::model::words::{bytes_of, full};
+use crate::script::check::words;
+use crate::script::{Item, Script};
+
+/// How many ways `script_bytes` knows.
+pub const WAYS: usize = 28;
+
+/// A run script made in one of the ways 0..WAYS-1.
+pub fn script_bytes(random: &mut Random, way: usize) -> Vec<u8> {
+    let script = script(random);
+    let n = script.setup.n;
+    let mut all = words(&script);
+    let cast_at = n + 3;
+    match way {
+        // Accepted.
+        0..=5 => bytes_of(&all),
+        6 => long_script(random),
+        7 => crowded_script(random, 16_384),
+        // Damaged in any way.
+        8..=10 => damaged(random, &all),
+        11 => {
+            let mut tail = damaged(random, &all[cast_at..]);
+            let mut bytes = bytes_of(&all[..cast_at]);
+            bytes.append(&mut tail);
+            bytes
+        }
+        12 => any_bytes(random),
+        // 1 and 3: cut.
+        13 => {
+            let mut bytes = bytes_of(&all);
+            bytes.truncate(random.below(bytes.len()));
+            bytes
+        }
+        // 2 to 6: a setup with something wrong, before a sound tail.
+        14 => {
+            let mut bytes = damaged(random, &all[..cast_at]);
+            bytes.append(&mut bytes_of(&all[cast_at..]));
+            bytes
+        }
+        // 12: a second cast, or a word of a kind that runs do not have.
+        15 => {
+            let at = cast_at + random.below(all.len() - cast_at);
+            let word = (random.pick(&[6, 6, 0, 1, 4, 5, 10, 12, 15]) as u32) << 28;
+            all.insert(at, word | random.vector(n));
+            bytes_of(&all)
+        }
+        // 12: a play of a wrong length.
+        16 => {
+            all.push(9 << 28 | random.pick(&[0, 1_001, 0x0FFF_FFFF]));
+            bytes_of(&all)
+        }
+        // 13: a lie by one outside the cast, at times as the last word.
+        17 => {
+            let sender = random.between(1, n as u32);
+            all[cast_at] &= !(1 << (sender - 1));
+            all.push(8 << 28 | sender << 23 | random.mask(n));
+            if random.chance(2, 3) {
+                all.push(random.word());
+                all.push(9 << 28 | 1);
+            }
+            bytes_of(&all)
+        }
+        // 14: the cast missing, the told word missing, events never played, no play.
+        18 => {
+            match random.below(4) {
+                0 => all.truncate(cast_at),
+                1 => {
+                    all[cast_at] |= 1;
+                    all.push(8 << 28 | 1 << 23 | random.mask(n));
+                }
+                2 => all.push(7 << 28 | random.between(1, n as u32) << 23 | random.mask(n)),
+                _ => all.truncate(cast_at + 1),
+            }
+            bytes_of(&all)
+        }
+        // 15: too many rounds.
+        19 => {
+            all.truncate(cast_at + 1);
+            let rounds = if random.chance(1, 2) { 1_000 } else { random.between(900, 1_000) };
+            let plays = 100_000 / rounds;
+            for _ in 0..plays {
+                all.push(9 << 28 | rounds);
+            }
+            all.push(9 << 28 | (100_000 - plays * rounds + 1));
+            for _ in 0..random.below(3) {
+                all.push(9 << 28 | 1);
+            }
+            bytes_of(&all)
+        }
+        // 16: too many bytes.
+        20 => {
+            let mut bytes = bytes_of(&all);
+            let length = random.pick(&[65_537, 65_538, 65_540, 65_600, 70_000]);
+            bytes.resize(length, 0);
+            if random.chance(1, 3) {
+                let at = random.below(12);
+                bytes[at] ^= 1 << random.below(8);
+            }
+            bytes
+        }
+        // At the limits of numbers 15 and 16, refused by something behind.
+        21 => {
+            let mut bytes = crowded_script(random, 16_384);
+            bytes.truncate(65_536 - random.below(9));
+            bytes
+        }
+        // Two wrong words in the tail.
+        22 => {
+            let first = all.len();
+            all.push(random.pick(&[9 << 28, 6 << 28, 7 << 28, 8 << 28 | 1 << 23]));
+            all.push(random.word());
+            let at = cast_at + random.below(first - cast_at);
+            all.swap(at, first);
+            bytes_of(&all)
+        }
+        // 4: a limit out of range, at times with a wrong module word behind it.
+        23 => {
+            let at = 1 + random.below(2);
+            let kind = at as u32 + 1;
+            let most = if at == 1 { 1_000_000 } else { 8_000_000 };
+            all[at] = random.pick(&[kind << 28, kind << 28 | (most + 1), 5 << 28 | 1, all[at] | 1 << 27]);
+            if random.chance(1, 2) {
+                all[3 + random.below(n)] = random.word();
+            }
+            bytes_of(&all)
+        }
+        // 6: a mark on module 1, or with l at or above the own number.
+        24 => {
+            let j = if random.chance(1, 3) { 1 } else { random.between(1, n as u32) };
+            let place = if j == 1 { random.between(0, n as u32) } else { random.between(j, n as u32) };
+            all[j as usize + 2] = 4 << 28 | j << 23 | 1 << 22 | place << 17 | 1;
+            bytes_of(&all)
+        }
+        // 5: one field of a module word just out of range.
+        26 => {
+            let j = random.between(1, n as u32);
+            let (number, place, criticality) = random.pick(&[
+                (j, n as u32 + 1, 1),
+                (j, n as u32, 0),
+                (j, n as u32, 100_001),
+                (j % 16 + 1, n as u32, 1),
+                (0, n as u32, 1),
+            ]);
+            all[j as usize + 2] = 4 << 28 | number << 23 | place << 17 | criticality;
+            bytes_of(&all)
+        }
+        // Accepted: 100,000 rounds, no more.
+        25 if random.chance(1, 3) => {
+            let mut script = script;
+            script.setup = setup_of(random, 2, 1);
+            script.cast &= 3;
+            script.items = vec![Item::Loss { sender: 1, receivers: 2 }];
+            script.items.resize(101, Item::Play { rounds: 1_000 });
+            bytes_of(&words(&script))
+        }
+        // Nobody or everybody in the cast, limits at their ends.
+        _ => {
+            let n = random.between(2, 16) as usize;
+            let u = random.below(2);
+            let setup = setup_of(random, n, u);
+            let cast = if random.chance(1, 2) { 0 } else { full(n) };
+            bytes_of(&words(&script_of(random, setup, cast)))
+        }
+    }
+}
+
+/// An accepted script of some rounds.
+pub fn script(random: &mut Random) -> Script {
+    let setup = if random.chance(2, 3) { lively_setup(random) } else { setup(random) };
+    let n = setup.n;
+    let cast = match random.below(6) {
+        0 | 1 => 0,
+        2 | 3 => 1 << random.below(n),
+        4 => random.word() & random.word() & full(n),
+        _ => random.word() & full(n),
+    };
+    script_of(random, setup, cast)
+}
+
+fn script_of(random: &mut Random, setup: Setup, cast: u32) -> Script {
+    let mut items = Vec::new();
+    for _ in 0..1 + random.below(10) {
+        // Few events keep within the fault limit, many leave it.
+        let events = random.pick(&[0, 1, 1, 1, 2, 3, 8]);
+        for _ in 0..events {
+            items.push(event(random, setup.n, cast));
+        }
+        items.push(Item::Play { rounds: random.pick(&[1, 1, 1, 2, 3, 5, 9]) });
+    }
+    Script { setup, cast, items }
+}
+
+fn event(random: &mut Random, n: usize, cast: u32) -> Item {
+    let sender = random.between(1, n as u32) as usize;
+    let receivers = random.mask(n);
+    if cast >> (sender - 1) & 1 == 0 || random.chance(1, 3) {
+        return Item::Loss { sender, receivers };
+    }
+    let told = match random.below(8) {
+        0 => random.word(),
+        // Words that look like words of a script.
+        1 => random.pick(&[9 << 28, 6 << 28, 7 << 28 | 1 << 23, 8 << 28, 5 << 28 | 1 << n, 0]),
+        _ => 5 << 28 | random.vector(n),
+    };
+    Item::Lie { sender, receivers, told }
+}
+
+/// Rounds of more than three digits.
+fn long_script(random: &mut Random) -> Vec<u8> {
+    let mut script = script(random);
+    for _ in 0..1 + random.below(2) {
+        let sender = random.between(1, script.setup.n as u32) as usize;
+        let receivers = random.mask(script.setup.n);
+        script.items.push(Item::Loss { sender, receivers });
+        script.items.push(Item::Play { rounds: random.pick(&[400, 999, 1_000]) });
+    }
+    bytes_of(&words(&script))
+}
+
+/// An accepted script of `count` words, nearly all of them events.
+fn crowded_script(random: &mut Random, count: usize) -> Vec<u8> {
+    let mut script = script(random);
+    let mut length = words(&script).len();
+    while length < count - 1 {
+        let item = event(random, script.setup.n, script.cast);
+        let size = if matches!(item, Item::Lie { .. }) { 2 } else { 1 };
+        if length + size > count - 1 {
+            continue;
+        }
+        script.items.push(item);
+        length += size;
+        if length < count - 1 && random.chance(1, 40) {
+            script.items.push(Item::Play { rounds: 1 });
+            length += 1;
+        }
+    }
+    script.items.push(Item::Play { rounds: 2 });
+    bytes_of(&words(&script))
+}

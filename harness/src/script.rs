@@ -1,0 +1,9 @@
+//! Run scripts: checking, playing a whole backplane, the fault limit and the printed lines.
+
+pub mod backplane;
+pub mod check;
+pub mod limit;
+pub mod print;
+
+pub use check::{check, Item, Script};
+pub use print::run;

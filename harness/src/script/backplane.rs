@@ -1,0 +1,156 @@
+//! A whole backplane, played round by round.
+
+use super::limit::{kept, Hearing};
+use crate::model::setup::Setup;
+use crate::model::state::{fresh, handed_out, State};
+use crate::model::step::{step, Outcome};
+use crate::model::words::{full, has, only, Vector, MAX};
+
+/// What one receiver gets from one sender in one round.
+#[derive(Clone, Copy, PartialEq, Eq, Debug)]
+pub struct Arrival {
+    pub controller_bit: bool,
+    pub word: u32,
+}
+
+/// What happens to one sender's word at one receiver.
+#[derive(Clone, Copy, PartialEq, Eq, Debug)]
+pub enum Event {
+    Loss,
+    Lie { told: u32 },
+}
+
+/// `arrivals[sender - 1][receiver - 1]`, the words sent in one round.
+pub type Arrivals = [[Arrival; MAX]; MAX];
+
+/// `events[sender - 1][receiver - 1]`, for one round.
+pub type Events = [[Option<Event>; MAX]; MAX];
+
+pub const NO_EVENTS: Events = [[None; MAX]; MAX];
+
+/// A later event for the same sender and receiver replaces an earlier one.
+pub fn add_event(events: &mut Events, sender: usize, receivers: u32, event: Event) {
+    for receiver in 1..=MAX {
+        if has(receivers, receiver) {
+            events[sender - 1][receiver - 1] = Some(event);
+        }
+    }
+}
+
+pub struct Backplane {
+    pub setup: Setup,
+    pub cast: u32,
+    u: usize,
+    /// Modules by read place, smallest first.
+    order: Vec<usize>,
+    /// Rounds played.
+    pub round: u32,
+    /// Module j stands at j-1.
+    pub states: [State; MAX],
+    pub outcomes: [Outcome; MAX],
+    /// For each module the word it handed out last.
+    handed_out: [u32; MAX],
+    /// The words sent in the round played last.
+    pub arrivals: Arrivals,
+    /// How senders were heard in the round played last and the two before it.
+    pub hearings: [Hearing; 3],
+    /// The limit was kept in every round so far.
+    pub kept_so_far: bool,
+}
+
+impl Backplane {
+    pub fn new(setup: &Setup, cast: u32) -> Backplane {
+        let n = setup.n;
+        let mut order: Vec<usize> = (1..=n).collect();
+        order.sort_by_key(|&j| setup.module(j).place);
+
+        let mut states = [fresh(setup, 1); MAX];
+        let mut handed = [0; MAX];
+        for j in 1..=n {
+            states[j - 1] = fresh(setup, j);
+            handed[j - 1] = handed_out(setup, &states[j - 1]);
+        }
+
+        // In rounds before 1 all hear all, with all-ones words.
+        let ones = Vector { kind: 5, bits: full(n) }.word();
+        let arrivals = [[Arrival { controller_bit: true, word: ones }; MAX]; MAX];
+        let faultless = Hearing::of(n, cast, &arrivals);
+
+        Backplane {
+            setup: *setup,
+            cast,
+            u: setup.u(),
+            order,
+            round: 0,
+            states,
+            outcomes: [Outcome { health: 0, accused: [0; MAX], syndrome: 0, word: 0 }; MAX],
+            handed_out: handed,
+            arrivals,
+            hearings: [faultless; 3],
+            kept_so_far: true,
+        }
+    }
+
+    /// Plays one round; the events count for the words sent in it.
+    ///
+    /// A marked module sends the word that its step of this round hands out, another module the
+    /// word that its step of the round before handed out. A module with read place l reads the
+    /// words of this round for j <= l. A marked module j has l < j, so it steps before whoever
+    /// reads its word of this round, if modules step by read place.
+    pub fn play_round(&mut self, events: &Events) {
+        let n = self.setup.n;
+        let earlier = self.arrivals;
+        self.round += 1;
+
+        for j in 1..=n {
+            if !self.setup.module(j).send_mark {
+                self.send(j, events);
+            }
+        }
+        for at in 0..n {
+            let j = self.order[at];
+            self.step_module(j, &earlier);
+            if self.setup.module(j).send_mark {
+                self.send(j, events);
+            }
+        }
+
+        // The fault limit, over this round and round k-u-1.
+        self.hearings = [Hearing::of(n, self.cast, &self.arrivals), self.hearings[0], self.hearings[1]];
+        if !kept(n, self.cast, &self.hearings[0], &self.hearings[self.u + 1]) {
+            self.kept_so_far = false;
+        }
+    }
+
+    /// Puts the word that module j handed out on the bus of this round.
+    fn send(&mut self, j: usize, events: &Events) {
+        let word = self.handed_out[j - 1];
+        for receiver in 1..=self.setup.n {
+            self.arrivals[j - 1][receiver - 1] = match events[j - 1][receiver - 1] {
+                None => Arrival { controller_bit: true, word },
+                Some(Event::Loss) => Arrival { controller_bit: false, word: 0 },
+                Some(Event::Lie { told }) => Arrival { controller_bit: true, word: told },
+            };
+        }
+    }
+
+    /// Steps module i with its read: words of this round for j <= l, of the round before for
+    /// the others (rule 3).
+    fn step_module(&mut self, i: usize, earlier: &Arrivals) {
+        let place = self.setup.module(i).place as usize;
+        let mut read = [0; MAX];
+        let mut controller = 0;
+        for j in 1..=self.setup.n {
+            let sent = if j <= place { &self.arrivals } else { earlier };
+            let arrival = sent[j - 1][i - 1];
+            read[j - 1] = arrival.word;
+            if arrival.controller_bit {
+                controller |= only(j);
+            }
+        }
+        let state = &mut self.states[i - 1];
+        let outcome = step(&self.setup, state, &read, controller).expect("a step of the bench is accepted");
+        self.handed_out[i - 1] = outcome.word;
+        self.outcomes[i - 1] = outcome;
+    }
+}

@@ -1,0 +1,265 @@
+//! The table of answers: the example of each number, and the order of numbers.
+
+mod common;
+
+use common::*;
+use harness::model::calls::{Answer, Functions, Model};
+use harness::model::state::{fresh, image_words};
+use harness::model::step::{heard_word, step};
+use harness::model::words::bytes_of;
+use harness::random::reads::read as random_read;
+use harness::random::setups::setup as random_setup;
+use harness::random::states::state as random_state;
+use harness::random::Random;
+
+fn answer(number: u32, index: u32) -> Answer {
+    Answer { number, index, health: 0 }
+}
+
+fn checked(words: &[u32]) -> Answer {
+    Model.check_setup(&bytes_of(words))
+}
+
+/// The setup with one word replaced.
+fn with(words: &[u32], at: usize, word: u32) -> Vec<u32> {
+    let mut words = words.to_vec();
+    words[at] = word;
+    words
+}
+
+/// The saved state of module 2 of the sheet, freshly opened: 22 words.
+fn image() -> Vec<u32> {
+    let setup = setup(&SHEET);
+    image_words(&setup, &fresh(&setup, 2))
+}
+
+/// The answer of saving; the output is of right length and must stay as given if refused.
+fn saved(words: &[u32]) -> Answer {
+    let mut out = vec![0xAA; 88];
+    let answer = Model.save(&bytes_of(words), &mut out);
+    if answer.number == 0 {
+        assert_eq!(out, bytes_of(words));
+    } else {
+        assert!(out.iter().all(|&byte| byte == 0xAA));
+    }
+    answer
+}
+
+/// The answer of a step; the output must stay as given if refused.
+fn stepped(words: &[u32], read: &[u8], controller: u32, out_len: usize) -> Answer {
+    let mut out = vec![0xAA; out_len];
+    let answer = Model.step(&bytes_of(words), read, controller, &mut out);
+    if answer.number != 0 {
+        assert!(out.iter().all(|&byte| byte == 0xAA));
+    }
+    answer
+}
+
+fn full_read(words: usize) -> Vec<u8> {
+    bytes_of(&vec![0x5000000F; words])
+}
+
+#[test]
+fn number_1() {
+    let five = &bytes_of(&SHEET)[..5];
+    assert_eq!(Model.check_setup(five), answer(1, 0));
+    assert_eq!(Model.check_setup(&[]), answer(1, 0));
+    assert_eq!(Model.open(five, 1, &mut []), answer(1, 0));
+    assert_eq!(Model.save(five, &mut []), answer(1, 0));
+    assert_eq!(run_both(five), "refused 1 at 0\n");
+    assert_eq!(run_both(&[]), "refused 1 at 0\n");
+}
+
+#[test]
+fn number_2() {
+    assert_eq!(checked(&with(&SHEET, 0, 0x10000011)), answer(2, 0));
+    assert_eq!(checked(&with(&SHEET, 0, 0x10000001)), answer(2, 0));
+    assert_eq!(checked(&with(&SHEET, 0, 0x10000024)), answer(2, 0));
+    assert_eq!(run_both(&script(&with(&SHEET, 0, 0x10000011), &[NO_CAST, play(1)])), "refused 2 at 0\n");
+}
+
+#[test]
+fn number_3() {
+    assert_eq!(checked(&SHEET[..6]), answer(3, 0));
+    assert_eq!(checked(&[&SHEET[..], &[0x42880001]].concat()), answer(3, 0));
+    assert_eq!(saved(&image()[..21]), answer(3, 0));
+    assert_eq!(run_both(&bytes_of(&SHEET[..6])), "refused 3 at 0\n");
+}
+
+#[test]
+fn number_4() {
+    assert_eq!(checked(&with(&SHEET, 1, 0x20000000)), answer(4, 1));
+    assert_eq!(checked(&with(&SHEET, 1, 0x20000000 | 1_000_001)), answer(4, 1));
+    assert_eq!(checked(&with(&SHEET, 1, 0x20000000 | 1_000_000)), answer(0, 0));
+    assert_eq!(checked(&with(&SHEET, 2, 0x30000000)), answer(4, 2));
+    assert_eq!(checked(&with(&SHEET, 2, 0x30000000 | 8_000_001)), answer(4, 2));
+    assert_eq!(checked(&with(&SHEET, 2, 0x30000000 | 8_000_000)), answer(0, 0));
+    assert_eq!(run_both(&script(&with(&SHEET, 1, 0x20000000), &[NO_CAST, play(1)])), "refused 4 at 1\n");
+}
+
+#[test]
+fn number_5() {
+    // l = 5, N = 4, in the word of module 3.
+    assert_eq!(checked(&with(&SHEET, 5, 0x418A0001)), answer(5, 5));
+    // Out of turn, criticality 0 and 100,001.
+    assert_eq!(checked(&with(&SHEET, 5, SHEET[6])), answer(5, 5));
+    assert_eq!(checked(&with(&SHEET, 5, 0x41880000)), answer(5, 5));
+    assert_eq!(checked(&with(&SHEET, 5, 0x41880000 + 100_000)), answer(0, 0));
+    assert_eq!(checked(&with(&SHEET, 5, 0x41880000 + 100_001)), answer(5, 5));
+}
+
+#[test]
+fn number_6() {
+    // Number 2 with a mark and l = 2; l = 1 is accepted.
+    assert_eq!(checked(&with(&SHEET, 4, 0x41440001)), answer(6, 4));
+    assert_eq!(checked(&with(&SHEET, 4, 0x41420001)), answer(0, 0));
+    // A mark on 1.
+    assert_eq!(checked(&with(&SHEET, 3, 0x40C00001)), answer(6, 3));
+    // 5 comes before 6, also at a later word.
+    assert_eq!(checked(&with(&with(&SHEET, 3, 0x40C00001), 6, 0)), answer(5, 6));
+}
+
+#[test]
+fn number_7() {
+    let mut out = vec![0xAA; 88];
+    for own in [0, 5, 16, 17, 32 + 1, 256 + 1, u32::MAX] {
+        assert_eq!(Model.open(&bytes_of(&SHEET), own, &mut out), answer(7, 0));
+    }
+    // 7 before 9.
+    assert_eq!(Model.open(&bytes_of(&SHEET), 0, &mut []), answer(7, 0));
+    assert!(out.iter().all(|&byte| byte == 0xAA));
+    // In a state at word N+3, before 8, and only if the word is kind 10.
+    assert_eq!(saved(&with(&image(), 7, 0xA000000F)), answer(7, 7));
+    assert_eq!(saved(&with(&image(), 7, 0xA005000F)), answer(7, 7));
+    assert_eq!(saved(&with(&image(), 7, 0xA800001F)), answer(7, 7));
+    assert_eq!(saved(&with(&with(&image(), 7, 0xA000000F), 8, 0)), answer(7, 7));
+    assert_eq!(saved(&with(&image(), 7, 0x9000000F)), answer(8, 7));
+}
+
+#[test]
+fn number_8() {
+    assert_eq!(saved(&image()), answer(0, 0));
+    // Word 7: own number and view. A spare bit; a bit at N.
+    assert_eq!(saved(&with(&image(), 7, 0xA022000F)), answer(8, 7));
+    assert_eq!(saved(&with(&image(), 7, 0xA002001F)), answer(8, 7));
+    // Words 8..11: a row with heard 0, a bit at N, a spare bit, out of turn, another kind.
+    assert_eq!(saved(&with(&image(), 9, 0xB1000000)), answer(0, 0));
+    assert_eq!(saved(&with(&image(), 9, 0xB1000001)), answer(8, 9));
+    assert_eq!(saved(&with(&image(), 9, 0xB140001F)), answer(8, 9));
+    assert_eq!(saved(&with(&image(), 9, 0xB161000F)), answer(8, 9));
+    assert_eq!(saved(&with(&image(), 9, 0xB1C0000F)), answer(8, 9));
+    assert_eq!(saved(&with(&image(), 9, 0xC140000F)), answer(8, 9));
+    // Words 12 and 13: syndromes.
+    assert_eq!(saved(&with(&image(), 12, 0xC000001F)), answer(8, 12));
+    assert_eq!(saved(&with(&image(), 13, 0xC001000F)), answer(8, 13));
+    // Words 14..17: penalties. P = 1, criticality 1, so a penalty is 2 at most and leaves at 2.
+    assert_eq!(saved(&with(&image(), 15, 0xD1000001)), answer(0, 0));
+    assert_eq!(saved(&with(&image(), 15, 0xD1000002)), answer(8, 15));
+    let out_of_view = with(&image(), 7, 0xA002000D);
+    assert_eq!(saved(&with(&out_of_view, 15, 0xD1000002)), answer(0, 0));
+    assert_eq!(saved(&with(&out_of_view, 15, 0xD1000003)), answer(8, 15));
+    assert_eq!(saved(&with(&out_of_view, 15, 0xD1000001)), answer(8, 15));
+    assert_eq!(saved(&out_of_view), answer(8, 15));
+    // Words 18..21: rewards. R = 3.
+    let charged = with(&image(), 15, 0xD1000001);
+    assert_eq!(saved(&with(&charged, 19, 0xE1000002)), answer(0, 0));
+    assert_eq!(saved(&with(&charged, 19, 0xE1000003)), answer(8, 19));
+    assert_eq!(saved(&with(&image(), 19, 0xE1000001)), answer(8, 19));
+    // A module out of the view may carry a reward.
+    assert_eq!(saved(&with(&with(&out_of_view, 15, 0xD1000002), 19, 0xE1000002)), answer(0, 0));
+}
+
+#[test]
+fn number_9() {
+    assert_eq!(stepped(&image(), &full_read(3), 15, 88), answer(9, 0));
+    assert_eq!(stepped(&image(), &full_read(5), 15, 88), answer(9, 0));
+    assert_eq!(stepped(&image(), &full_read(4)[..15], 15, 88), answer(9, 0));
+    for out_len in [0, 84, 87, 89, 92] {
+        assert_eq!(stepped(&image(), &full_read(4), 15, out_len), answer(9, 0));
+        assert_eq!(Model.save(&bytes_of(&image()), &mut vec![0; out_len]), answer(9, 0));
+        assert_eq!(Model.open(&bytes_of(&SHEET), 1, &mut vec![0; out_len]), answer(9, 0));
+    }
+    // 9 before 10, 8 before 9.
+    assert_eq!(stepped(&image(), &full_read(3), 16, 88), answer(9, 0));
+    assert_eq!(stepped(&with(&image(), 9, 0), &full_read(3), 16, 0), answer(8, 9));
+}
+
+#[test]
+fn number_10() {
+    assert_eq!(stepped(&image(), &full_read(4), 1 << 4, 88), answer(10, 0));
+    assert_eq!(stepped(&image(), &full_read(4), 1 << 31 | 15, 88), answer(10, 0));
+    assert_eq!(stepped(&image(), &full_read(4), 15, 88), Answer { number: 0, index: 0, health: 15 });
+}
+
+/// None known: the word handed out always passes its test, from any accepted state.
+#[test]
+fn number_11() {
+    let mut random = Random::new(11);
+    for _ in 0..2_000 {
+        let setup = random_setup(&mut random);
+        let mut state = random_state(&mut random, &setup);
+        let (read, controller) = random_read(&mut random, &setup, &state);
+        let outcome = step(&setup, &mut state, &read, controller).unwrap();
+        assert!(heard_word(setup.n, outcome.word).is_some());
+    }
+}
+
+#[test]
+fn number_12() {
+    assert_eq!(run_both(&script(&SHEET, &[NO_CAST, play(0)])), "refused 12 at 8\n");
+    assert_eq!(run_both(&script(&SHEET, &[NO_CAST, play(1001)])), "refused 12 at 8\n");
+    assert_eq!(run_both(&script(&SHEET, &[play(1)])), "refused 12 at 7\n");
+    assert_eq!(run_both(&script(&SHEET, &[0x60000010, play(1)])), "refused 12 at 7\n");
+    assert_eq!(run_both(&script(&SHEET, &[NO_CAST, play(1), NO_CAST])), "refused 12 at 9\n");
+    assert_eq!(run_both(&script(&SHEET, &[NO_CAST, loss(2, 0), play(1)])), "refused 12 at 8\n");
+    assert_eq!(run_both(&script(&SHEET, &[NO_CAST, loss(5, 1), play(1)])), "refused 12 at 8\n");
+    assert_eq!(run_both(&script(&SHEET, &[NO_CAST, loss(2, 16), play(1)])), "refused 12 at 8\n");
+}
+
+#[test]
+fn number_13() {
+    assert_eq!(run_both(&script(&SHEET, &[NO_CAST, lie(2, 15), 0, play(1)])), "refused 13 at 8\n");
+    assert_eq!(run_both(&script(&SHEET, &[NO_CAST, lie(2, 15)])), "refused 13 at 8\n");
+    assert_eq!(run_both(&script(&SHEET, &[NO_CAST, lie(2, 0), 0, play(1)])), "refused 12 at 8\n");
+}
+
+#[test]
+fn number_14() {
+    assert_eq!(run_both(&script(&SHEET, &[NO_CAST, play(1), loss(2, 15)])), "refused 14 at 10\n");
+    assert_eq!(run_both(&script(&SHEET, &[])), "refused 14 at 7\n");
+    assert_eq!(run_both(&script(&SHEET, &[NO_CAST])), "refused 14 at 8\n");
+    assert_eq!(run_both(&script(&SHEET, &[0x60000002, play(1), lie(2, 15)])), "refused 14 at 10\n");
+    assert_eq!(run_both(&script(&SHEET, &[0x60000002, play(1), lie(2, 15), play(1)])), "refused 14 at 11\n");
+}
+
+#[test]
+fn number_15() {
+    let plays = vec![play(1000); 101];
+    assert_eq!(run_both(&script(&SHEET, &[&[NO_CAST], &plays[..]].concat())), "refused 15 at 108\n");
+    // 100,000 rounds are played.
+    let two = [0x10000002, 0x20000001, 0x30000003, 0x40840001, 0x41040001];
+    let output = by_player(&script(&two, &[&[NO_CAST], &plays[..100]].concat()));
+    assert!(output.ends_with("\n100000 2 11 11 in\n"));
+    // 12 at an earlier word comes first.
+    let tail = [&[NO_CAST, play(0)], &plays[..]].concat();
+    assert_eq!(run_both(&script(&SHEET, &tail)), "refused 12 at 8\n");
+}
+
+#[test]
+fn number_16() {
+    assert_eq!(run_both(&vec![0; 65_540]), "refused 16 at 0\n");
+    assert_eq!(run_both(&vec![0; 65_537]), "refused 16 at 0\n");
+    assert_eq!(run_both(&vec![0; 65_536]), "refused 2 at 0\n");
+}
+
+#[test]
+fn opening_writes_the_fresh_image() {
+    let mut out = vec![0xAA; 88];
+    assert_eq!(Model.open(&bytes_of(&SHEET), 2, &mut out), answer(0, 0));
+    let words = [
+        &SHEET[..],
+        &[0xA002000F, 0xB0C0000F, 0xB140000F, 0xB1C0000F, 0xB240000F, 0xC000000F, 0xC000000F],
+        &[0xD0800000, 0xD1000000, 0xD1800000, 0xD2000000, 0xE0800000, 0xE1000000, 0xE1800000, 0xE2000000],
+    ];
+    assert_eq!(out, bytes_of(&words.concat()));
+}
