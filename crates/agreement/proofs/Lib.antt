@@ -7,4 +7,6 @@ pub mod Meets
 pub mod Ledger
 pub mod Demand
 pub mod Existence
+pub mod CallAnswers
+pub mod Images
 pub mod Stars

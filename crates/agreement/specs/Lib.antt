@@ -4,4 +4,5 @@ pub mod Life
 pub mod Demand
 pub mod Existence
 pub mod Ledger
+pub mod Images
 pub mod Stars
