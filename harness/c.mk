@@ -1,17 +1,17 @@
-# c.mk - builds and runs the C side.
+# harness/c.mk - builds and runs the C side.
 #
-#   make -f c.mk PRESENCE_LIB=folder check check-asan firmware
-#   make -f c.mk PRESENCE_LIB=folder measure
+#   make -f harness/c.mk PRESENCE_LIB=folder check check-asan firmware
+#   make -f harness/c.mk PRESENCE_LIB=folder measure
 #
 # PRESENCE_LIB   folder of libpresence.a
 # PRESENCE_LIBS  further linker arguments that the archive needs, if any
 # CALLS          file of calls
 # C_BUILD        folder for what is built here
 
-PRESENCE_LIB ?= target/release
+PRESENCE_LIB ?= target/staticlib
 PRESENCE_LIBS ?=
 CALLS ?= harness/data/calls.txt
-C_BUILD ?= build/c
+C_BUILD ?= target/c
 
 C_FLAGS = -std=c99 -Wall -Wextra -Werror -Iinclude
 C_LINK = -L$(PRESENCE_LIB) -lpresence $(PRESENCE_LIBS)
