@@ -1,7 +1,7 @@
 //! The calls file: one call a line with the answer it must give. Besides the calls named at the
 //! top of that file, `outgoing STATE = NUMBER INDEX WORD` is understood.
 
-use crate::call::{Call, Lent};
+use crate::call::{Call, Lent, Reply};
 use crate::hex::{from_hex, to_hex};
 use crate::model::calls::Functions;
 
@@ -88,6 +88,51 @@ fn hexadecimal(text: &str) -> Result<u32, String> {
     u32::from_str_radix(text, 16).map_err(|_| format!("no hexadecimal number: {text}"))
 }
 
+/// Fillings of the output with which the calls of a line are made.
+const PATTERNS: [u32; 3] = [0x0000, 0x5A03, 0xFF05];
+
+/// All cases of a line, with different fillings of the output.
+pub fn compare_all(cases: &[Case], on: &dyn Functions) -> Result<(), String> {
+    for case in cases {
+        for pattern in PATTERNS {
+            compare(case, on, pattern)?;
+        }
+    }
+    Ok(())
+}
+
+/// The line anew, with the answer that comes out; comments and empty lines stay as they are.
+/// An error if no line can say what came out.
+pub fn answered(text: &str, on: &dyn Functions) -> Result<String, String> {
+    let cases = parse(text)?;
+    let Some(case) = cases.first() else {
+        return Ok(text.to_string());
+    };
+    let given = Lent::new(case.call.out_len(), PATTERNS[0]);
+    let mut lent = given.clone();
+    let Reply { number, index, value } = case.call.make(on, lent.output());
+    let output = written(&lent, &given);
+    let line = match &case.call {
+        Call::CheckSetup { .. } => format!("{} = {number} {index}", case.call.text()),
+        Call::Save { state, .. } if cases.len() == 2 => format!("state {} = {number} {index}", to_hex(state)),
+        Call::Outgoing { .. } => format!("{} = {number} {index} {value:08X}", case.call.text()),
+        _ => format!("{} = {number} {index} {value:04X} {output}", case.call.text()),
+    };
+    match compare_all(&parse(&line)?, on) {
+        Ok(()) => Ok(line),
+        Err(found) => Err(format!("answers {number} {index} {value:04X} {output} and {found}")),
+    }
+}
+
+/// What the output holds; `-` if it is as given.
+fn written(lent: &Lent, given: &Lent) -> String {
+    if lent.written() == given.written() {
+        "-".to_string()
+    } else {
+        to_hex(lent.written())
+    }
+}
+
 /// Makes the call and compares number, index, health or word, and the whole lent buffer.
 /// The error says what came out instead.
 pub fn compare(case: &Case, on: &dyn Functions, pattern: u32) -> Result<(), String> {
@@ -102,7 +147,7 @@ pub fn compare(case: &Case, on: &dyn Functions, pattern: u32) -> Result<(), Stri
     if reply.number == case.number && reply.index == case.index && value_right && lent == wanted {
         return Ok(());
     }
-    let output = if lent.written() == given.written() { "-".to_string() } else { to_hex(lent.written()) };
+    let output = written(&lent, &given);
     let outside = if lent.same_margins(&given) { "" } else { ", and wrote outside the output" };
     Err(format!("{} {} {:04X} {output}{outside}", reply.number, reply.index, reply.value))
 }

@@ -2,7 +2,7 @@
 
 mod common;
 
-use harness::calls_file::{compare, parse};
+use harness::calls_file::{answered, compare, parse};
 use harness::model::calls::Model;
 use std::fs;
 use std::path::PathBuf;
@@ -11,19 +11,60 @@ fn data(name: &str) -> PathBuf {
     PathBuf::from(env!("CARGO_MANIFEST_DIR")).join("data").join(name)
 }
 
+const CALLS: [&str; 2] = ["calls.txt", "own-calls.txt"];
+
 #[test]
 fn calls() {
-    let text = fs::read_to_string(data("calls.txt")).unwrap();
-    let mut lines = 0;
-    for text in text.lines() {
-        let cases = parse(text).unwrap();
-        for case in &cases {
-            assert_eq!(compare(case, &Model, 0x1234), Ok(()), "{text}");
+    for name in CALLS {
+        let text = fs::read_to_string(data(name)).unwrap();
+        let mut lines = 0;
+        for text in text.lines() {
+            let cases = parse(text).unwrap();
+            for case in &cases {
+                assert_eq!(compare(case, &Model, 0x1234), Ok(()), "{text}");
+            }
+            lines += usize::from(!cases.is_empty());
         }
-        lines += usize::from(!cases.is_empty());
+        assert_eq!(lines, text.lines().filter(|text| !text.starts_with('#') && !text.is_empty()).count());
+        assert!(lines > 0);
     }
-    assert_eq!(lines, text.lines().filter(|text| !text.starts_with('#') && !text.is_empty()).count());
-    assert!(lines > 0);
+}
+
+#[test]
+fn calls_written_anew() {
+    for name in CALLS {
+        for text in fs::read_to_string(data(name)).unwrap().lines() {
+            assert_eq!(answered(text, &Model).as_deref(), Ok(text));
+        }
+    }
+}
+
+/// A wrong answer in the line is replaced, and what is no answer of the call is an error.
+#[test]
+fn wrong_calls_written_anew() {
+    for (wrong, right) in [
+        ("setup - = 0 0", "setup - = 1 0"),
+        ("state 10000004 = 8 7", "state 10000004 = 3 0"),
+        ("open - 1 4 = 0 0 0000 00000000", "open - 1 4 = 1 0 0000 -"),
+        ("step 00000000 - F 0 = 9 0 000F -", "step 00000000 - F 0 = 2 0 0000 -"),
+        ("save 1000 0 = 0 0 0000 -", "save 1000 0 = 1 0 0000 -"),
+        ("outgoing - = 0 0 5000000F", "outgoing - = 1 0 00000000"),
+    ] {
+        assert_eq!(answered(wrong, &Model).as_deref(), Ok(right));
+    }
+    assert!(answered("setup - 0 0", &Model).is_err());
+}
+
+/// Own calls hold every answer number that the calls can give, but 11.
+#[test]
+fn own_calls_hold_every_number() {
+    let mut count = [0; 11];
+    for text in fs::read_to_string(data("own-calls.txt")).unwrap().lines() {
+        if let Some(case) = parse(text).unwrap().first() {
+            count[case.number as usize] += 1;
+        }
+    }
+    assert!(count.iter().all(|&count| count > 0), "{count:?}");
 }
 
 #[test]

@@ -1,22 +1,23 @@
 -- What a call from C answers and leaves in its output, put together from the answers of its parts.
 use mathlib.Core.Path.{_≡_, refl, ap, ap₂, _∙_, sym, subst}
-use mathlib.Core.Bool.{Bool, true, false, cond}
+use mathlib.Core.Bool.{Bool, true, false, cond, not}
 use mathlib.Core.List.{List}
 use Prim.Native.Nat.{ℕ, _+_, _*_}
 use lib.Dec.{eqb}
 use lib.ListN.{length}
-use borrow.Author.Tests.{eq-eqb, ne-eqb}
+use borrow.Author.Tests.{eq-eqb, ne-eqb, eqb-true, eqb-false, not-true, not-false}
+use Rattle.words.specs.Word.{wordAt}
 use Rattle.words.proofs.Truth.{cond-true, cond-false}
 use Rattle.setup.specs.Verdict.{verdict, accepted, isAccepted}
-use Rattle.setup.specs.Setup.{setupOf, blankSetup}
-use Rattle.setup.specs.Check.{checkSetup, readSetup}
+use Rattle.setup.specs.Setup.{sizeIn, setupOf, blankSetup}
+use Rattle.setup.specs.Check.{checkHead, checkWords, checkSetup, readSetup}
 use Rattle.setup.specs.declared.Setup.{Setup}
 use Rattle.setup.specs.declared.SetupRead.{SetupRead}
 use Rattle.setup.specs.declared.Verdict.{Verdict}
 use Rattle.presence.specs.Valid.{Valid}
 use Rattle.presence.specs.Opening.{blank, openOf}
 use Rattle.presence.specs.Step.{afterRound, acceptedStep, readStep, stepOf}
-use Rattle.presence.specs.Image.{imageOf, stateOf, checkImage, loadOf, roomFor}
+use Rattle.presence.specs.Image.{imageLength, imageOf, stateOf, checkTail, checkImage, loadOf, roomFor}
 use Rattle.presence.specs.Calls.{Called, answer, called, refusedCall, wrote, openCall, stepCall, saveCall, handedOut, outgoingCall}
 use Rattle.presence.specs.declared.State.{State}
 use Rattle.presence.specs.declared.Answer.{Answer}
@@ -26,6 +27,7 @@ use Rattle.presence.specs.declared.Stepped.{Stepped}
 use Rattle.presence.proofs.StepLaws.{step-accepted, step-valid, open-valid}
 use Rattle.presence.proofs.RoundLaws.{step-goes}
 use Rattle.presence.proofs.ImageLaws.{load-valid, image-zero}
+use Rattle.presence.proofs.AnswerLaws.{by-words}
 
 -- a refusal by the verdict v, answered by what was found of it
 refused-by : {v w : Verdict} (out : List ℕ) → v ≡ w → called (answer (v .number) (v .index) 0) out ≡ refusedCall (w .number) (w .index) out
@@ -203,3 +205,36 @@ module _ (image out : List ℕ) {v : Verdict} (e : v ≡ checkImage image) where
       step-wrote {b} n w =
           ap₂ (λ (x : Stepped) (y : List ℕ). called (answer 0 0 (x .health)) y) h (w ∙ ap (λ (x : Stepped). imageOf (x .state)) h)
           ∙ sym (cond-true _ _ (ap (λ (x : Stepped). eqb (x .number) 0) (sym h) ∙ eq-eqb (t .number) 0 n)) ∙ within
+
+-- ---- a step that reads its image at once
+
+-- v answers numbers 1 and 2, n is the size in the head, and good says whether the words after it are right
+module _ (image : List ℕ) {v : Verdict} (e : v ≡ checkHead image true accepted) {n : ℕ} (size : n ≡ sizeIn (wordAt image 0)) (z : v .number ≡ 0)
+    (l : length image ≡ imageLength n) {good : Bool} (g : good ≡ isAccepted (checkWords image n (checkTail image n))) where
+  pub words-wrong : not good ≡ true → isAccepted (checkImage image) ≡ false
+  words-wrong t = by-words image e size z l g ∙ not-true good t
+
+  pub words-right : not good ≡ false → checkImage image .number ≡ 0
+  words-right f = eqb-true (checkImage image .number) 0 (by-words image e size z l g ∙ not-false good f)
+
+pub step-bad : (image read : List ℕ) (controller : ℕ) (out : List ℕ) {r : Answer}
+    → r ≡ answer (checkImage image .number) (checkImage image .index) 0 → isAccepted (checkImage image) ≡ false
+    → called r out ≡ stepCall image read controller out
+step-bad image read controller out q f =
+    ap (λ (x : Answer). called x out) q ∙ step-bad-image image out refl read controller (eqb-false (checkImage image .number) 0 f)
+
+module _ (image : List ℕ) {n : ℕ} (size : n ≡ sizeIn (wordAt image 0)) where
+  pub size-of : {k : State} → k ≡ stateOf image → k .setup .n ≡ n
+  unfolding stateOf setupOf
+  size-of h = ap (λ (x : State). x .setup .n) h ∙ sym size
+
+  pub room-size : (out : List ℕ) → length out ≡ (4 * n + 6) * 4 → roomFor (stateOf image) out ≡ true
+  unfolding roomFor
+  room-size out l = eq-eqb (length out) _ (l ∙ ap imageLength (sym (size-of refl)))
+
+  pub no-room-size : (out : List ℕ) → (length out ≡ (4 * n + 6) * 4 → ⊥) → roomFor (stateOf image) out ≡ false
+  unfolding roomFor
+  no-room-size out f = ne-eqb (length out) _ (λ l. f (l ∙ ap imageLength (size-of refl)))
+
+pub read-valid : (image : List ℕ) {k : State} → k ≡ stateOf image → checkImage image .number ≡ 0 → Valid k
+read-valid image h z = subst Valid (sym h) (load-valid image z)

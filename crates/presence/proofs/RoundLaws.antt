@@ -3,7 +3,7 @@ use mathlib.Core.Path.{_≡_, refl, ap, ap₂, _∙_, sym, subst}
 use mathlib.Core.Bool.{Bool, true, false, cond, _||_}
 use mathlib.Core.Logic.{⊎-elim}
 use mathlib.Core.List.{List}
-use Prim.Native.Nat.{ℕ, _+_, _*_, _^_, _<_, _≤_}
+use Prim.Native.Nat.{ℕ, _+_, _-_, _*_, _^_, _<_, _≤_}
 use native.Mathlib.Omega.{arith}
 use lib.ListN.{getD, length, replicate}
 use lib.Dec.{eqb, leb, ltb}
@@ -47,6 +47,14 @@ judged-made st this {skew} {place} {own} {a} {j} s p e o h =
     in
     let o′ : own ≡ cond (skewOf st) (st .earlier) (st .latest) = o ∙ ap (λ (x : Bool). cond x (st .earlier) (st .latest)) s in
     h ∙ ap₂ (λ (x : Reading) (y : ℕ). judgementOf (st .setup .n) x y) a′ o′
+
+-- a valid state's own read place is at most N
+pub place-small : (st : State) {r : ℕ} → StateFits st → r ≡ placeOf st → r < 31
+unfolding placeOf
+place-small st f e =
+    let h : st .own - 1 < st .setup .n = omega (arith, f .first, f .last) in
+    let w = f .setup .each (st .own - 1) h in
+    omega (arith, w .within, f .setup .most)
 
 -- ---- rule 8
 

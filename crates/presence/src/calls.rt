@@ -3,9 +3,13 @@ use crate::Answer;
 use crate::Outgoing;
 use crate::State;
 use crate::check::check_image;
+use crate::load::load;
 use crate::save::save_words;
+use setup::check::check_head;
+use setup::check::size_at;
 ghost use mathlib.Core.Path.{_≡_};
 ghost use Rattle.presence.specs.Valid.{Valid};
+ghost use Rattle.presence.specs.Image.{checkImage};
 ghost use Rattle.presence.specs.Calls.{answer, called, checkCall, openCall, stepCall, saveCall, handedOut, outgoingCall};
 
 // An answer without health.
@@ -50,22 +54,33 @@ pub extern "C" fn presence_open(bytes: &[u8], own: u32, out: &mut [u8]) -> Answe
     refuse(0, 0)
 }
 
+// The refusal of an image by its number and index.
+pub fn refuse_image(image: &[u8]) -> Answer
+    ensures { λ r. ⌜ r ≡ answer (checkImage (now (image .entry)) .number) (checkImage (now (image .entry)) .index) 0 ⌝ }
+{
+    let v = check_image(image);
+    refuse(v.number, v.index)
+}
+
 // One step, from image to image: 1 to 8, 9 for the read or the output, 10, 11.
 #[no_mangle]
-pub extern "C" fn presence_step(
-    image: &[u8],
-    read: &[u8],
-    controller: u32,
-    out: &mut [u8],
-) -> Answer
+pub extern "C" fn presence_step(image: &[u8], read: &[u8], controller: u32, out: &mut [u8]) -> Answer
     ensures { λ r. ⌜ called r (now (out .exit)) ≡ stepCall (now (image .entry)) (now (read .entry)) controller (now (out .entry)) ⌝ }
 {
-    let loaded = State::load(image);
-    if loaded.number != 0 {
-        return refuse(loaded.number, loaded.index);
+    let head = check_head(image);
+    if head.number != 0 {
+        return refuse_image(image);
+    }
+    let n = size_at(image);
+    if image.len() != (4 * n + 6) * 4 {
+        return refuse_image(image);
+    }
+    let loaded = load(image, n);
+    if !loaded.good {
+        return refuse_image(image);
     }
     let state = loaded.state;
-    if out.len() != (4 * state.setup.n + 6) * 4 {
+    if out.len() != (4 * n + 6) * 4 {
         return refuse(9, 0);
     }
     let t = state.stepped(read, controller);

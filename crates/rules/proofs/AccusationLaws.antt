@@ -1,13 +1,13 @@
 -- Rule 5: who is accused.
-use mathlib.Core.Path.{_≡_, refl, sym, ap, _∙_}
-use mathlib.Core.Bool.{Bool, true, false, cond, not, _&&_}
+use mathlib.Core.Path.{_≡_, refl, ap, _∙_}
+use mathlib.Core.Bool.{Bool, true, false, not, _&&_}
 use mathlib.Core.Logic.{⊎-elim}
-use Prim.Native.Nat.{ℕ, _≤_, _<_}
+use Prim.Native.Nat.{ℕ}
 use lib.Dec.{eqb}
 use borrow.Author.Tests.{eq-eqb, eqb-true, not-false}
 use Rattle.words.specs.Bits.{bit}
 use Rattle.words.specs.Count.{any, lowest}
-use Rattle.words.proofs.Truth.{clash, which, iff-eq, not-both, and-l, cond-true}
+use Rattle.words.proofs.Truth.{which, iff-eq, not-both, and-l, cond-true}
 use Rattle.words.proofs.CountLaws.{any-none, any-empty}
 use Rattle.words.proofs.LowestLaws.{lowest-zero, lowest-empty}
 use Rattle.rules.specs.Accusation.{differsAt, accusationOf}

@@ -27,11 +27,6 @@ module _ (n : ℕ) (skew : Bool) (place : ℕ) (previous this : Reading) (j : �
 
 -- ---- as code aligns
 
--- a bit of one of two reads, picked by a test
-pub bit-of-either : {b : Bool} {x : ℕ} (t : Bool) (p q j : ℕ) → b ≡ bit x j → x ≡ cond t p q → b ≡ cond t (bit p j) (bit q j)
-bit-of-either true p q j e h = rw h at e
-bit-of-either false p q j e h = rw h at e
-
 module _ (n : ℕ) (skew : Bool) (place : ℕ) (previous this : Reading) where
   -- entries below `split` from the previous read
   abbrev splitAt : ℕ → Reading

@@ -1,5 +1,5 @@
 -- Sixteen counts in four lanes: a turn of the counting loop, how a count is read back, and that the votes by these counts are the health vector.
-use mathlib.Core.Path.{_≡_, refl, ap, ap₂, _∙_, sym}
+use mathlib.Core.Path.{_≡_, refl, ap, _∙_, sym}
 use mathlib.Core.Logic.{⊎-elim}
 use mathlib.Core.Bool.{Bool, true, false, cond, not, _&&_, and-comm}
 use mathlib.Core.List.{List, [], _∷_}
@@ -12,7 +12,7 @@ use lib.Dec.{eqb, lit<}
 use borrow.Author.Tests.{eq-eqb, ne-eqb, eqb-true}
 use Rattle.words.specs.Bits.{bit, b2n, pack}
 use Rattle.words.specs.Count.{count}
-use Rattle.words.proofs.Truth.{which, iff-eq, and-l, and-r}
+use Rattle.words.proofs.Truth.{iff-eq, and-l}
 use Rattle.words.proofs.BitLaws.{bit-high, pack-ext}
 use Rattle.words.proofs.CountLaws.{count-more, count-mono, count-ext, count-le, count-all}
 use Rattle.rules.specs.Mask.{without}
@@ -82,43 +82,37 @@ module _ (a b c d : ℕ) (ha : a ≤ 15) (hb : b ≤ 15) (hc : c ≤ 15) (hd : d
 
 -- a lane whose counts are at most 15
 module _ (f : ℕ → ℕ) (small : (j : ℕ) → j < 16 → f j ≤ 15) (j : ℕ) (h : j < 16) where
+  s0 : f (j % 4) ≤ 15
+  s0 = small (j % 4) (omega arith)
+
+  s1 : f (j % 4 + 4) ≤ 15
+  s1 = small (j % 4 + 4) (omega arith)
+
+  s2 : f (j % 4 + 8) ≤ 15
+  s2 = small (j % 4 + 8) (omega arith)
+
+  s3 : f (j % 4 + 12) ≤ 15
+  s3 = small (j % 4 + 12) (omega arith)
+
   lane-at : (i : ℕ) → j / 4 ≡ i → i < 4 → laneOf (j % 4) f / 2 ^ (j / 4 * 4) % 16 ≡ f j
   unfolding laneOf
-  lane-at i q l = go i q l
-    where
-      k : ℕ
-      k = j % 4
-
-      s0 : f (j % 4) ≤ 15
-      s0 = small (j % 4) (omega arith)
-
-      s1 : f (j % 4 + 4) ≤ 15
-      s1 = small (j % 4 + 4) (omega arith)
-
-      s2 : f (j % 4 + 8) ≤ 15
-      s2 = small (j % 4 + 8) (omega arith)
-
-      s3 : f (j % 4 + 12) ≤ 15
-      s3 = small (j % 4 + 12) (omega arith)
-
-      go : (i : ℕ) → j / 4 ≡ i → i < 4 → laneOf (j % 4) f / 2 ^ (j / 4 * 4) % 16 ≡ f j
-      go zero q l =
-          let e : j / 4 * 4 ≡ 0 = omega arith in
-          let g : j % 4 ≡ j = omega arith in
-          rw e (four0 _ _ _ _ s0 s1 s2 s3 ∙ ap f g)
-      go (suc zero) q l =
-          let e : j / 4 * 4 ≡ 4 = omega arith in
-          let g : j % 4 + 4 ≡ j = omega arith in
-          rw e (four1 _ _ _ _ s0 s1 s2 s3 ∙ ap f g)
-      go (suc (suc zero)) q l =
-          let e : j / 4 * 4 ≡ 8 = omega arith in
-          let g : j % 4 + 8 ≡ j = omega arith in
-          rw e (four2 _ _ _ _ s0 s1 s2 s3 ∙ ap f g)
-      go (suc (suc (suc zero))) q l =
-          let e : j / 4 * 4 ≡ 12 = omega arith in
-          let g : j % 4 + 12 ≡ j = omega arith in
-          rw e (four3 _ _ _ _ s0 s1 s2 s3 ∙ ap f g)
-      go (suc (suc (suc (suc i)))) q l = absurd (omega arith)
+  lane-at zero q l =
+      let e : j / 4 * 4 ≡ 0 = omega arith in
+      let g : j % 4 ≡ j = omega arith in
+      rw e (four0 _ _ _ _ s0 s1 s2 s3 ∙ ap f g)
+  lane-at (suc zero) q l =
+      let e : j / 4 * 4 ≡ 4 = omega arith in
+      let g : j % 4 + 4 ≡ j = omega arith in
+      rw e (four1 _ _ _ _ s0 s1 s2 s3 ∙ ap f g)
+  lane-at (suc (suc zero)) q l =
+      let e : j / 4 * 4 ≡ 8 = omega arith in
+      let g : j % 4 + 8 ≡ j = omega arith in
+      rw e (four2 _ _ _ _ s0 s1 s2 s3 ∙ ap f g)
+  lane-at (suc (suc (suc zero))) q l =
+      let e : j / 4 * 4 ≡ 12 = omega arith in
+      let g : j % 4 + 12 ≡ j = omega arith in
+      rw e (four3 _ _ _ _ s0 s1 s2 s3 ∙ ap f g)
+  lane-at (suc (suc (suc (suc i)))) q l = absurd (omega arith)
 
 lane-of : (f : ℕ → ℕ) (k : ℕ) → k < 4 → getD (laneOf 0 f ∷ laneOf 1 f ∷ laneOf 2 f ∷ laneOf 3 f ∷ []) k 0 ≡ laneOf k f
 lane-of f zero h = refl

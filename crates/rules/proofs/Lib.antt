@@ -1,5 +1,6 @@
 pub mod HearingLaws
 pub mod AlignmentLaws
+pub mod SpliceLaws
 pub mod MaskLaws
 pub mod VoteLaws
 pub mod LaneLaws

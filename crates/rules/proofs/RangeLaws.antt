@@ -17,14 +17,16 @@ pub fits-in-range : (p r k : ℕ) (a : Account) → p ≤ 1000000 → r ≤ 8000
 fits-in-range p r k a hp hr hk f =
     record { penalty = omega (arith, f .penalty); charge = hk; reward = omega (arith, f .reward) }
 
-module _ (c : Counters) (j : ℕ) {b : Bool} (e : b ≡ bit (c .view) j) where
-  pub range-by : {k : ℕ} → InRange k (accountAt c j)
-      → InRange k (record { present = b; penalty = getD (c .penalty) j 0; reward = getD (c .reward) j 0 })
+-- the account of module j, with a bit of the view that is already read
+module _ (c : Counters) (j : ℕ) (b : Bool) where
+  abbrev readAt : Account
+  readAt = record { present = b; penalty = getD (c .penalty) j 0; reward = getD (c .reward) j 0 }
+
+  pub range-by : {k : ℕ} → InRange k (accountAt c j) → InRange k readAt
   unfolding accountAt
   range-by f = record { penalty = f .penalty; charge = f .charge; reward = f .reward }
 
-  pub accounted-by : {h : Bool} {x : Account} (s : Setup) (health : ℕ) → h ≡ bit health j
-      → x ≡ accounted (s .p) (s .r) (getD (s .criticality) j 0) h (record { present = b; penalty = getD (c .penalty) j 0; reward = getD (c .reward) j 0 })
-      → x ≡ accountedAt s health c j
+  pub accounted-by : {h : Bool} {x : Account} (s : Setup) (health : ℕ) → b ≡ bit (c .view) j → h ≡ bit health j
+      → x ≡ accounted (s .p) (s .r) (getD (s .criticality) j 0) h readAt → x ≡ accountedAt s health c j
   unfolding accountedAt accountAt
-  accounted-by s health q r = rw (e, q) at r
+  accounted-by s health e q r = rw (e, q) at r

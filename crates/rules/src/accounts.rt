@@ -11,7 +11,7 @@ ghost use Rattle.rules.specs.Account.{charged, rewarded, accounted, acco
 ghost use Rattle.rules.specs.Range.{InRange};
 
 impl Account {
-    // Health 0: the penalty grows, the reward goes, and above p the module leaves the view.
+    // Health 0: the penalty grows, the reward becomes 0, and above p the module leaves the view.
     pub fn charged(self, p: u32, criticality: u32) -> Account
         requires { ⌜ self .penalty + criticality < 2 ^ 32 ⌝ }
         ensures { λ t. ⌜ t ≡ charged p criticality self ⌝ }
@@ -24,7 +24,7 @@ impl Account {
         }
     }
 
-    // Health 1: with a penalty the reward grows, and at r both go.
+    // Health 1: with a penalty the reward grows, and at r both become 0.
     pub fn rewarded(self, r: u32) -> Account
         requires { ⌜ self .reward + 1 < 2 ^ 32 ⌝ }
         ensures { λ t. ⌜ t ≡ rewarded r self ⌝ }
@@ -47,7 +47,7 @@ impl Account {
         }
     }
 
-    // A module in the view is charged or rewarded.
+    // A module in the view is charged or rewarded; the counters of one out of the view stay.
     pub fn accounted(self, p: u32, r: u32, criticality: u32, healthy: bool) -> Account
         requires { ⌜ InRange criticality self ⌝ }
         ensures { λ t. ⌜ t ≡ accounted p r criticality healthy self ⌝ }
@@ -73,10 +73,13 @@ pub fn counters(setup: Setup, health: u32, c: Counters) -> Counters
     let mut penalty = [0u32; 16];
     let mut reward = [0u32; 16];
     for j in 0..n {
+        let present = bit_at(c.view, j);
+        let owed = c.penalty[j];
+        let earned = c.reward[j];
         let was = Account {
-            present: bit_at(c.view, j),
-            penalty: c.penalty[j],
-            reward: c.reward[j],
+            present,
+            penalty: owed,
+            reward: earned,
         };
         let criticality = setup.criticality[j];
         let healthy = bit_at(health, j);

@@ -1,28 +1,24 @@
 // Rule 3: read alignment.
 use crate::Reading;
-use words::bits::bit_at;
 use words::bits::pick;
-use words::bits::with_bit;
+use words::bits::power;
 ghost use mathlib.Core.Path.{_≡_};
 ghost use mathlib.Core.Bool.{cond};
-ghost use Prim.Native.Nat.{_≤_};
+ghost use Prim.Native.Nat.{_≤_, _<_};
 ghost use lib.Dec.{ltb};
 ghost use lib.ListN.{getD};
 ghost use Rattle.words.specs.Bits.{bit, pack};
 ghost use Rattle.words.specs.Array.{array};
 ghost use Rattle.rules.specs.Alignment.{alignedOf};
 
-// Who is heard: those below `split` by the previous read, the others by this one.
+// Who is heard: the low `split` bits by the previous read, the others by this one.
 pub fn aligned_heard(n: usize, split: u32, previous: u32, this: u32) -> u32
-    requires { ⌜ n ≤ 16 ⌝ }
+    requires { ⌜ (n ≤ 16) × (split < 31) ⌝ }
     ensures { λ r. ⌜ r ≡ pack n (λ j. cond (ltb j split) (bit previous j) (bit this j)) ⌝ }
 {
-    let mut acc: u32 = 0;
-    for j in 0..n {
-        let from = pick((j as u32) < split, previous, this);
-        acc = with_bit(acc, j, bit_at(from, j));
-    }
-    acc
+    let size = power(n);
+    let low = power(split as usize);
+    (previous % low + this % size / low * low) % size
 }
 
 // The rows, from the same reads.
@@ -39,7 +35,7 @@ pub fn aligned_rows(n: usize, split: u32, previous: [u32; 16], this: [u32; 16]) 
 
 // The entries of the round that is voted on: below the read place from the previous read, if reads are skewed.
 pub fn aligned(n: usize, skew: bool, place: u32, previous: Reading, this: Reading) -> Reading
-    requires { ⌜ n ≤ 16 ⌝ }
+    requires { ⌜ (n ≤ 16) × (place < 31) ⌝ }
     ensures { λ r. ⌜ r ≡ alignedOf n skew place previous this ⌝ }
 {
     let split = pick(skew, place, 0);

@@ -1,4 +1,4 @@
-// Rule 1: whether reads are a round late.
+// Rule 1: whether a step votes on the words of the round before.
 ghost use mathlib.Core.Path.{_≡_};
 ghost use Prim.Native.Nat.{_≤_};
 ghost use Rattle.rules.specs.Lag.{skewed};

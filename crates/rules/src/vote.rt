@@ -35,7 +35,7 @@ pub fn ballot(voters: u32, row: u32, l: usize) -> u32
     pick(bit_at(voters, l), without(row, l), 0)
 }
 
-// Every fourth bit from bit k on, each at the foot of four bits.
+// Every fourth bit from bit k on, each as the lowest of four bits.
 pub fn lane(row: u32, k: u32) -> u32
     requires { ⌜ k < 4 ⌝ }
     ensures { λ r. ⌜ (r ≡ laneOf k (λ j. b2n (bit row j))) × (r ≤ 4369) ⌝ }
@@ -76,7 +76,7 @@ pub fn column(lane: u32, j: usize) -> u32
 }
 
 // The vote on module j by the rows present and the ones among them. The row of j is not counted.
-pub fn verdict(present: u32, ones: u32, voters: u32, own: u32, j: usize) -> bool
+pub fn vote_on(present: u32, ones: u32, voters: u32, own: u32, j: usize) -> bool
     requires { ⌜ (j < 32) × (ones ≤ votesBut present voters j) × (b2n (bit voters j) ≤ present) ⌝ }
     ensures { λ r. ⌜ r ≡ decision (votesBut present voters j) ones (bit own j) ⌝ }
 {
@@ -94,7 +94,7 @@ pub fn health(n: usize, voters: u32, rows: [u32; 16], own: u32) -> u32
     let mut acc: u32 = 0;
     for j in 0..n {
         let ones = column(lanes[j % 4], j);
-        acc = with_bit(acc, j, verdict(present, ones, voters, own, j));
+        acc = with_bit(acc, j, vote_on(present, ones, voters, own, j));
     }
     acc
 }

@@ -1,23 +1,62 @@
-//! Runs every line of a calls file through the model and the library.
-//! Usage: vectors [CALLS_FILE]
+//! Runs every line of calls files through the model and the library.
+//! Usage: vectors [--print] [CALLS_FILE...]
+//! Without files: data/calls.txt and data/own-calls.txt.
+//! With --print every line is written anew with the answer of the library, and the model is not
+//! asked. The output is the file, byte for byte, if all answers are right.
 
-use harness::calls_file::{compare, parse, Case};
+use harness::calls_file::{answered, compare_all, parse};
 use harness::ffi::Library;
 use harness::model::calls::{Functions, Model};
 use std::env;
 use std::fs;
 use std::process::ExitCode;
 
+const FILES: [&str; 2] = [
+    concat!(env!("CARGO_MANIFEST_DIR"), "/data/calls.txt"),
+    concat!(env!("CARGO_MANIFEST_DIR"), "/data/own-calls.txt"),
+];
+
 fn main() -> ExitCode {
-    let path =
-        env::args().nth(1).unwrap_or(concat!(env!("CARGO_MANIFEST_DIR"), "/data/calls.txt").to_string());
-    let text = match fs::read_to_string(&path) {
-        Ok(text) => text,
-        Err(error) => {
-            eprintln!("vectors: {path}: {error}");
-            return ExitCode::from(2);
+    let mut files: Vec<String> = env::args().skip(1).collect();
+    let print = files.first().is_some_and(|first| first == "--print");
+    if print {
+        files.remove(0);
+    }
+    if files.is_empty() {
+        files = FILES.map(String::from).to_vec();
+    }
+    let mut lines = 0;
+    let mut differences = 0;
+    let mut empty = false;
+    for path in &files {
+        let text = match fs::read_to_string(path) {
+            Ok(text) => text,
+            Err(error) => {
+                eprintln!("vectors: {path}: {error}");
+                return ExitCode::from(2);
+            }
+        };
+        if print {
+            differences += print_anew(path, &text);
+        } else {
+            let (more_lines, more_differences) = check(path, &text);
+            lines += more_lines;
+            differences += more_differences;
+            empty |= more_lines == 0;
         }
-    };
+    }
+    if !print {
+        println!("vectors: {lines} lines, model and library, {differences} differences");
+    }
+    if differences == 0 && !empty {
+        ExitCode::SUCCESS
+    } else {
+        ExitCode::FAILURE
+    }
+}
+
+/// Lines with a call, and differences.
+fn check(path: &str, text: &str) -> (usize, usize) {
     let sides: [(&str, &dyn Functions); 2] = [("model", &Model), ("library", &Library)];
     let mut lines = 0;
     let mut differences = 0;
@@ -25,7 +64,7 @@ fn main() -> ExitCode {
         let cases = match parse(text) {
             Ok(cases) => cases,
             Err(error) => {
-                println!("line {}: {error}: {text}", at + 1);
+                println!("{path}, line {}: {error}: {text}", at + 1);
                 differences += 1;
                 continue;
             }
@@ -36,25 +75,30 @@ fn main() -> ExitCode {
         lines += 1;
         for (name, functions) in sides {
             if let Err(found) = compare_all(&cases, functions) {
-                println!("line {}: {text}\n  {name} answers {found}", at + 1);
+                println!("{path}, line {}: {text}\n  {name} answers {found}", at + 1);
                 differences += 1;
             }
         }
     }
-    println!("vectors: {lines} lines, model and library, {differences} differences");
-    if differences == 0 && lines > 0 {
-        ExitCode::SUCCESS
-    } else {
-        ExitCode::FAILURE
-    }
+    (lines, differences)
 }
 
-/// All cases of a line, with different fillings of the output.
-fn compare_all(cases: &[Case], functions: &dyn Functions) -> Result<(), String> {
-    for case in cases {
-        for pattern in [0x0000, 0x5A03, 0xFF05] {
-            compare(case, functions, pattern)?;
+/// Lines that could not be written anew; they are left out, and standard error names them.
+fn print_anew(path: &str, text: &str) -> usize {
+    let mut anew = String::with_capacity(text.len());
+    let mut left_out = 0;
+    for (at, text) in text.lines().enumerate() {
+        match answered(text, &Library) {
+            Ok(line) => {
+                anew.push_str(&line);
+                anew.push('\n');
+            }
+            Err(error) => {
+                eprintln!("vectors: {path}, line {}: {error}", at + 1);
+                left_out += 1;
+            }
         }
     }
-    Ok(())
+    print!("{anew}");
+    left_out
 }

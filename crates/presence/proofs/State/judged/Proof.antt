@@ -2,7 +2,7 @@
 use native.Mathlib.Omega.{arith}
 use borrow.Author.Needs.{needs}
 use Rattle.presence.proofs.ValidLaws.{valid-fits}
-use Rattle.presence.proofs.RoundLaws.{judged-made}
+use Rattle.presence.proofs.RoundLaws.{judged-made, place-small}
 use Rattle.presence.proofs.State.judged.Statement.{statement}
 use Rattle.presence.proofs.State.judged.Tie as tie
 
@@ -13,7 +13,9 @@ place-requires : tie.Need-place-requires
 place-requires c κs = search needs
 
 aligned-requires : tie.Need-aligned-requires
-aligned-requires c κs = valid-fits _ (c .before .before .before .before .before .pre) .setup .most
+aligned-requires c κs =
+    let f = valid-fits _ (c .before .before .before .before .before .pre) in
+    (f .setup .most, place-small _ f (c .place .ensures))
 
 pick-requires : tie.Need-pick-requires
 pick-requires c κs = search needs

@@ -1,5 +1,4 @@
 -- Each of the two tests picks the case of the definition.
-use native.Mathlib.Omega.{arith}
 use borrow.Author.Tests.{eq-eqb, ne-eqb, le-leb, lt-leb}
 use borrow.Author.Needs.{needs}
 use Rattle.rules.specs.Account.{rewarded}

@@ -13,7 +13,8 @@ use Rattle.rules.proofs.accounts.counters.Statement.{statement}
 use Rattle.rules.proofs.accounts.counters.Tie as tie
 
 abbrev Inv-loop : tie.InvT-loop
-Inv-loop health setup c n view₀ penalty₀ reward₀ j₀ view penalty reward j = (n ≡ setup .n) × (j ≤ n) × (view ≡ pack j (λ k. accountedAt setup health c k .present))
+Inv-loop health setup c n view₀ penalty₀ reward₀ j₀ view penalty reward j =
+    (n ≡ setup .n) × (j ≤ n) × (view ≡ pack j (λ k. accountedAt setup health c k .present))
     × (penalty ≡ array j (λ k. accountedAt setup health c k .penalty))
     × (reward ≡ array j (λ k. accountedAt setup health c k .reward))
 
@@ -27,17 +28,17 @@ loop-holds c = (refl, omega arith, refl, refl, refl)
 bit-at-requires : tie.Need-bit-at-requires Inv-loop μ-loop
 bit-at-requires c κs = omega arith
 
-mul-t17 : tie.Need-mul-t17 Inv-loop μ-loop
-mul-t17 c = omega arith
+mul-owed : tie.Need-mul-owed Inv-loop μ-loop
+mul-owed c = omega arith
 
-element-copy-out-t20 : tie.Need-element-copy-out-t20 Inv-loop μ-loop
-element-copy-out-t20 c = omega arith
+element-copy-out-owed : tie.Need-element-copy-out-owed Inv-loop μ-loop
+element-copy-out-owed c = omega arith
 
-mul-accounted : tie.Need-mul-accounted Inv-loop μ-loop
-mul-accounted c = omega arith
+mul-earned : tie.Need-mul-earned Inv-loop μ-loop
+mul-earned c = omega arith
 
-element-copy-out-accounted : tie.Need-element-copy-out-accounted Inv-loop μ-loop
-element-copy-out-accounted c = omega arith
+element-copy-out-earned : tie.Need-element-copy-out-earned Inv-loop μ-loop
+element-copy-out-earned c = omega arith
 
 mul-criticality : tie.Need-mul-criticality Inv-loop μ-loop
 mul-criticality c = omega arith
@@ -53,7 +54,7 @@ accounted-requires c κs =
     let g = c .before .before .before .before .before .before in
     let a = g .before in
     let l : g .loop .j < a .args .t1 .n = omega arith in
-    range-by (a .args .t3) (g .loop .j) (c .before .before .before .before .bit-at .ensures) (a .pre .1 (g .loop .j) l)
+    range-by (a .args .t3) (g .loop .j) (c .before .before .before .before .bit-at .result) (a .pre .1 (g .loop .j) l)
 
 with-bit-requires : tie.Need-with-bit-requires Inv-loop μ-loop
 with-bit-requires c κs = (rw (c .before .before .before .before .before .before .before .loop .inv .2) (pack-lt _ _), omega arith)
@@ -82,7 +83,7 @@ loop-again c =
     let a = g .before .args in
     let i = g .loop .inv in
     let q : c .before .accounted .result ≡ accountedAt (a .t1) (a .health) (a .t3) (g .loop .j) =
-    accounted-by (a .t3) (g .loop .j) (c .before .before .before .before .before .before .bit-at .ensures) (a .t1) (a .health)
+    accounted-by (a .t3) (g .loop .j) _ (a .t1) (a .health) (c .before .before .before .before .before .before .bit-at .ensures)
     (c .before .before .bit-at2 .ensures) (c .before .accounted .ensures)
     in (
       i .0,
@@ -106,10 +107,10 @@ counters-spec =
     μ-loop
     loop-holds
     bit-at-requires
-    mul-t17
-    element-copy-out-t20
-    mul-accounted
-    element-copy-out-accounted
+    mul-owed
+    element-copy-out-owed
+    mul-earned
+    element-copy-out-earned
     mul-criticality
     element-copy-out-criticality
     bit-at-requires-2

@@ -1,4 +1,7 @@
 -- Both fields are aligned by one number, the read place or 0.
+use Prim.Native.Nat.{_<_}
+use native.Mathlib.Omega.{arith}
+use Rattle.words.proofs.Truth.{cond-both}
 use borrow.Author.Needs.{needs}
 use Rattle.rules.proofs.AlignmentLaws.{aligned-by}
 use Rattle.rules.proofs.align.aligned.Statement.{statement}
@@ -8,7 +11,11 @@ pick-requires : tie.Need-pick-requires
 pick-requires c κs = search needs
 
 aligned-heard-requires : tie.Need-aligned-heard-requires
-aligned-heard-requires c κs = search needs
+aligned-heard-requires c κs =
+    let a = c .before .before .before in (
+      a .pre .0,
+      rw (c .before .before .pick .ensures) (cond-both (λ x. x < 31) (a .args .skew) _ _ (a .pre .1) (omega arith)),
+    )
 
 aligned-rows-requires : tie.Need-aligned-rows-requires
 aligned-rows-requires c κs = search needs

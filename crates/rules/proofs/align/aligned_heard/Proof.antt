@@ -1,67 +1,56 @@
--- After j turns the vector holds the bits below j, each from its read.
-use Prim.Native.Nat.{_-_, _≤_}
-use mathlib.Core.Path.{_≡_, refl}
-use mathlib.Core.Bool.{cond}
+-- The low bits of one vector and the others of the other, cut to n bits.
 use native.Mathlib.Omega.{arith}
-use lib.Dec.{ltb}
-use Rattle.words.specs.Bits.{bit, pack}
-use Rattle.words.proofs.BitLaws.{pack-step, pack-lt}
-use Rattle.rules.proofs.AlignmentLaws.{bit-of-either}
+use lib.Pow.{pow-pos}
+use borrow.Author.Needs.{needs}
+use Rattle.rules.proofs.SpliceLaws.{splice-bits, splice-fits}
 use Rattle.rules.proofs.align.aligned_heard.Statement.{statement}
 use Rattle.rules.proofs.align.aligned_heard.Tie as tie
 
-abbrev Inv-loop : tie.InvT-loop
-Inv-loop n split previous this acc₀ j₀ acc j = (j ≤ n) × (acc ≡ pack j (λ k. cond (ltb k split) (bit previous k) (bit this k)))
+power-requires : tie.Need-power-requires
+power-requires c κs = search needs
 
-abbrev μ-loop : tie.MeasureT-loop
-μ-loop n split previous this acc₀ j₀ acc j = n - j
+power-requires-2 : tie.Need-power-requires-2
+power-requires-2 c κs = search needs
 
-loop-holds : tie.Need-loop-holds Inv-loop μ-loop
-unfolding pack
-loop-holds c = (omega arith, refl)
+rem-result : tie.Need-rem-result
+rem-result c = omega (arith, c .power2 .ensures, pow-pos (c .before .before .args .split))
 
-cast-pick : tie.Need-cast-pick Inv-loop μ-loop
-cast-pick c = omega arith
+rem-result-2 : tie.Need-rem-result-2
+rem-result-2 c = omega (arith, c .before .power .ensures, pow-pos (c .before .before .args .n))
 
-pick-requires : tie.Need-pick-requires Inv-loop μ-loop
-pick-requires c κs = omega arith
+div-result : tie.Need-div-result
+div-result c = omega (arith, c .power2 .ensures, pow-pos (c .before .before .args .split))
 
-bit-at-requires : tie.Need-bit-at-requires Inv-loop μ-loop
-bit-at-requires c κs = omega arith
+mul-result : tie.Need-mul-result
+mul-result c =
+    let a = c .before .before .args in
+    rw (c .power2 .ensures, c .before .power .ensures)
+    (omega (arith, splice-fits (a .n) (a .split) (a .previous) (a .this) (omega arith) (omega arith)))
 
-with-bit-requires : tie.Need-with-bit-requires Inv-loop μ-loop
-with-bit-requires c κs = (rw (c .before .before .before .loop .inv .1) (pack-lt _ _), omega arith)
+add-result : tie.Need-add-result
+add-result c =
+    let a = c .before .before .args in
+    rw (c .power2 .ensures, c .before .power .ensures)
+    (omega (arith, splice-fits (a .n) (a .split) (a .previous) (a .this) (omega arith) (omega arith)))
 
-add-j : tie.Need-add-j Inv-loop μ-loop
-add-j c = omega arith
+rem-result-3 : tie.Need-rem-result-3
+rem-result-3 c = omega (arith, c .before .power .ensures, pow-pos (c .before .before .args .n))
 
-loop-less : tie.Need-loop-less Inv-loop μ-loop
-loop-less c = omega arith
-
-loop-again : tie.Need-loop-again Inv-loop μ-loop
-loop-again c =
-    let g = c .before .before .before .before in
-    let a = g .before .args in
-    let q = bit-of-either (ltb (g .loop .j) (a .split)) (a .previous) (a .this) _ (c .before .bit-at .ensures) (c .before .before .pick .ensures) in
-    (omega arith, pack-step _ _ (g .loop .inv .1) q (c .with-bit .ensures))
-
-returns : tie.Need-returns Inv-loop μ-loop
+returns : tie.Need-returns
 returns c =
-    let e : c .before .loop .j ≡ c .before .before .args .n = omega arith in
-    cc
+    let a = c .before .before .args in
+    rw (c .power2 .ensures, c .before .power .ensures) (splice-bits (a .n) (a .split) (a .previous) (a .this))
 
 pub aligned-heard-spec : {M : Type 1} → statement M
 aligned-heard-spec =
     tie.close
     (tie.spec
-    Inv-loop
-    μ-loop
-    loop-holds
-    cast-pick
-    pick-requires
-    bit-at-requires
-    with-bit-requires
-    add-j
-    loop-less
-    loop-again
+    power-requires
+    power-requires-2
+    rem-result
+    rem-result-2
+    div-result
+    mul-result
+    add-result
+    rem-result-3
     returns)

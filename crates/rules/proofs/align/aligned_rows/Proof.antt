@@ -11,7 +11,8 @@ use Rattle.rules.proofs.align.aligned_rows.Statement.{statement}
 use Rattle.rules.proofs.align.aligned_rows.Tie as tie
 
 abbrev Inv-loop : tie.InvT-loop
-Inv-loop n split previous this rows₀ j₀ rows j = (j ≤ n) × (rows ≡ array j (λ k. cond (ltb k split) (getD previous k 0) (getD this k 0)))
+Inv-loop n split previous this rows₀ j₀ rows j =
+    (j ≤ n) × (rows ≡ array j (λ k. cond (ltb k split) (getD previous k 0) (getD this k 0)))
 
 abbrev μ-loop : tie.MeasureT-loop
 μ-loop n split previous this rows₀ j₀ rows j = n - j

@@ -1,6 +1,6 @@
 -- After j turns the vector and the array hold the entries below j.
 use Prim.Native.Nat.{_-_, _≤_}
-use mathlib.Core.Path.{_≡_, refl, ap, _∙_}
+use mathlib.Core.Path.{_≡_, refl, ap}
 use native.Mathlib.Omega.{arith}
 use Rattle.words.specs.Bits.{bit, pack}
 use Rattle.words.specs.Word.{wordAt}
@@ -13,7 +13,8 @@ use Rattle.rules.proofs.hearing.reading.Statement.{statement}
 use Rattle.rules.proofs.hearing.reading.Tie as tie
 
 abbrev Inv-loop : tie.InvT-loop
-Inv-loop n read controller heard₀ rows₀ j₀ heard rows j = (j ≤ n) × (heard ≡ pack j (λ k. entryOf n (bit controller k) (wordAt read k) .heard))
+Inv-loop n read controller heard₀ rows₀ j₀ heard rows j =
+    (j ≤ n) × (heard ≡ pack j (λ k. entryOf n (bit controller k) (wordAt read k) .heard))
     × (rows ≡ array j (λ k. entryOf n (bit controller k) (wordAt read k) .row))
 
 abbrev μ-loop : tie.MeasureT-loop

@@ -1,6 +1,7 @@
 -- The bus word of the one syndrome or the other.
 use Prim.Native.Nat.{_<_, _^_}
 use mathlib.Core.Path.{_∙_, ap}
+use native.Mathlib.Omega.{arith}
 use borrow.Author.Needs.{needs}
 use Rattle.words.proofs.Truth.{cond-both}
 use Rattle.rules.specs.Hearing.{busWord}
@@ -12,7 +13,7 @@ pick-requires : tie.Need-pick-requires
 pick-requires c κs = search needs
 
 bus-word-requires : tie.Need-bus-word-requires
-bus-word-requires c κs = rw (c .pick .ensures) (cond-both (λ x. x < 2 ^ 28) (c .before .args .mark) _ _ (c .before .pre .0) (c .before .pre .1))
+bus-word-requires c κs = rw (c .pick .ensures) (cond-both (λ x. x < 2 ^ 28) (c .before .args .mark) _ _ (omega arith) (omega arith))
 
 returns : tie.Need-returns
 unfolding outgoingOf

@@ -13,7 +13,8 @@ use Rattle.rules.proofs.judge.syndrome.Statement.{statement}
 use Rattle.rules.proofs.judge.syndrome.Tie as tie
 
 abbrev Inv-loop : tie.InvT-loop
-Inv-loop n health heard rows voters acc₀ j₀ acc j = (j ≤ n) × (acc ≡ pack j (λ k. bit heard k && not (bit voters k && any n (differsAt (getD rows k 0) health k))))
+Inv-loop n health heard rows voters acc₀ j₀ acc j =
+    (j ≤ n) × (acc ≡ pack j (λ k. bit heard k && not (bit voters k && any n (differsAt (getD rows k 0) health k))))
 
 abbrev μ-loop : tie.MeasureT-loop
 μ-loop n health heard rows voters acc₀ j₀ acc j = n - j

@@ -12,7 +12,8 @@ use Rattle.rules.proofs.vote.counted.Statement.{statement}
 use Rattle.rules.proofs.vote.counted.Tie as tie
 
 abbrev Inv-loop : tie.InvT-loop
-Inv-loop n voters rows a₀ b₀ c₀ d₀ present₀ l₀ a b c d present l = (l ≤ n) × (a ≤ l * 4369) × (b ≤ l * 4369) × (c ≤ l * 4369) × (d ≤ l * 4369) × (present ≤ l)
+Inv-loop n voters rows a₀ b₀ c₀ d₀ present₀ l₀ a b c d present l =
+    (l ≤ n) × (a ≤ l * 4369) × (b ≤ l * 4369) × (c ≤ l * 4369) × (d ≤ l * 4369) × (present ≤ l)
     × (a ≡ laneOf 0 (onesOn l voters rows)) × (b ≡ laneOf 1 (onesOn l voters rows)) × (c ≡ laneOf 2 (onesOn l voters rows))
     × (d ≡ laneOf 3 (onesOn l voters rows)) × (present ≡ count l (bit voters))
 

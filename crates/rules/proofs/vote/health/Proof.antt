@@ -12,7 +12,8 @@ use Rattle.rules.proofs.vote.health.Statement.{statement}
 use Rattle.rules.proofs.vote.health.Tie as tie
 
 abbrev Inv-loop : tie.InvT-loop
-Inv-loop n voters own present lanes acc₀ j₀ acc j = (j ≤ n) × (acc ≡ pack j (λ k. decision (votesBut present voters k) (columnOf lanes k) (bit own k)))
+Inv-loop n voters own present lanes acc₀ j₀ acc j =
+    (j ≤ n) × (acc ≡ pack j (λ k. decision (votesBut present voters k) (columnOf lanes k) (bit own k)))
 
 abbrev μ-loop : tie.MeasureT-loop
 μ-loop n voters own present lanes acc₀ j₀ acc j = n - j
@@ -33,9 +34,9 @@ array-read-column c = omega arith
 column-requires : tie.Need-column-requires Inv-loop μ-loop
 column-requires c κs = omega arith
 
-verdict-requires : tie.Need-verdict-requires Inv-loop μ-loop
+vote-on-requires : tie.Need-vote-on-requires Inv-loop μ-loop
 unfolding columnOf
-verdict-requires c κs =
+vote-on-requires c κs =
     let g = c .before .before .before .before in
     let j = c .before .before .loop .j in
     let w = g .counted .ensures in
@@ -62,7 +63,7 @@ loop-again c =
     let a = g .before .before .before .args in
     let j = g .loop .j in
     let v =
-    c .before .verdict .ensures
+    c .before .vote-on .ensures
     ∙ ap (λ (x : ℕ). decision (votesBut (t .present) (a .voters) j) x (bit (a .own) j)) (c .before .before .column .ensures)
     in
     (omega arith, pack-step _ _ (g .loop .inv .1) v (c .with-bit .ensures))
@@ -85,7 +86,7 @@ health-spec =
     mul-column
     array-read-column
     column-requires
-    verdict-requires
+    vote-on-requires
     with-bit-requires
     add-j
     loop-less

@@ -3,8 +3,8 @@ use mathlib.Core.Path.{ap}
 use native.Mathlib.Omega.{arith}
 use borrow.Author.Needs.{needs}
 use Rattle.words.specs.Bits.{b2n}
-use Rattle.rules.proofs.vote.verdict.Statement.{statement}
-use Rattle.rules.proofs.vote.verdict.Tie as tie
+use Rattle.rules.proofs.vote.vote_on.Statement.{statement}
+use Rattle.rules.proofs.vote.vote_on.Tie as tie
 
 bit-at-requires : tie.Need-bit-at-requires
 bit-at-requires c κs = search needs
@@ -24,7 +24,7 @@ decide-requires c κs = omega (arith, ap b2n (c .before .before .bit-at .ensures
 returns : tie.Need-returns
 returns c = cc
 
-pub verdict-spec : {M : Type 1} → statement M
-verdict-spec =
+pub vote-on-spec : {M : Type 1} → statement M
+vote-on-spec =
     tie.close
     (tie.spec bit-at-requires flag-requires sub-decide bit-at-requires-2 decide-requires returns)

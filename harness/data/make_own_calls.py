@@ -1,0 +1,701 @@
+#!/usr/bin/env python3
+"""Writes own-calls.txt: calls with the answers that document 01 gives.
+
+    python3 make_own_calls.py > own-calls.txt
+
+Words are built from named fields.  The number and index of each refusal, and the health vector and
+the fields after each step, are written here after the paper; no model computes them.
+"""
+
+import copy
+
+# ---- words ----
+
+
+def head(n):
+    return 1 << 28 | n
+
+
+def limit_p(value):
+    return 2 << 28 | value
+
+
+def limit_r(value):
+    return 3 << 28 | value
+
+
+def module(number, l, crit=1, mark=0):
+    return 4 << 28 | number << 23 | mark << 22 | l << 17 | crit
+
+
+def bus(syndrome):
+    return 5 << 28 | syndrome
+
+
+def own_view(own, view):
+    return 10 << 28 | own << 16 | view
+
+
+def previous(sender, heard, row):
+    return 11 << 28 | sender << 23 | heard << 22 | row
+
+
+def syndrome(bits):
+    return 12 << 28 | bits
+
+
+def penalty(number, value):
+    return 13 << 28 | number << 23 | value
+
+
+def reward(number, value):
+    return 14 << 28 | number << 23 | value
+
+
+def kind(word, new):
+    """The word with another kind."""
+    return word & 0x0FFFFFFF | new << 28
+
+
+def put(words, places):
+    """The words with those at some places replaced."""
+    words = list(words)
+    for at, word in places.items():
+        words[at] = word
+    return words
+
+
+def full(n):
+    return (1 << n) - 1
+
+
+# ---- setups ----
+
+
+def setup_words(n, p=1, r=3, l=None, crit=None, marks=()):
+    """l and crit: one a module; the default is l = N and criticality 1."""
+    l = l or [n] * n
+    crit = crit or [1] * n
+    modules = [module(j, l[j - 1], crit[j - 1], int(j in marks)) for j in range(1, n + 1)]
+    return [head(n), limit_p(p), limit_r(r)] + modules
+
+
+SHEET = setup_words(4)
+TWO = setup_words(2)
+THREE = setup_words(3)
+SIXTEEN = setup_words(16)
+TWO_MARKED = setup_words(2, l=[0, 1], marks=[2])
+MARKED = setup_words(4, l=[0, 0, 1, 2], marks=[2, 3, 4])
+SIXTEEN_MARKED = setup_words(16, l=list(range(16)), marks=range(2, 17))
+ONE_EARLY = setup_words(4, l=[4, 4, 4, 3])
+WIDE = setup_words(4, p=5, crit=[3] * 4)
+STAIRS = setup_words(4, p=5, crit=[1, 2, 3, 4])
+LARGE = setup_words(4, p=1000000, r=8000000, crit=[100000] * 4)
+REWARD_ONE = setup_words(4, r=1)
+
+
+# ---- states ----
+
+
+class State:
+    """A fresh module; row None is unheard."""
+
+    def __init__(self, setup, own):
+        self.setup = setup
+        self.n = len(setup) - 3
+        self.own = own
+        self.view = full(self.n)
+        self.row = [full(self.n)] * self.n
+        self.latest = full(self.n)
+        self.before = full(self.n)
+        self.penalty = [0] * self.n
+        self.reward = [0] * self.n
+
+    def but(self, **fields):
+        """A copy with other fields; row, penalty and reward take {module: value}."""
+        state = copy.deepcopy(self)
+        for name, value in fields.items():
+            if isinstance(value, dict):
+                for j, one in value.items():
+                    getattr(state, name)[j - 1] = one
+            else:
+                setattr(state, name, value)
+        return state
+
+    def words(self):
+        numbers = range(1, self.n + 1)
+        words = self.setup + [own_view(self.own, self.view)]
+        words += [previous(j, int(self.row[j - 1] is not None), self.row[j - 1] or 0) for j in numbers]
+        words += [syndrome(self.latest), syndrome(self.before)]
+        words += [penalty(j, self.penalty[j - 1]) for j in numbers]
+        words += [reward(j, self.reward[j - 1]) for j in numbers]
+        return words
+
+
+# ---- lines ----
+
+
+def raw(words):
+    return b"".join(word.to_bytes(4, "big") for word in words)
+
+
+def text(data):
+    """Hexadecimal of bytes, words or a state."""
+    if isinstance(data, State):
+        data = data.words()
+    if not isinstance(data, bytes):
+        data = raw(data)
+    return data.hex().upper() or "-"
+
+
+def note(*lines):
+    print()
+    for line in lines:
+        print("# " + line)
+
+
+def also(line):
+    print("# " + line)
+
+
+def setup(data, number, index):
+    print(f"setup {text(data)} = {number} {index}")
+
+
+def state(data, number, index):
+    print(f"state {text(data)} = {number} {index}")
+
+
+def image_bytes(n):
+    return 4 * (4 * n + 6)
+
+
+def opened(words, own):
+    """An accepted opening."""
+    image = State(words, own)
+    print(f"open {text(words)} {own} {image_bytes(image.n)} = 0 0 0000 {text(image)}")
+
+
+def open_refused(data, own, out, number, index):
+    print(f"open {text(data)} {own} {out} = {number} {index} 0000 -")
+
+
+def saved(image):
+    print(f"save {text(image)} {image_bytes(image.n)} = 0 0 0000 {text(image)}")
+
+
+def save_refused(data, out, number, index):
+    print(f"save {text(data)} {out} = {number} {index} 0000 -")
+
+
+def stepped(image, read, controller, health, rows, latest, **fields):
+    """An accepted step: health and the fields after it, those not named stay. Answers the new state.
+    read: words; rows: the read as the image keeps it, None if unheard."""
+    after = image.but(row=list(rows), latest=latest, before=image.latest, **fields)
+    print(
+        f"step {text(image)} {text(read)} {controller:X} {image_bytes(image.n)}"
+        f" = 0 0 {health:04X} {text(after)}"
+    )
+    return after
+
+
+def step_refused(data, read, controller, out, number, index):
+    print(f"step {text(data)} {text(read)} {controller:X} {out} = {number} {index} 0000 -")
+
+
+def buses(*syndromes):
+    return [bus(bits) for bits in syndromes]
+
+
+# ---- setup ----
+
+
+def setups():
+    note("Setups that are accepted: the sheet; N = 2 and 16 with u = 0 (every l is N);",
+         "N = 2, 4 and 16 with u = 1, the send mark on all modules but 1; the highest limits.")
+    for words in [SHEET, TWO, SIXTEEN, TWO_MARKED, MARKED, SIXTEEN_MARKED, LARGE]:
+        setup(words, 0, 0)
+
+    note("1: empty, 5 bytes, the sheet one byte over.")
+    setup(b"", 1, 0)
+    setup(raw(SHEET)[:5], 1, 0)
+    setup(raw(SHEET) + b"\x00", 1, 0)
+    also("1 before 2: no head, and two bytes over.")
+    setup(raw(put(SHEET, {0: head(17)})) + b"\x00\x00", 1, 0)
+
+    note("2: N = 1 and N = 17 with N+3 words, N = 0. (N = 2 and N = 16 are accepted above.)")
+    setup([head(1), limit_p(1), limit_r(3), module(1, 1)], 2, 0)
+    setup([head(17), limit_p(1), limit_r(3)] + [module(j, 16) for j in range(1, 18)], 2, 0)
+    setup([head(0), limit_p(1), limit_r(3)], 2, 0)
+    also("2: kind 2; spare bits 5 and 27.")
+    setup(put(SHEET, {0: kind(head(4), 2)}), 2, 0)
+    setup(put(SHEET, {0: head(4) | 1 << 5}), 2, 0)
+    setup(put(SHEET, {0: head(4) | 1 << 27}), 2, 0)
+
+    note("3: the sheet one word short and one word over, the head alone, a saved state.")
+    setup(SHEET[:6], 3, 0)
+    setup(SHEET + [module(5, 4)], 3, 0)
+    setup([head(4)], 3, 0)
+    setup(State(SHEET, 1), 3, 0)
+    also("3: N = 2 and N = 16, one word short and one word over.")
+    setup(TWO[:4], 3, 0)
+    setup(TWO + [module(3, 2)], 3, 0)
+    setup(SIXTEEN[:18], 3, 0)
+    setup(SIXTEEN + [module(17, 16)], 3, 0)
+    also("3 before 4: P = 0, and one word short.")
+    setup(put(SHEET, {1: limit_p(0)})[:6], 3, 0)
+
+    note("4: P 0, 1,000,000 (accepted), 1,000,001; P = 1 is accepted above.")
+    setup(put(SHEET, {1: limit_p(0)}), 4, 1)
+    setup(put(SHEET, {1: limit_p(1000000)}), 0, 0)
+    setup(put(SHEET, {1: limit_p(1000001)}), 4, 1)
+    also("4: R 0, 1 (accepted), 8,000,000 (accepted), 8,000,001, 3 with bit 27.")
+    setup(put(SHEET, {2: limit_r(0)}), 4, 2)
+    setup(put(SHEET, {2: limit_r(1)}), 0, 0)
+    setup(put(SHEET, {2: limit_r(8000000)}), 0, 0)
+    setup(put(SHEET, {2: limit_r(8000001)}), 4, 2)
+    setup(put(SHEET, {2: limit_r(3 | 1 << 27)}), 4, 2)
+    also("4: kind 10 for P, kind 2 for R, the two words in the other order.")
+    setup(put(SHEET, {1: kind(limit_p(1), 10)}), 4, 1)
+    setup(put(SHEET, {2: limit_p(3)}), 4, 2)
+    setup(put(SHEET, {1: limit_r(3), 2: limit_p(1)}), 4, 1)
+    also("4: both limits wrong, the first counts; R and a module word wrong, 4 before 5.")
+    setup(put(SHEET, {1: limit_p(0), 2: limit_r(0)}), 4, 1)
+    setup(put(SHEET, {2: limit_r(0), 3: module(1, 5)}), 4, 2)
+
+    note("5: l = N+1 at module 1 and at module 4; l = 0 everywhere is accepted.")
+    setup(put(SHEET, {3: module(1, 5)}), 5, 3)
+    setup(put(SHEET, {6: module(4, 5)}), 5, 6)
+    setup(setup_words(4, l=[0, 0, 0, 0]), 0, 0)
+    also("5: l = N+1 with N = 2 and with N = 16.")
+    setup(put(TWO, {3: module(1, 3)}), 5, 3)
+    setup(put(SIXTEEN, {18: module(16, 17)}), 5, 18)
+    also("5: criticality 0, 100,000 (accepted), 100,001; 1 is accepted above.")
+    setup(put(SHEET, {3: module(1, 4, crit=0)}), 5, 3)
+    setup(put(SHEET, {6: module(4, 4, crit=100000)}), 0, 0)
+    setup(put(SHEET, {6: module(4, 4, crit=100001)}), 5, 6)
+    also("5: number 0; 2 and 3 in the other order; 5 as the fourth; 17 as the first of 16.")
+    setup(put(SHEET, {3: module(0, 4)}), 5, 3)
+    setup(put(SHEET, {4: module(3, 4), 5: module(2, 4)}), 5, 4)
+    setup(put(SHEET, {6: module(5, 4)}), 5, 6)
+    setup(put(SIXTEEN, {3: module(17, 16)}), 5, 3)
+    also("5: kind 5 at module 2; wrong at modules 4 and 2, the first counts.")
+    setup(put(SHEET, {4: kind(module(2, 4), 5)}), 5, 4)
+    setup(put(SHEET, {4: module(2, 5), 6: module(4, 4, crit=0)}), 5, 4)
+
+    note("6: send mark on module 1 with l = 0 and with l = N.")
+    setup(put(SHEET, {3: module(1, 0, mark=1)}), 6, 3)
+    setup(put(SHEET, {3: module(1, 4, mark=1)}), 6, 3)
+    also("6: send mark on 2 with l = 1 (accepted) and 2; on 4 with l = 3 (accepted) and 4.")
+    setup(put(SHEET, {4: module(2, 1, mark=1)}), 0, 0)
+    setup(put(SHEET, {4: module(2, 2, mark=1)}), 6, 4)
+    setup(put(SHEET, {6: module(4, 3, mark=1)}), 0, 0)
+    setup(put(SHEET, {6: module(4, 4, mark=1)}), 6, 6)
+    also("6: N = 16, mark on 16 with l = 15 (accepted) and 16.")
+    setup(put(SIXTEEN, {18: module(16, 15, mark=1)}), 0, 0)
+    setup(put(SIXTEEN, {18: module(16, 16, mark=1)}), 6, 18)
+    also("6: marks wrong on 3 and on 2, the first counts.")
+    setup(put(SHEET, {4: module(2, 2, mark=1), 5: module(3, 3, mark=1)}), 6, 4)
+    also("5 before 6 though it lies later: mark on 1 (word 3), criticality 0 at module 4 (word 6).")
+    setup(put(SHEET, {3: module(1, 0, mark=1), 6: module(4, 4, crit=0)}), 5, 6)
+    also("5 before 6 in one word: module 2 with the mark and l = 5.")
+    setup(put(SHEET, {4: module(2, 5, mark=1)}), 5, 4)
+
+
+# ---- state ----
+
+# The sheet's module 2, fresh: 22 words. Words 0 to 6 are the setup, 7 own number and view,
+# 8 to 11 the previous read, 12 and 13 the syndromes, 14 to 17 penalties, 18 to 21 rewards.
+FRESH = State(SHEET, 2)
+
+# One in the middle of its life: 2 is out of the view with a reward, 3 has a charge.
+MIDDLE = State(SHEET, 3).but(
+    view=0xD, row={1: None, 2: 0x0, 3: 0x5}, latest=0x0, before=0x9,
+    penalty={2: 2, 3: 1}, reward={2: 1, 3: 2})
+
+
+def states():
+    fresh = FRESH.words()
+    note("States that are accepted: fresh ones with N = 2, 4 and 16; one where 1 is unheard, 2 is heard",
+         "with row 0, the syndromes differ, and 2 is out of the view with a reward below R.")
+    for image in [State(TWO, 1), FRESH, State(SIXTEEN, 16), MIDDLE]:
+        state(image, 0, 0)
+
+    note("Numbers 1 to 6 in a state: empty, one byte over.")
+    state(b"", 1, 0)
+    state(raw(fresh) + b"\x00", 1, 0)
+    also("2: N = 17. 3: one word short, one over, the setup alone.")
+    state(put(fresh, {0: head(17)}), 2, 0)
+    state(fresh[:21], 3, 0)
+    state(fresh + [0], 3, 0)
+    state(SHEET, 3, 0)
+    also("3: N = 2 one word over, N = 16 one word short.")
+    state(State(TWO, 1).words() + [0], 3, 0)
+    state(State(SIXTEEN, 1).words()[:69], 3, 0)
+    also("4: P = 0, R = 8,000,001. 5: l = 5 at module 4. 6: mark on 1.")
+    state(put(fresh, {1: limit_p(0)}), 4, 1)
+    state(put(fresh, {2: limit_r(8000001)}), 4, 2)
+    state(put(fresh, {6: module(4, 5)}), 5, 6)
+    state(put(fresh, {3: module(1, 0, mark=1)}), 6, 3)
+    also("5 before 6 though it lies later; 6 before 7.")
+    state(put(fresh, {3: module(1, 0, mark=1), 6: module(4, 4, crit=0)}), 5, 6)
+    state(put(fresh, {4: module(2, 2, mark=1), 7: own_view(0, 0xF)}), 6, 4)
+
+    note("7: own number 0, N+1 and 31; 1 and N are accepted.")
+    state(put(fresh, {7: own_view(0, 0xF)}), 7, 7)
+    state(put(fresh, {7: own_view(5, 0xF)}), 7, 7)
+    state(put(fresh, {7: own_view(31, 0xF)}), 7, 7)
+    state(put(fresh, {7: own_view(1, 0xF)}), 0, 0)
+    state(put(fresh, {7: own_view(4, 0xF)}), 0, 0)
+    also("7: N = 2 with 3, N = 16 with 17.")
+    state(put(State(TWO, 1).words(), {5: own_view(3, 0x3)}), 7, 5)
+    state(put(State(SIXTEEN, 1).words(), {19: own_view(17, 0xFFFF)}), 7, 19)
+    also("Own number 0, 1, N, N+1 and 31 where the word is not of kind 10: 8, as 7 is not tested.")
+    state(put(fresh, {7: kind(own_view(0, 0xF), 11)}), 8, 7)
+    state(put(fresh, {7: kind(own_view(1, 0xF), 11)}), 8, 7)
+    state(put(fresh, {7: kind(own_view(4, 0xF), 8)}), 8, 7)
+    state(put(fresh, {7: kind(own_view(5, 0xF), 2)}), 8, 7)
+    state(put(fresh, {7: kind(own_view(31, 0xF), 12)}), 8, 7)
+    also("7 before 8 in one word: own 0 and a view bit at N; own 5 and bit 21. 7 and a later 8.")
+    state(put(fresh, {7: own_view(0, 0x1F)}), 7, 7)
+    state(put(fresh, {7: own_view(5, 0xF) | 1 << 21}), 7, 7)
+    state(put(fresh, {7: own_view(5, 0xF), 8: 0, 12: 0}), 7, 7)
+
+    note("8, own number and view: view bit at N with N = 4 and with N = 2, spare bits 21 and 27.")
+    state(put(fresh, {7: own_view(2, 0x1F)}), 8, 7)
+    state(put(State(TWO, 1).words(), {5: own_view(1, 0x7)}), 8, 5)
+    state(put(fresh, {7: own_view(2, 0xF) | 1 << 21}), 8, 7)
+    state(put(fresh, {7: own_view(2, 0xF) | 1 << 27}), 8, 7)
+
+    note("8, previous read: heard 0 with row 0 (accepted), with row 1, with row 15.")
+    state(FRESH.but(row={2: None}), 0, 0)
+    state(put(fresh, {9: previous(2, 0, 0x1)}), 8, 9)
+    state(put(fresh, {8: previous(1, 0, 0xF)}), 8, 8)
+    also("8: row bit at N; spare bits 16 and 21; number 0; 2 and 3 in the other order; kind 10.")
+    state(put(fresh, {8: previous(1, 1, 0x1F)}), 8, 8)
+    state(put(fresh, {10: previous(3, 1, 0xF) | 1 << 16}), 8, 10)
+    state(put(fresh, {11: previous(4, 1, 0xF) | 1 << 21}), 8, 11)
+    state(put(fresh, {8: previous(0, 1, 0xF)}), 8, 8)
+    state(put(fresh, {9: previous(3, 1, 0xF), 10: previous(2, 1, 0xF)}), 8, 9)
+    state(put(fresh, {11: kind(previous(4, 1, 0xF), 10)}), 8, 11)
+
+    note("8, syndromes: bit at N in the latest, in the one before, in both; kind 13 for the second.")
+    state(put(fresh, {12: syndrome(0x10)}), 8, 12)
+    state(put(fresh, {13: syndrome(0x1F)}), 8, 13)
+    state(put(fresh, {12: syndrome(0x10), 13: syndrome(0x10)}), 8, 12)
+    state(put(fresh, {13: kind(syndrome(0xF), 13)}), 8, 13)
+    also("8: N = 16, spare bit 16 in the latest, spare bit 27 in the one before.")
+    state(put(State(SIXTEEN, 1).words(), {36: syndrome(0xFFFF) | 1 << 16}), 8, 36)
+    state(put(State(SIXTEEN, 1).words(), {37: syndrome(0xFFFF) | 1 << 27}), 8, 37)
+
+    wide = State(WIDE, 1)
+    note("8, view against penalty, P = 5 and criticality 3, module 3 (word 16). In the view: penalty P",
+         "is accepted; P+1, P+criticality and one more are not.")
+    state(wide.but(penalty={3: 5}), 0, 0)
+    state(wide.but(penalty={3: 6}), 8, 16)
+    state(wide.but(penalty={3: 8}), 8, 16)
+    state(wide.but(penalty={3: 9}), 8, 16)
+    also("Out of the view: 0 and P are not accepted, P+1 and P+criticality are, one more is not.")
+    state(wide.but(view=0xB, penalty={3: 0}), 8, 16)
+    state(wide.but(view=0xB, penalty={3: 5}), 8, 16)
+    state(wide.but(view=0xB, penalty={3: 6}), 0, 0)
+    state(wide.but(view=0xB, penalty={3: 8}), 0, 0)
+    state(wide.but(view=0xB, penalty={3: 9}), 8, 16)
+    also("P + criticality is each module's own: P = 5, criticality 2 at module 2, penalty 7 and 8.")
+    state(State(STAIRS, 1).but(view=0xD, penalty={2: 7}), 0, 0)
+    state(State(STAIRS, 1).but(view=0xD, penalty={2: 8}), 8, 15)
+    also("The highest: P = 1,000,000, criticality 100,000, penalty 1,100,000 and one more.")
+    state(State(LARGE, 1).but(view=0xE, penalty={1: 1100000}), 0, 0)
+    state(State(LARGE, 1).but(view=0xE, penalty={1: 1100001}), 8, 14)
+    also("8: spare bits 21 and 22 of a penalty word; 3 and 4 in the other order; kind 14.")
+    state(put(fresh, {14: penalty(1, 0) | 1 << 21}), 8, 14)
+    state(put(fresh, {17: penalty(4, 0) | 1 << 22}), 8, 17)
+    state(put(fresh, {16: penalty(4, 0), 17: penalty(3, 0)}), 8, 16)
+    state(put(fresh, {15: kind(penalty(2, 0), 14)}), 8, 15)
+
+    charged = FRESH.but(penalty={2: 1})
+    note("8, reward, R = 3 and penalty 1 at module 2 (word 19): R-1 is accepted, R is not.")
+    state(charged.but(reward={2: 2}), 0, 0)
+    state(charged.but(reward={2: 3}), 8, 19)
+    also("8: reward 1 with penalty 0; reward R out of the view; R = 1 with reward 1.")
+    state(FRESH.but(reward={4: 1}), 8, 21)
+    state(FRESH.but(view=0xD, penalty={2: 2}, reward={2: 3}), 8, 19)
+    state(State(REWARD_ONE, 1).but(penalty={1: 1}, reward={1: 1}), 8, 18)
+    also("R = 8,000,000: 7,999,999 is accepted, 8,000,000 is not.")
+    state(State(LARGE, 1).but(penalty={1: 1}, reward={1: 7999999}), 0, 0)
+    state(State(LARGE, 1).but(penalty={1: 1}, reward={1: 8000000}), 8, 18)
+    also("8: 1 and 2 in the other order; kind 13.")
+    state(put(fresh, {18: reward(2, 0), 19: reward(1, 0)}), 8, 18)
+    state(put(fresh, {20: kind(reward(3, 0), 13)}), 8, 20)
+
+    note("8, groups of words in another order: own number after the previous read; rewards first.")
+    state(fresh[:7] + fresh[8:12] + fresh[7:8] + fresh[12:], 8, 7)
+    state(fresh[:14] + fresh[18:] + fresh[14:18], 8, 14)
+    also("8 at several words, the first counts: 18 and 17; 13 and the view's clash at 15; 14 and 16.")
+    state(put(fresh, {17: penalty(4, 3), 18: reward(1, 3)}), 8, 17)
+    state(put(FRESH.but(view=0xD).words(), {13: syndrome(0x10)}), 8, 13)
+    state(FRESH.but(view=0xA), 8, 14)
+
+
+# ---- open ----
+
+
+def openings():
+    note("Openings that are accepted: all-ones rows and syndromes, all heard, counters 0, full view.",
+         "N = 2, N = 4 with own number 1 and N, N = 16, and u = 1 with send marks.")
+    opened(TWO, 2)
+    opened(SHEET, 1)
+    opened(SHEET, 4)
+    opened(SIXTEEN, 16)
+    opened(MARKED, 3)
+
+    note("7 at opening carries index 0: own 0, N+1, 31; 65,537 (1 in the low 16 bits); the highest.")
+    for own in [0, 5, 31, 65537, 4294967295]:
+        open_refused(SHEET, own, 88, 7, 0)
+    also("7: N = 16 with own 17.")
+    open_refused(SIXTEEN, 17, 280, 7, 0)
+
+    note("Numbers 1 to 6 come before 7 and 9: own 0 and no output in each call.")
+    open_refused(b"", 0, 0, 1, 0)
+    open_refused(put(SHEET, {0: head(17)}), 0, 0, 2, 0)
+    open_refused(FRESH, 0, 0, 3, 0)
+    open_refused(put(SHEET, {2: limit_r(0)}), 0, 0, 4, 2)
+    open_refused(put(SHEET, {6: module(4, 5)}), 0, 0, 5, 6)
+    open_refused(put(SHEET, {5: module(3, 3, mark=1)}), 0, 0, 6, 5)
+    also("7 before 9.")
+    open_refused(SHEET, 0, 0, 7, 0)
+
+    note("9: output empty, one word short, one byte over, one word over.")
+    for out in [0, 84, 89, 92]:
+        open_refused(SHEET, 1, out, 9, 0)
+
+
+# ---- save ----
+
+
+def savings():
+    note("Savings that are accepted write the image.")
+    saved(State(TWO, 1))
+    saved(MIDDLE)
+    saved(State(SIXTEEN_MARKED, 16))
+
+    fresh = FRESH.words()
+    note("Numbers 1 to 8 come before 9: no output in each call.")
+    save_refused(raw(fresh)[:5], 0, 1, 0)
+    save_refused(put(fresh, {0: head(1)}), 0, 2, 0)
+    save_refused(fresh[:21], 0, 3, 0)
+    save_refused(put(fresh, {1: limit_r(1)}), 0, 4, 1)
+    save_refused(put(fresh, {4: module(2, 4, crit=0)}), 0, 5, 4)
+    save_refused(put(fresh, {4: module(2, 2, mark=1)}), 0, 6, 4)
+    save_refused(put(fresh, {7: own_view(31, 0xF)}), 0, 7, 7)
+    save_refused(put(fresh, {20: reward(3, 1)}), 0, 8, 20)
+
+    note("9: output empty, one word short, one byte over, one word over.")
+    for out in [0, 84, 89, 92]:
+        save_refused(FRESH, out, 9, 0)
+
+
+# ---- step ----
+
+
+def steps_refused():
+    fresh = FRESH.words()
+    read = buses(0xF, 0xF, 0xF, 0xF)
+    note("Numbers 1 to 8 come before 9 and 10: no read, no output and controller bit 31 in each call.")
+    step_refused(b"", b"", 1 << 31, 0, 1, 0)
+    step_refused(put(fresh, {0: head(17)}), b"", 1 << 31, 0, 2, 0)
+    step_refused(fresh + [0], b"", 1 << 31, 0, 3, 0)
+    step_refused(put(fresh, {2: limit_r(0)}), b"", 1 << 31, 0, 4, 2)
+    step_refused(put(fresh, {5: module(3, 5)}), b"", 1 << 31, 0, 5, 5)
+    step_refused(put(fresh, {3: module(1, 0, mark=1)}), b"", 1 << 31, 0, 6, 3)
+    step_refused(put(fresh, {7: own_view(0, 0xF)}), b"", 1 << 31, 0, 7, 7)
+    step_refused(FRESH.but(view=0x7), b"", 1 << 31, 0, 8, 17)
+
+    note("9, read: empty, one word short, one byte over, one word over.")
+    for data in [b"", raw(read[:3]), raw(read) + b"\x50", raw(read + [bus(0xF)])]:
+        step_refused(FRESH, data, 0xF, 88, 9, 0)
+    also("9, output: empty, one word short, one byte over, one word over.")
+    for out in [0, 84, 89, 92]:
+        step_refused(FRESH, read, 0xF, out, 9, 0)
+    also("9 before 10: read one word short, and a controller bit at N.")
+    step_refused(FRESH, read[:3], 0x1F, 88, 9, 0)
+
+    note("10: controller bit at N with N = 4, bit 31; N = 2 bit 2; N = 16 bit 16.")
+    step_refused(FRESH, read, 0x1F, 88, 10, 0)
+    step_refused(FRESH, read, 0x8000000F, 88, 10, 0)
+    step_refused(State(TWO, 1), buses(0x3, 0x3), 0x4, 56, 10, 0)
+    step_refused(State(SIXTEEN, 1), buses(*[0xFFFF] * 16), 0x1FFFF, 280, 10, 0)
+
+
+def steps_of_the_sheet():
+    """All l = N, so u = 0 and every row comes from this read."""
+    read = buses(0xF, 0xF, 0xF, 0xF)
+    seen = buses(0xD, 0xD, 0xD, 0xD)
+    fresh = State(SHEET, 1)
+    note("The sheet, module 1 (u = 0). All heard with all ones: health 1111, nobody charged.")
+    stepped(fresh, read, 0xF, 0xF, [0xF] * 4, 0xF)
+    also("Round 1, 2 is unheard: 1, 3 and 4 still vote 1 on it, health 1111, nobody charged. The")
+    also("syndrome lacks 2.")
+    one = stepped(fresh, read, 0xD, 0xF, [0xF, None, 0xF, 0xF], 0xD)
+    also("Round 2, all send that syndrome: 1, 3 and 4 vote 0 on 2, health 1011. 2 is charged 1, which is")
+    also("P and not above: it stays. No row differs from the health vector, the syndrome is full.")
+    two = stepped(one, seen, 0xF, 0xD, [0xD] * 4, 0xF, penalty={2: 1})
+    also("A second charge: penalty 2 is above P = 1, 2 leaves the view.")
+    out = stepped(two, seen, 0xF, 0xD, [0xD] * 4, 0xF, penalty={2: 2}, view=0xD)
+    also("2 is out of the view: with health 0 and with health 1 its counters stay.")
+    stepped(out, seen, 0xF, 0xD, [0xD] * 4, 0xF)
+    stepped(out, read, 0xF, 0xF, [0xF] * 4, 0xF)
+    also("After one charge, three rounds of health 1: reward 1, reward 2, at R = 3 both counters 0.")
+    good = stepped(two, read, 0xF, 0xF, [0xF] * 4, 0xF, reward={2: 1})
+    good = stepped(good, read, 0xF, 0xF, [0xF] * 4, 0xF, reward={2: 2})
+    stepped(good, read, 0xF, 0xF, [0xF] * 4, 0xF, penalty={2: 0}, reward={2: 0})
+
+    note("3 alone missed 1 in round 1. Round 2: the row of 3 lacks 1, but 2 and 4 vote 1 on it: health",
+         "1111, nobody charged; row 3 differs at 1, so 3 is accused and not in the syndrome.")
+    round_2 = stepped(fresh, buses(0xF, 0xF, 0xE, 0xF), 0xF, 0xF, [0xF, 0xF, 0xE, 0xF], 0xB)
+    also("Round 3, all rows lack 3: health 1101, 3 is charged.")
+    stepped(round_2, buses(0xB, 0xB, 0xB, 0xB), 0xF, 0xB, [0xB] * 4, 0xF, penalty={3: 1})
+    also("A row that differs at its own module alone is not accused: 3 calls itself bad, 1, 2 and 4 vote")
+    also("1 on it. Nobody charged, full syndrome.")
+    stepped(fresh, buses(0xF, 0xF, 0xB, 0xF), 0xF, 0xF, [0xF, 0xF, 0xB, 0xF], 0xF)
+
+    note("Nobody is heard, latest syndrome 1011: every vote is empty, health is that syndrome (u = 0).",
+         "2 is charged; the syndrome before it, 1111, is not asked. New syndrome 0000.")
+    none = [None] * 4
+    empty = stepped(one.but(row=[0xF] * 4), read, 0x0, 0xD, none, 0x0, penalty={2: 1})
+    also("Again: health 0000, all are charged; 2 had 1 and leaves.")
+    stepped(empty, read, 0x0, 0x0, none, 0x0, penalty={1: 1, 2: 2, 3: 1, 4: 1}, view=0xD)
+
+    note("What is not heard: 5000001F (bit at N), 4000000F (kind 4), 5001000F (bit 16). Only 1 is heard.",
+         "The vote on 1 is empty: bit 1 of the latest syndrome 0111, so 0; on 2, 3 and 4 row 1 votes 1.",
+         "1 is charged. The syndrome holds 1 alone.")
+    late = fresh.but(latest=0xE)
+    only_1 = [0xF, None, None, None]
+    words = [bus(0xF), 0x5000001F, 0x4000000F, 0x5001000F]
+    stepped(late, words, 0xF, 0xE, only_1, 0x1, penalty={1: 1})
+    also("The same by controller bits: 2, 3 and 4 send 5000000F.")
+    stepped(late, read, 0x1, 0xE, only_1, 0x1, penalty={1: 1})
+
+    note("Votes 0, missing, 0 on 1: rows 2 and 4 lack 1, 3 is unheard. Health 0111, 1 is charged.")
+    stepped(fresh, buses(0xF, 0xE, 0xF, 0xE), 0xB, 0xE, [0xF, 0xE, None, 0xE], 0xB, penalty={1: 1})
+    also("4 is out of the view and still votes: on 1 rows 2 and 4 vote 0, row 3 votes 1. Health 0111, 1 is")
+    also("charged, row 3 accused. The counters of 4 stay, a reward below R too.")
+    without_4 = fresh.but(view=0x7, penalty={4: 2}, reward={4: 1})
+    rows = [0xF, 0xE, 0xF, 0xE]
+    stepped(without_4, buses(*rows), 0xF, 0xE, rows, 0xB, penalty={1: 1})
+
+
+def steps_of_the_counters():
+    all_b = buses(0xB, 0xB, 0xB, 0xB)
+    wide = State(WIDE, 4)
+    note("P = 5, criticality 3, all rows lack 3, so 3 is charged. From 2 to 5, which is P: it stays, and",
+         "its reward becomes 0. From 3 to 6: it leaves. Out of the view with 8: both counters stay.")
+    stepped(wide.but(penalty={3: 2}, reward={3: 2}), all_b, 0xF, 0xB, [0xB] * 4, 0xF,
+            penalty={3: 5}, reward={3: 0})
+    stepped(wide.but(penalty={3: 3}, reward={3: 2}), all_b, 0xF, 0xB, [0xB] * 4, 0xF,
+            penalty={3: 6}, reward={3: 0}, view=0xB)
+    stepped(wide.but(view=0xB, penalty={3: 8}, reward={3: 2}), all_b, 0xF, 0xB, [0xB] * 4, 0xF)
+
+    note("P = 5, criticality 1, 2, 3, 4, all rows 0: all are charged. 5+1 and 3+3 are above P, 1 and 3",
+         "leave; 3+2 and 1+4 are P, 2 and 4 stay. No row differs from health 0000: full syndrome.")
+    stepped(State(STAIRS, 2).but(penalty={1: 5, 2: 3, 3: 3, 4: 1}), buses(0, 0, 0, 0), 0xF, 0x0,
+            [0] * 4, 0xF, penalty={1: 6, 2: 5, 3: 6, 4: 5}, view=0xA)
+
+    all_e = buses(0xE, 0xE, 0xE, 0xE)
+    large = State(LARGE, 1)
+    note("P = 1,000,000, criticality 100,000, 1 is charged: from 900,000 to P, stays; from P, leaves.")
+    stepped(large.but(penalty={1: 900000}), all_e, 0xF, 0xE, [0xE] * 4, 0xF, penalty={1: 1000000})
+    stepped(large.but(penalty={1: 1000000}), all_e, 0xF, 0xE, [0xE] * 4, 0xF,
+            penalty={1: 1100000}, view=0xE)
+    also("R = 8,000,000, health 1 for 4: reward 7,999,998 grows by 1; from 7,999,999 both become 0.")
+    read = buses(0xF, 0xF, 0xF, 0xF)
+    stepped(large.but(penalty={4: 5}, reward={4: 7999998}), read, 0xF, 0xF, [0xF] * 4, 0xF,
+            reward={4: 7999999})
+    stepped(large.but(penalty={4: 5}, reward={4: 7999999}), read, 0xF, 0xF, [0xF] * 4, 0xF,
+            penalty={4: 0}, reward={4: 0})
+    also("R = 1: one round of health 1 clears the penalty.")
+    stepped(State(REWARD_ONE, 3).but(penalty={2: 1}), read, 0xF, 0xF, [0xF] * 4, 0xF, penalty={2: 0})
+
+
+def steps_of_other_n():
+    note("N = 3: votes 0, 1 on 1 are equal and give 1 (row 1, which lacks 1, is not counted). Row 2 is",
+         "accused at 1. Nobody charged. Then votes 0, 0 on 1: health 011, 1 is charged.")
+    three = State(THREE, 3)
+    stepped(three, buses(0x6, 0x6, 0x7), 0x7, 0x7, [0x6, 0x6, 0x7], 0x5)
+    stepped(three, buses(0x6, 0x6, 0x6), 0x7, 0x6, [0x6, 0x6, 0x6], 0x7, penalty={1: 1})
+
+    note("N = 2: row 1 alone votes on 2 and row 2 alone on 1. Row 1 lacks 2: 2 is charged.")
+    stepped(State(TWO, 1), buses(0x1, 0x3), 0x3, 0x1, [0x1, 0x3], 0x3, penalty={2: 1})
+    also("Only 2 is heard, and lacks 1: vote on 1 is 0. The vote on 2 is empty: the latest syndrome lacks")
+    also("2. Both are charged.")
+    stepped(State(TWO, 1).but(latest=0x1), buses(0x3, 0x2), 0x2, 0x0, [None, 0x2], 0x2,
+            penalty={1: 1, 2: 1})
+
+    sixteen = State(SIXTEEN, 5)
+    lack = 0x7FFF
+    note("N = 16, the vote on 16. 1 to 8 vote 1, 9 to 15 vote 0: 1, nobody charged; 9 to 15 are accused.")
+    rows = [0xFFFF] * 8 + [lack] * 7 + [0xFFFF]
+    stepped(sixteen, buses(*rows), 0xFFFF, 0xFFFF, rows, 0x80FF)
+    also("1 to 7 vote 1, 8 to 15 vote 0: 0, 16 is charged; 1 to 7 are accused.")
+    rows = [0xFFFF] * 7 + [lack] * 8 + [0xFFFF]
+    stepped(sixteen, buses(*rows), 0xFFFF, lack, rows, 0xFF80, penalty={16: 1})
+    also("8 is unheard, 7 against 7 is equal: 1, nobody charged; 9 to 15 are accused.")
+    words = buses(*[0xFFFF] * 8 + [lack] * 7 + [0xFFFF])
+    rows = [0xFFFF] * 7 + [None] + [lack] * 7 + [0xFFFF]
+    stepped(sixteen, words, 0xFF7F, 0xFFFF, rows, 0x807F)
+    also("Nobody is heard, latest syndrome holds 1 and 16: 2 to 15 are charged.")
+    stepped(sixteen.but(latest=0x8001), words, 0x0, 0x8001, [None] * 16, 0x0,
+            penalty={j: 1 for j in range(2, 16)})
+
+
+def steps_with_u_1():
+    f, d = 0xF, 0xD
+    note("l = 0, 0, 1, 2 and marks on 2, 3, 4 (u = 1); 2 is unheard by all in round 1. Module 4, l = 2:",
+         "rows 1 and 2 come from the previous read, 3 and 4 from this one. Round 1: all rows are there,",
+         "nobody charged, full syndrome. The read is kept with 2 unheard.")
+    first = stepped(State(MARKED, 4), buses(f, f, f, f), 0xD, f, [f, None, f, f], f)
+    also("Round 2: row 2 is missing, though 2 is heard now; health 1111; the syndrome lacks 2.")
+    second = stepped(first, buses(f, f, f, f), f, f, [f] * 4, d)
+    also("Round 3: 1 and 2 already sent that syndrome, but their rows come from round 2: health 1111.")
+    third = stepped(second, buses(d, d, f, f), f, f, [d, d, f, f], f)
+    also("Round 4: all rows are of round 3 and lack 2: health 1011, 2 is charged.")
+    stepped(third, buses(f, f, d, d), f, d, [f, f, d, d], f, penalty={2: 1})
+
+    note("Nobody heard with u = 1, module 1 (l = 0): the syndrome before the latest decides. Latest 0000",
+         "and before 1111: health 1111, nobody charged. Latest 1111, before 1101: 3 is charged.")
+    none = [None] * 4
+    read = buses(f, f, f, f)
+    stepped(State(MARKED, 1).but(latest=0x0), read, 0x0, f, none, 0x0)
+    stepped(State(MARKED, 1).but(before=0xB), read, 0x0, 0xB, none, 0x0, penalty={3: 1})
+
+    note("One l of four below N: u = 1. Module 1 has l = N, all its rows come from the previous read, which",
+         "lacks 3: health 1101, 3 is charged. The sheet's module 1 (u = 0) takes this read: nobody charged.")
+    lacks_3 = [0xB] * 4
+    stepped(State(ONE_EARLY, 1).but(row=lacks_3), read, f, 0xB, [f] * 4, f, penalty={3: 1})
+    stepped(State(SHEET, 1).but(row=lacks_3), read, f, f, [f] * 4, f)
+
+    note("N = 2, module 2 with l = 1 and the mark: row 1 of the previous read lacks 2, row 2 is of this",
+         "one. Health 10, 2 charges itself.")
+    stepped(State(TWO_MARKED, 2).but(row={1: 0x1}), buses(0x3, 0x3), 0x3, 0x1, [0x3, 0x3], 0x3,
+            penalty={2: 1})
+
+    note("N = 16, module 9 with l = 8 and the mark: rows 1 to 8 of the previous read and 9 to 16 of this",
+         "one lack 9. All vote 0 on 9, which charges itself; the other rows of both reads are full.")
+    full_row, lack = 0xFFFF, 0xFEFF
+    before = State(SIXTEEN_MARKED, 9).but(row=[lack] * 8 + [full_row] * 8)
+    rows = [full_row] * 8 + [lack] * 8
+    stepped(before, buses(*rows), 0xFFFF, lack, rows, 0xFFFF, penalty={9: 1})
+
+
+print("# Calls and their answers after document 01, in the format of calls.txt.")
+print("# A number before a colon or a comma at the start of a comment is the answer's number.")
+print("# Vectors in the comments are as printed: module 1 stands leftmost.")
+setups()
+states()
+openings()
+savings()
+steps_refused()
+steps_of_the_sheet()
+steps_of_the_counters()
+steps_of_other_n()
+steps_with_u_1()
