@@ -1,23 +1,29 @@
 -- What a call from C answers and leaves in its output, put together from the answers of its parts.
 use mathlib.Core.Path.{_≡_, refl, ap, ap₂, _∙_, sym, subst}
 use mathlib.Core.Bool.{Bool, true, false, cond, not}
-use mathlib.Core.List.{List}
-use Prim.Native.Nat.{ℕ, _+_, _*_}
+use mathlib.Core.List.{List, _++_, append-nil}
+use Prim.Native.Nat.{ℕ, _+_, _-_, _*_, _≤_, _<_}
+use native.Mathlib.Omega.{arith}
 use lib.Dec.{eqb}
-use lib.ListN.{length}
+use lib.ListN.{length, getD, take, drop}
+use lib.Seq.{take-length, drop-length}
 use borrow.Author.Tests.{eq-eqb, ne-eqb, eqb-true, eqb-false, not-true, not-false}
 use Rattle.words.specs.Word.{wordAt}
+use Rattle.words.specs.Bits.{bit}
+use Rattle.words.proofs.BitLaws.{bit-pack}
+use Rattle.rules.specs.Hearing.{busWord}
+use Rattle.rules.specs.Syndrome.{outgoingOf}
 use Rattle.words.proofs.Truth.{cond-true, cond-false}
 use Rattle.setup.specs.Verdict.{verdict, accepted, isAccepted}
-use Rattle.setup.specs.Setup.{sizeIn, setupOf, blankSetup}
+use Rattle.setup.specs.Setup.{sizeIn, markIn, setupOf, blankSetup}
 use Rattle.setup.specs.Check.{checkHead, checkWords, checkSetup, readSetup}
 use Rattle.setup.specs.declared.Setup.{Setup}
 use Rattle.setup.specs.declared.SetupRead.{SetupRead}
 use Rattle.setup.specs.declared.Verdict.{Verdict}
 use Rattle.presence.specs.Valid.{Valid}
-use Rattle.presence.specs.Opening.{blank, openOf}
-use Rattle.presence.specs.Step.{afterRound, acceptedStep, readStep, stepOf}
-use Rattle.presence.specs.Image.{imageLength, imageOf, stateOf, checkTail, checkImage, loadOf, roomFor}
+use Rattle.presence.specs.Opening.{openOf}
+use Rattle.presence.specs.Step.{markOf, afterRound, acceptedStep, readStep, stepOf}
+use Rattle.presence.specs.Image.{ownIn, syndromeIn, imageLength, imageOf, stateOf, checkTail, checkImage, roomFor}
 use Rattle.presence.specs.Calls.{Called, answer, called, refusedCall, wrote, openCall, stepCall, saveCall, handedOut, outgoingCall}
 use Rattle.presence.specs.declared.State.{State}
 use Rattle.presence.specs.declared.Answer.{Answer}
@@ -26,32 +32,14 @@ use Rattle.presence.specs.declared.Opened.{Opened}
 use Rattle.presence.specs.declared.Stepped.{Stepped}
 use Rattle.presence.proofs.StepLaws.{step-accepted, step-valid, open-valid}
 use Rattle.presence.proofs.RoundLaws.{step-goes}
-use Rattle.presence.proofs.ImageLaws.{load-valid, image-zero}
+use Rattle.presence.proofs.ImageLaws.{ImageFits, image-pass, image-state, load-valid, image-zero}
+use Rattle.presence.proofs.RoundTrip.{written-read}
 use Rattle.presence.proofs.AnswerLaws.{by-words}
 
 -- a refusal by the verdict v, answered by what was found of it
 refused-by : {v w : Verdict} (out : List ℕ) → v ≡ w → called (answer (v .number) (v .index) 0) out ≡ refusedCall (w .number) (w .index) out
 unfolding refusedCall
 refused-by out e = ap (λ (x : Verdict). called (answer (x .number) (x .index) 0) out) e
-
--- ---- what was read
-
-abbrev pub verdictIn : Opened → Verdict
-verdictIn o = verdict (o .number) (o .index)
-
-module _ (image : List ℕ) {o : Opened} (e : o ≡ loadOf image) where
-  pub loaded-verdict : verdictIn o ≡ checkImage image
-  unfolding loadOf
-  loaded-verdict = ap verdictIn e
-
-  pub loaded-state : o .number ≡ 0 → o .state ≡ stateOf image
-  unfolding loadOf
-  loaded-state z = ap (λ (x : Opened). x .state) e ∙ cond-true (stateOf image) blank (eq-eqb _ 0 (ap (λ (x : Opened). x .number) (sym e) ∙ z))
-
-  pub loaded-valid : o .number ≡ 0 → Valid (o .state)
-  unfolding loadOf
-  loaded-valid z =
-      subst Valid (sym (loaded-state z)) (load-valid image (ap (λ (x : Opened). x .number) (sym e) ∙ z))
 
 -- what was opened is valid
 pub opened-valid : (s : Setup) (own : ℕ) {o : Opened} → o ≡ openOf s own → o .number ≡ 0 → Valid (o .state)
@@ -90,22 +78,59 @@ stepped-setup k read controller {t} v h z =
 
 -- ---- the word to put on the bus
 
-module _ (image : List ℕ) {o : Opened} (e : o ≡ loadOf image) where
-  out-by : {v : Verdict} {w : ℕ} → v ≡ checkImage image → w ≡ cond (isAccepted v) (handedOut (stateOf image)) 0
-      → _≡_ {A = Outgoing} (record { number = v .number; index = v .index; word = w }) (outgoingCall image)
+-- the mark of a module, as its own word in the image has it
+pub mark-in : (s : List ℕ) → ImageFits s → markOf (stateOf s) ≡ bit (wordAt s (ownIn (wordAt s (sizeIn (wordAt s 0) + 3)) + 2)) 22
+unfolding markOf stateOf setupOf
+mark-in s f =
+    let n = sizeIn (wordAt s 0) in
+    let own = ownIn (wordAt s (n + 3)) in
+    let g = image-state s f in
+    let low : 1 ≤ own = g .first in
+    let h : own - 1 < n = omega (arith, g .last) in
+    let e : 3 + (own - 1) ≡ own + 2 = omega arith in
+    bit-pack n (λ j. markIn (wordAt s (3 + j))) (own - 1) h ∙ ap (λ (i : ℕ). bit (wordAt s i) 22) e
+
+pub handed-in : (s : List ℕ) → ImageFits s → {mark : Bool} → mark ≡ bit (wordAt s (ownIn (wordAt s (sizeIn (wordAt s 0) + 3)) + 2)) 22
+    → outgoingOf mark (syndromeIn (wordAt s (2 * sizeIn (wordAt s 0) + 5))) (syndromeIn (wordAt s (2 * sizeIn (wordAt s 0) + 4))) ≡ handedOut (stateOf s)
+unfolding handedOut outgoingOf stateOf
+handed-in s f e =
+    ap (λ (b : Bool). busWord (cond b (syndromeIn (wordAt s (2 * sizeIn (wordAt s 0) + 5))) (syndromeIn (wordAt s (2 * sizeIn (wordAt s 0) + 4)))))
+    (e ∙ sym (mark-in s f))
+
+-- n is the size, wo the word of the own number, wm that of the module itself, wl and we the two syndromes
+module _ (s : List ℕ) (f : ImageFits s) {n wo own : ℕ} (en : n ≡ sizeIn (wordAt s 0)) (eo : wo ≡ wordAt s (n + 3)) (ew : own ≡ ownIn wo) where
+  own-is : own ≡ ownIn (wordAt s (sizeIn (wordAt s 0) + 3))
+  own-is = ew ∙ ap ownIn (eo ∙ ap (λ (m : ℕ). wordAt s (m + 3)) en)
+
+  pub own-most : own ≤ n
+  unfolding stateOf setupOf
+  own-most = omega (arith, own-is, image-state s f .last, en)
+
+  pub word-made : {wm wl we r : ℕ} {mark : Bool} → wm ≡ wordAt s (own + 2) → mark ≡ bit wm 22 → wl ≡ wordAt s (2 * n + 4)
+      → we ≡ wordAt s (2 * n + 5) → r ≡ outgoingOf mark (syndromeIn we) (syndromeIn wl) → r ≡ handedOut (stateOf s)
+  word-made {mark = mark} em eb el ee h =
+      let b : mark ≡ bit (wordAt s (ownIn (wordAt s (sizeIn (wordAt s 0) + 3)) + 2)) 22 =
+      eb ∙ ap (λ (x : ℕ). bit x 22) (em ∙ ap (λ (m : ℕ). wordAt s (m + 2)) own-is)
+      in
+      h
+      ∙ ap₂ (λ (x y : ℕ). outgoingOf mark (syndromeIn x) (syndromeIn y)) (ee ∙ ap (λ (m : ℕ). wordAt s (2 * m + 5)) en)
+      (el ∙ ap (λ (m : ℕ). wordAt s (2 * m + 4)) en)
+      ∙ handed-in s f b
+
+module _ (image : List ℕ) {v : Verdict} (e : v ≡ checkImage image) where
+  out-by : {a : Verdict} {w : ℕ} → a ≡ checkImage image → w ≡ cond (isAccepted a) (handedOut (stateOf image)) 0
+      → _≡_ {A = Outgoing} (record { number = a .number; index = a .index; word = w }) (outgoingCall image)
   unfolding outgoingCall
-  out-by {v} {w} h g =
+  out-by {a} {w} h g =
       ap₂ (λ (x : Verdict) (y : ℕ). record { number = x .number; index = x .index; word = y }) h
       (g ∙ ap (λ (x : Verdict). cond (isAccepted x) (handedOut (stateOf image)) 0) h)
 
-  pub outgoing-refused : (o .number ≡ 0 → ⊥) → _≡_ {A = Outgoing} (record { number = o .number; index = o .index; word = 0 }) (outgoingCall image)
-  outgoing-refused f = out-by {v = verdictIn o} (loaded-verdict image e) (sym (cond-false _ _ (ne-eqb (o .number) 0 f)))
+  pub outgoing-refused : (v .number ≡ 0 → ⊥) → _≡_ {A = Outgoing} (record { number = v .number; index = v .index; word = 0 }) (outgoingCall image)
+  outgoing-refused f = out-by {a = v} e (sym (cond-false _ _ (ne-eqb (v .number) 0 f)))
 
-  pub outgoing-made : {w : ℕ} → o .number ≡ 0 → w ≡ handedOut (o .state)
+  pub outgoing-made : {w : ℕ} → v .number ≡ 0 → w ≡ handedOut (stateOf image)
       → _≡_ {A = Outgoing} (record { number = 0; index = 0; word = w }) (outgoingCall image)
-  outgoing-made z h =
-      let v : accepted ≡ checkImage image = sym (image-zero image (ap (λ (x : Verdict). x .number) (sym (loaded-verdict image e)) ∙ z)) in
-      out-by {v = accepted} v (h ∙ ap handedOut (loaded-state image e z))
+  outgoing-made z h = out-by {a = accepted} (sym (image-zero image (ap (λ (x : Verdict). x .number) (sym e) ∙ z))) h
 
 -- ---- the setup that was read
 
@@ -238,3 +263,23 @@ module _ (image : List ℕ) {n : ℕ} (size : n ≡ sizeIn (wordAt image 0)) whe
 
 pub read-valid : (image : List ℕ) {k : State} → k ≡ stateOf image → checkImage image .number ≡ 0 → Valid k
 read-valid image h z = subst Valid (sym h) (load-valid image z)
+
+-- ---- saving copies the bytes
+
+-- an accepted image and an output of its length
+module _ (image out : List ℕ) (z : checkImage image .number ≡ 0) where
+  same-room : (length out ≡ length image) → roomFor (stateOf image) out ≡ true
+  unfolding roomFor stateOf setupOf
+  same-room l = eq-eqb (length out) _ (l ∙ image-pass image z .size)
+
+  pub copy-no-room : (length out ≡ length image → ⊥) → roomFor (stateOf image) out ≡ false
+  unfolding roomFor stateOf setupOf
+  copy-no-room f = ne-eqb (length out) _ (λ l. f (l ∙ sym (image-pass image z .size)))
+
+  pub copy-wrote : {v : Verdict} {r : Answer} {b : List ℕ} → v ≡ checkImage image → r ≡ answer 0 0 0 → ((i : ℕ) → getD image i 0 < 256)
+      → length out ≡ length image → b ≡ take (length image) image ++ drop (length image) out → called r b ≡ saveCall image out
+  copy-wrote {v} {r} {b} e q small l w =
+      let c : b ≡ image =
+      w ∙ ap₂ (λ (x y : List ℕ). x ++ y) (take-length image) (ap (λ (k : ℕ). drop k out) (sym l) ∙ drop-length out) ∙ append-nil image
+      in
+      save-wrote image out e q (ap (λ (x : Verdict). x .number) e ∙ z) (same-room l) (c ∙ sym (written-read image z small))

@@ -7,9 +7,11 @@ use crate::load::load;
 use crate::save::save_words;
 use setup::check::check_head;
 use setup::check::size_at;
+use words::bits::bit_at;
+use words::word::field;
+use words::word::word_at;
 ghost use mathlib.Core.Path.{_≡_};
-ghost use Rattle.presence.specs.Valid.{Valid};
-ghost use Rattle.presence.specs.Image.{checkImage};
+ghost use Rattle.presence.specs.Image.{stateOf, checkImage};
 ghost use Rattle.presence.specs.Calls.{answer, called, checkCall, openCall, stepCall, saveCall, handedOut, outgoingCall};
 
 // An answer without health.
@@ -64,7 +66,12 @@ pub fn refuse_image(image: &[u8]) -> Answer
 
 // One step, from image to image: 1 to 8, 9 for the read or the output, 10, 11.
 #[no_mangle]
-pub extern "C" fn presence_step(image: &[u8], read: &[u8], controller: u32, out: &mut [u8]) -> Answer
+pub extern "C" fn presence_step(
+    image: &[u8],
+    read: &[u8],
+    controller: u32,
+    out: &mut [u8],
+) -> Answer
     ensures { λ r. ⌜ called r (now (out .exit)) ≡ stepCall (now (image .entry)) (now (read .entry)) controller (now (out .entry)) ⌝ }
 {
     let head = check_head(image);
@@ -96,31 +103,33 @@ pub extern "C" fn presence_step(image: &[u8], read: &[u8], controller: u32, out:
     }
 }
 
-// Reads an image and writes it again: 1 to 8, 9.
+// Tests an image and writes it again, in its one form: 1 to 8, 9.
 #[no_mangle]
 pub extern "C" fn presence_save(image: &[u8], out: &mut [u8]) -> Answer
     ensures { λ r. ⌜ called r (now (out .exit)) ≡ saveCall (now (image .entry)) (now (out .entry)) ⌝ }
 {
-    let loaded = State::load(image);
-    if loaded.number != 0 {
-        return refuse(loaded.number, loaded.index);
+    let v = check_image(image);
+    if v.number != 0 {
+        return refuse(v.number, v.index);
     }
-    let state = loaded.state;
-    if out.len() != (4 * state.setup.n + 6) * 4 {
+    if out.len() != image.len() {
         return refuse(9, 0);
     }
-    save_words(state, out);
+    bytes::copy(image, out);
     refuse(0, 0)
 }
 
-impl State {
-    // The word handed out by the step or opening that left this state.
-    pub fn handed_out(self) -> u32
-        requires { ⌜ Valid self ⌝ }
-        ensures { λ r. ⌜ r ≡ handedOut self ⌝ }
-    {
-        rules::judge::outgoing(self.marked(), self.earlier, self.latest)
-    }
+// The word handed out by the step or opening that wrote this image.
+pub fn word_in(image: &[u8]) -> u32
+    requires { ⌜ checkImage (now image) .number ≡ 0 ⌝ }
+    ensures { λ r. ⌜ r ≡ handedOut (stateOf (now (image .entry))) ⌝ }
+{
+    let n = size_at(image);
+    let own = field(word_at(image, n + 3), 16, 5) as usize;
+    let mark = bit_at(word_at(image, own + 2), 22);
+    let latest = word_at(image, 2 * n + 4) % 268435456;
+    let earlier = word_at(image, 2 * n + 5) % 268435456;
+    rules::judge::outgoing(mark, earlier, latest)
 }
 
 // The word to put on the bus, from an image: 1 to 8.
@@ -128,18 +137,17 @@ impl State {
 pub extern "C" fn presence_outgoing(image: &[u8]) -> Outgoing
     ensures { λ r. ⌜ r ≡ outgoingCall (now (image .entry)) ⌝ }
 {
-    let loaded = State::load(image);
-    if loaded.number != 0 {
+    let v = check_image(image);
+    if v.number != 0 {
         return Outgoing {
-            number: loaded.number,
-            index: loaded.index,
+            number: v.number,
+            index: v.index,
             word: 0,
         };
     }
-    let state = loaded.state;
     Outgoing {
         number: 0,
         index: 0,
-        word: state.handed_out(),
+        word: word_in(image),
     }
 }

@@ -51,12 +51,6 @@ bytes-join k (suc n) f =
     ∙ ap (λ (x : List ℕ). x ++ wordBytes (f (k + n))) (bytes-join k n f)
     ∙ append-assoc (bytesOf k f) (bytesOf n (λ j. f (k + j))) (wordBytes (f (k + n)))
 
-pub bytes-ext : (n : ℕ) (f g : ℕ → ℕ) → ((i : ℕ) → i < n → f i ≡ g i) → bytesOf n f ≡ bytesOf n g
-unfolding bytesOf
-bytes-ext zero f g h = refl
-bytes-ext (suc n) f g h =
-    ap₂ (λ (x : List ℕ) (w : ℕ). x ++ wordBytes w) (bytes-ext n f g (λ i l. h i (omega arith))) (h n (omega arith))
-
 -- the first word of some, and those after the first k
 pub word-first : (w : ℕ) (q : List ℕ) → wordAt (wordBytes w ++ q) 0 ≡ w
 unfolding wordAt

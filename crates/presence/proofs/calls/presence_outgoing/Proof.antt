@@ -1,29 +1,28 @@
--- An image that passes is read, and its word made.
+-- An accepted image tells its word; another is refused by its number.
 use borrow.Author.Needs.{needs}
-use mathlib.Core.Path.{_≡_, ap, ap₂, _∙_, sym}
-use Prim.Native.Nat.{ℕ}
-use Rattle.presence.specs.Calls.{handedOut, outgoingCall}
-use Rattle.presence.proofs.CallLaws.{loaded-valid, outgoing-refused, outgoing-made}
+use mathlib.Core.Path.{ap, _∙_, sym}
+use Rattle.setup.specs.declared.Verdict.{Verdict}
+use Rattle.presence.proofs.CallLaws.{outgoing-refused, outgoing-made}
 use Rattle.presence.proofs.calls.presence_outgoing.Statement.{statement}
 use Rattle.presence.proofs.calls.presence_outgoing.Tie as tie
 
-load-requires : tie.Need-load-requires
-load-requires c κs = search needs
+check-image-requires : tie.Need-check-image-requires
+check-image-requires c κs = search needs
 
 returns : tie.Need-returns
-returns c = outgoing-refused _ (c .before .before .load .ensures) (c .if1 .taken)
+returns c = outgoing-refused _ (c .before .before .check-image .ensures) (c .if1 .taken)
 
-handed-out-requires : tie.Need-handed-out-requires
-handed-out-requires c κs = loaded-valid _ (c .before .before .before .load .ensures) (c .before .if1 .left)
+word-in-requires : tie.Need-word-in-requires
+word-in-requires c κs = ap (λ (v : Verdict). v .number) (sym (c .before .before .check-image .ensures)) ∙ c .if1 .left
 
 returns-2 : tie.Need-returns-2
-returns-2 c = outgoing-made _ (c .before .before .before .before .load .ensures) (c .before .before .if1 .left) (c .handed-out .ensures)
+returns-2 c = outgoing-made _ (c .before .before .before .check-image .ensures) (c .before .if1 .left) (c .word-in .ensures)
 
 pub presence-outgoing-spec : {M : Type 1} → statement M
 presence-outgoing-spec =
     tie.close
     (tie.spec
-    load-requires
+    check-image-requires
     returns
-    handed-out-requires
+    word-in-requires
     returns-2)
