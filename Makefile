@@ -27,6 +27,7 @@ rust: library
 harness: rust
 	cd harness && CARGO_TARGET_DIR=../target/harness cargo test --release --offline --quiet
 	cd harness && ../$(RUST)/vectors
+	for f in harness/data/calls.txt harness/data/own-calls.txt; do $(RUST)/vectors --print $$f | diff - $$f || exit 1; done
 	$(RUST)/differential 36500 $(SEED)
 	$(C) c-all
 

@@ -5,12 +5,12 @@
 #
 # PRESENCE_LIB   folder of libpresence.a
 # PRESENCE_LIBS  further linker arguments that the archive needs, if any
-# CALLS          file of calls
+# CALLS          files of calls
 # C_BUILD        folder for what is built here
 
 PRESENCE_LIB ?= target/staticlib
 PRESENCE_LIBS ?=
-CALLS ?= harness/data/calls.txt
+CALLS ?= harness/data/calls.txt harness/data/own-calls.txt
 C_BUILD ?= target/c
 
 C_FLAGS = -std=c99 -Wall -Wextra -Werror -Iinclude

@@ -1,7 +1,8 @@
 /*
  * check.c - tests the functions of presence.h.
  *
- *   check [CALLS]      CALLS is a file of calls, default harness/data/calls.txt
+ *   check [CALLS ...]  files of calls, default harness/data/calls.txt and
+ *                      harness/data/own-calls.txt
  *
  * Each call is made with every block in memory of exactly its length, at
  * changing addresses (all of 0..7 modulo 8).  After each call the inputs and
@@ -1454,7 +1455,12 @@ int main(int argc, char **argv)
     group_lives();
     group_nothing_kept();
     group_addresses();
-    group_calls_file(argc > 1 ? argv[1] : "harness/data/calls.txt");
+    if (argc == 1) {
+        group_calls_file("harness/data/calls.txt");
+        group_calls_file("harness/data/own-calls.txt");
+    }
+    for (int i = 1; i < argc; i++)
+        group_calls_file(argv[i]);
     printf("%-28s %8lu calls %6lu differences\n", "total", all_calls,
            all_differences);
     printf("answers");

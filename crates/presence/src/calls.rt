@@ -120,7 +120,7 @@ pub extern "C" fn presence_save(image: &[u8], out: &mut [u8]) -> Answer
 }
 
 // The word handed out by the step or opening that wrote this image.
-pub fn word_in(image: &[u8]) -> u32
+fn word_in(image: &[u8]) -> u32
     requires { ⌜ checkImage (now image) .number ≡ 0 ⌝ }
     ensures { λ r. ⌜ r ≡ handedOut (stateOf (now (image .entry))) ⌝ }
 {

@@ -24,7 +24,7 @@ ghost use Rattle.setup.specs.Setup.{limitIn, criticalityIn};
 ghost use Rattle.presence.specs.Image.{counterIn, imageLength, rowOk, syndromeOk, penaltyOk, rewardOk, checkTail, checkImage};
 
 // The first module whose row word is wrong, or 0.
-pub fn wrong_row(s: &[u8], n: usize) -> usize
+fn wrong_row(s: &[u8], n: usize) -> usize
     requires { ⌜ (n ≤ 16) × (length (now s) ≡ imageLength n) ⌝ }
     ensures { λ r. ⌜ r ≡ lowest n (λ j. not (rowOk n j (wordAt (now (s .entry)) (n + 4 + j)))) ⌝ }
 {
@@ -41,7 +41,7 @@ pub fn wrong_row(s: &[u8], n: usize) -> usize
 }
 
 // The first module whose penalty word is wrong, or 0.
-pub fn wrong_penalty(s: &[u8], n: usize, p: u32, view: u32) -> usize
+fn wrong_penalty(s: &[u8], n: usize, p: u32, view: u32) -> usize
     requires { ⌜ (n ≤ 16) × (length (now s) ≡ imageLength n) × (p < 2 ^ 28) ⌝ }
     ensures { λ r. ⌜ r
         ≡ lowest n (λ j. not (penaltyOk p (criticalityIn (wordAt (now (s .entry)) (3 + j))) (bit view j) j
@@ -67,7 +67,7 @@ pub fn wrong_penalty(s: &[u8], n: usize, p: u32, view: u32) -> usize
 }
 
 // The first module whose reward word is wrong, or 0.
-pub fn wrong_reward(s: &[u8], n: usize, limit: u32) -> usize
+fn wrong_reward(s: &[u8], n: usize, limit: u32) -> usize
     requires { ⌜ (n ≤ 16) × (length (now s) ≡ imageLength n) ⌝ }
     ensures { λ r. ⌜ r
         ≡ lowest n (λ j. not (rewardOk limit (counterIn (wordAt (now (s .entry)) (2 * n + 6 + j))) j
@@ -87,7 +87,7 @@ pub fn wrong_reward(s: &[u8], n: usize, limit: u32) -> usize
 }
 
 // Number 8 in the penalties and the rewards.
-pub fn check_counters(s: &[u8], n: usize, view: u32) -> Verdict
+fn check_counters(s: &[u8], n: usize, view: u32) -> Verdict
     requires { ⌜ (n ≤ 16) × (length (now s) ≡ imageLength n) ⌝ }
     ensures { λ r. ⌜ r
         ≡ checkEach n
@@ -109,7 +109,7 @@ pub fn check_counters(s: &[u8], n: usize, view: u32) -> Verdict
 }
 
 // Number 8 in the syndromes and what follows them.
-pub fn check_late(s: &[u8], n: usize, view: u32) -> Verdict
+fn check_late(s: &[u8], n: usize, view: u32) -> Verdict
     requires { ⌜ (n ≤ 16) × (length (now s) ≡ imageLength n) ⌝ }
     ensures { λ r. ⌜ r
         ≡ check (syndromeOk n (wordAt (now (s .entry)) (2 * n + 4))) 8 (2 * n + 4)
@@ -131,7 +131,7 @@ pub fn check_late(s: &[u8], n: usize, view: u32) -> Verdict
 }
 
 // Numbers 7 and 8.
-pub fn check_tail(s: &[u8], n: usize) -> Verdict
+fn check_tail(s: &[u8], n: usize) -> Verdict
     requires { ⌜ (n ≤ 16) × (length (now s) ≡ imageLength n) ⌝ }
     ensures { λ r. ⌜ r ≡ checkTail (now (s .entry)) n ⌝ }
 {

@@ -59,7 +59,7 @@ pub struct Loaded {
 }
 
 // The setup, and whether its words after the head are right.
-pub fn load_setup(s: &[u8], n: usize) -> SetupPart
+fn load_setup(s: &[u8], n: usize) -> SetupPart
     requires { ⌜ (n ≤ 16) × (length (now s) ≡ imageLength n) × (n ≡ sizeIn (wordAt (now s) 0)) ⌝ }
     ensures { λ r. ⌜ (r .good
         ≡ (limitOk 2 1000000 (wordAt (now (s .entry)) 1) && limitOk 3 8000000 (wordAt (now (s .entry)) 2))
@@ -94,7 +94,7 @@ pub fn load_setup(s: &[u8], n: usize) -> SetupPart
 }
 
 // The previous read, and whether its words are right.
-pub fn load_rows(s: &[u8], n: usize) -> RowsPart
+fn load_rows(s: &[u8], n: usize) -> RowsPart
     requires { ⌜ (n ≤ 16) × (length (now s) ≡ imageLength n) ⌝ }
     ensures { λ r. ⌜ (r .good ≡ all n (λ j. rowOk n j (wordAt (now (s .entry)) (n + 4 + j))))
         × (r .previous .heard ≡ pack n (λ j. heardIn (wordAt (now (s .entry)) (n + 4 + j))))
@@ -117,7 +117,7 @@ pub fn load_rows(s: &[u8], n: usize) -> RowsPart
 }
 
 // The counters with this view, and whether their words are right.
-pub fn load_counters(
+fn load_counters(
     s: &[u8],
     n: usize,
     p: u32,
@@ -159,7 +159,7 @@ pub fn load_counters(
 }
 
 // Whether the words of the own number and the syndromes are right.
-pub fn single_ok(n: usize, own: u32, latest: u32, earlier: u32) -> bool
+fn single_ok(n: usize, own: u32, latest: u32, earlier: u32) -> bool
     requires { ⌜ n ≤ 16 ⌝ }
     ensures { λ r. ⌜ r ≡ (ownNumberOk n own && ownOk n own) && (syndromeOk n latest && syndromeOk n earlier) ⌝ }
 {

@@ -19,7 +19,7 @@ ghost use Rattle.presence.specs.Valid.{Valid};
 ghost use Rattle.presence.specs.Image.{ownWord, rowWord, syndromeWord, counterWord, imageLength, imageOf, saveVerdict, savedOut};
 
 // Writes one word.
-pub fn save_word(w: u32, out: &mut [u8])
+fn save_word(w: u32, out: &mut [u8])
     requires { ⌜ length (now out) ≡ 4 ⌝ }
     ensures { λ _. ⌜ now (out .exit) ≡ wordBytes w ⌝ }
 {
@@ -27,7 +27,7 @@ pub fn save_word(w: u32, out: &mut [u8])
 }
 
 // Writes the rows of the previous read.
-pub fn save_rows(n: usize, heard: u32, rows: [u32; 16], out: &mut [u8])
+fn save_rows(n: usize, heard: u32, rows: [u32; 16], out: &mut [u8])
     requires { ⌜ (n ≤ 16) × ((j : ℕ) → j < n → getD rows j 0 < 2 ^ 16) × (length (now out) ≡ n * 4) ⌝ }
     ensures { λ _. ⌜ now (out .exit) ≡ bytesOf n (λ j. rowWord j (bit heard j) (getD rows j 0)) ⌝ }
 {
@@ -38,7 +38,7 @@ pub fn save_rows(n: usize, heard: u32, rows: [u32; 16], out: &mut [u8])
 }
 
 // Writes one counter of every module.
-pub fn save_counter(kind: u32, n: usize, values: [u32; 16], out: &mut [u8])
+fn save_counter(kind: u32, n: usize, values: [u32; 16], out: &mut [u8])
     requires { ⌜ (kind ≤ 14) × (n ≤ 16) × ((j : ℕ) → j < n → getD values j 0 < 2 ^ 23) × (length (now out) ≡ n * 4) ⌝ }
     ensures { λ _. ⌜ now (out .exit) ≡ bytesOf n (λ j. counterWord kind j (getD values j 0)) ⌝ }
 {
@@ -49,7 +49,7 @@ pub fn save_counter(kind: u32, n: usize, values: [u32; 16], out: &mut [u8])
 }
 
 // Writes the penalties and the rewards.
-pub fn save_counters(state: State, out: &mut [u8])
+fn save_counters(state: State, out: &mut [u8])
     requires { ⌜ Valid state × (length (now out) ≡ state .setup .n * 8) ⌝ }
     ensures { λ _. ⌜ now (out .exit)
         ≡ bytesOf (state .setup .n) (λ j. counterWord 13 j (getD (state .counters .penalty) j 0))
@@ -65,7 +65,7 @@ pub fn save_counters(state: State, out: &mut [u8])
 }
 
 // Writes the syndrome before the latest, and what follows it.
-pub fn save_earlier(state: State, out: &mut [u8])
+fn save_earlier(state: State, out: &mut [u8])
     requires { ⌜ Valid state × (length (now out) ≡ 4 + state .setup .n * 8) ⌝ }
     ensures { λ _. ⌜ now (out .exit)
         ≡ wordBytes (syndromeWord (state .earlier))
@@ -79,7 +79,7 @@ pub fn save_earlier(state: State, out: &mut [u8])
 }
 
 // Writes the latest syndrome, and what follows it.
-pub fn save_latest(state: State, out: &mut [u8])
+fn save_latest(state: State, out: &mut [u8])
     requires { ⌜ Valid state × (length (now out) ≡ 8 + state .setup .n * 8) ⌝ }
     ensures { λ _. ⌜ now (out .exit)
         ≡ wordBytes (syndromeWord (state .latest)) ++ (wordBytes (syndromeWord (state .earlier))
@@ -93,7 +93,7 @@ pub fn save_latest(state: State, out: &mut [u8])
 }
 
 // Writes the rows, and what follows them.
-pub fn save_previous(state: State, out: &mut [u8])
+fn save_previous(state: State, out: &mut [u8])
     requires { ⌜ Valid state × (length (now out) ≡ 8 + state .setup .n * 12) ⌝ }
     ensures { λ _. ⌜ now (out .exit)
         ≡ bytesOf (state .setup .n) (λ j. rowWord j (bit (state .previous .heard) j) (getD (state .previous .rows) j 0))
@@ -110,7 +110,7 @@ pub fn save_previous(state: State, out: &mut [u8])
 }
 
 // Writes the own number and the view, and what follows them.
-pub fn save_own(state: State, out: &mut [u8])
+fn save_own(state: State, out: &mut [u8])
     requires { ⌜ Valid state × (length (now out) ≡ 12 + state .setup .n * 12) ⌝ }
     ensures { λ _. ⌜ now (out .exit)
         ≡ wordBytes (ownWord (state .own) (state .counters .view))

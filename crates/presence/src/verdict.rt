@@ -20,7 +20,7 @@ ghost use Rattle.setup.specs.Check.{setupVerdict};
 ghost use Rattle.presence.specs.Valid.{rowFits, penaltyFits, rewardFits, stateTidy, checkState, stateVerdict};
 
 // The first module whose row does not fit, or 0.
-pub fn wrong_rows(n: usize, heard: u32, rows: [u32; 16]) -> usize
+fn wrong_rows(n: usize, heard: u32, rows: [u32; 16]) -> usize
     requires { ⌜ n ≤ 16 ⌝ }
     ensures { λ r. ⌜ r ≡ lowest n (λ j. not (rowFits n (bit heard j) (getD rows j 0))) ⌝ }
 {
@@ -37,13 +37,7 @@ pub fn wrong_rows(n: usize, heard: u32, rows: [u32; 16]) -> usize
 }
 
 // The first module whose penalty does not fit, or 0.
-pub fn wrong_penalties(
-    n: usize,
-    p: u32,
-    criticality: [u32; 16],
-    view: u32,
-    penalty: [u32; 16],
-) -> usize
+fn wrong_penalties(n: usize, p: u32, criticality: [u32; 16], view: u32, penalty: [u32; 16]) -> usize
     requires { ⌜ (n ≤ 16) × (p < 2 ^ 28) × ((j : ℕ) → j < n → getD criticality j 0 < 2 ^ 17) ⌝ }
     ensures { λ r. ⌜ r ≡ lowest n (λ j. not (penaltyFits p (getD criticality j 0) (bit view j) (getD penalty j 0))) ⌝ }
 {
@@ -60,7 +54,7 @@ pub fn wrong_penalties(
 }
 
 // The first module whose reward does not fit, or 0.
-pub fn wrong_rewards(n: usize, limit: u32, penalty: [u32; 16], reward: [u32; 16]) -> usize
+fn wrong_rewards(n: usize, limit: u32, penalty: [u32; 16], reward: [u32; 16]) -> usize
     requires { ⌜ n ≤ 16 ⌝ }
     ensures { λ r. ⌜ r ≡ lowest n (λ j. not (rewardFits limit (getD penalty j 0) (getD reward j 0))) ⌝ }
 {
@@ -77,7 +71,7 @@ pub fn wrong_rewards(n: usize, limit: u32, penalty: [u32; 16], reward: [u32; 16]
 }
 
 // Whether nothing stands in the entries from n on.
-pub fn tidy(state: State) -> bool
+fn tidy(state: State) -> bool
     requires { ⌜ state .setup .n ≤ 16 ⌝ }
     ensures { λ r. ⌜ r ≡ stateTidy state ⌝ }
 {
@@ -91,7 +85,7 @@ pub fn tidy(state: State) -> bool
 }
 
 // Number 8 in the counters, then in the entries from n on.
-pub fn counters_verdict(state: State) -> Verdict
+fn counters_verdict(state: State) -> Verdict
     requires { ⌜ (state .setup .n ≤ 16) × (setupVerdict (state .setup) .number ≡ 0) ⌝ }
     ensures { λ r. ⌜ r
         ≡ checkEach (state .setup .n)
@@ -122,7 +116,7 @@ pub fn counters_verdict(state: State) -> Verdict
 }
 
 // Number 8 in the rows and what follows them.
-pub fn rows_verdict(state: State) -> Verdict
+fn rows_verdict(state: State) -> Verdict
     requires { ⌜ (state .setup .n ≤ 16) × (setupVerdict (state .setup) .number ≡ 0) ⌝ }
     ensures { λ r. ⌜ r
         ≡ checkEach (state .setup .n)
@@ -153,7 +147,7 @@ pub fn rows_verdict(state: State) -> Verdict
 }
 
 // Numbers 7 and 8.
-pub fn state_verdict(state: State) -> Verdict
+fn state_verdict(state: State) -> Verdict
     requires { ⌜ (state .setup .n ≤ 16) × (setupVerdict (state .setup) .number ≡ 0) ⌝ }
     ensures { λ r. ⌜ r ≡ checkState state ⌝ }
 {

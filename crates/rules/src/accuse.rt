@@ -10,7 +10,7 @@ ghost use Rattle.words.specs.Count.{any, lowest};
 ghost use Rattle.rules.specs.Accusation.{differsAt, accusationOf, accusationsOf};
 
 // Whether the row of j differs from the health vector at h, which is not j.
-pub fn differs(row: u32, health: u32, j: usize, h: usize) -> bool
+fn differs(row: u32, health: u32, j: usize, h: usize) -> bool
     requires { ⌜ h < 32 ⌝ }
     ensures { λ r. ⌜ r ≡ differsAt row health j h ⌝ }
 {
@@ -18,7 +18,7 @@ pub fn differs(row: u32, health: u32, j: usize, h: usize) -> bool
 }
 
 // The lowest module number at which the row of j differs from the health vector, or 0 for none.
-pub fn accusation(n: usize, row: u32, health: u32, j: usize) -> usize
+fn accusation(n: usize, row: u32, health: u32, j: usize) -> usize
     requires { ⌜ n ≤ 32 ⌝ }
     ensures { λ r. ⌜ r ≡ lowest n (differsAt row health j) ⌝ }
 {
@@ -44,7 +44,7 @@ pub fn clean(n: usize, voters: u32, row: u32, health: u32, j: usize) -> bool
 }
 
 // One module. Nothing is searched where the row is clean.
-pub fn accused(n: usize, voters: u32, row: u32, health: u32, j: usize) -> u32
+fn accused(n: usize, voters: u32, row: u32, health: u32, j: usize) -> u32
     requires { ⌜ (n < 32) × (j < 32) ⌝ }
     ensures { λ r. ⌜ r ≡ accusationOf n voters row health j ⌝ }
 {

@@ -12,7 +12,7 @@ ghost use Rattle.words.specs.Array.{array};
 ghost use Rattle.rules.specs.Alignment.{alignedOf};
 
 // Who is heard: the low `split` bits by the previous read, the others by this one.
-pub fn aligned_heard(n: usize, split: u32, previous: u32, this: u32) -> u32
+fn aligned_heard(n: usize, split: u32, previous: u32, this: u32) -> u32
     requires { ⌜ (n ≤ 16) × (split < 31) ⌝ }
     ensures { λ r. ⌜ r ≡ pack n (λ j. cond (ltb j split) (bit previous j) (bit this j)) ⌝ }
 {
@@ -22,7 +22,7 @@ pub fn aligned_heard(n: usize, split: u32, previous: u32, this: u32) -> u32
 }
 
 // The rows, from the same reads.
-pub fn aligned_rows(n: usize, split: u32, previous: [u32; 16], this: [u32; 16]) -> [u32; 16]
+fn aligned_rows(n: usize, split: u32, previous: [u32; 16], this: [u32; 16]) -> [u32; 16]
     requires { ⌜ n ≤ 16 ⌝ }
     ensures { λ r. ⌜ r ≡ array n (λ j. cond (ltb j split) (getD previous j 0) (getD this j 0)) ⌝ }
 {

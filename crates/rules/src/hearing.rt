@@ -28,7 +28,7 @@ pub fn word_heard(n: usize, w: u32) -> bool
 }
 
 // One module: its controller bit is `on`, its word is w.
-pub fn entry(n: usize, on: bool, w: u32) -> Entry
+fn entry(n: usize, on: bool, w: u32) -> Entry
     requires { ⌜ n < 32 ⌝ }
     ensures { λ r. ⌜ r ≡ entryOf n on w ⌝ }
 {

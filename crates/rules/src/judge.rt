@@ -14,7 +14,7 @@ ghost use Rattle.rules.specs.Accusation.{accusationsOf};
 ghost use Rattle.rules.specs.Syndrome.{syndromeOf, votersOf, judgementOf, outgoingOf};
 
 // Rule 6, from the comparison of rows and health vector and not from the accusations, which a caller may leave unused.
-pub fn syndrome(n: usize, aligned: Reading, health: u32) -> u32
+fn syndrome(n: usize, aligned: Reading, health: u32) -> u32
     requires { ⌜ n ≤ 16 ⌝ }
     ensures { λ r. ⌜ r ≡ syndromeOf n (aligned .heard) (accusationsOf n (votersOf aligned) (aligned .rows) health) ⌝ }
 {

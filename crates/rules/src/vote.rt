@@ -17,7 +17,7 @@ pub struct Tally {
 }
 
 // The decision on counted votes.
-pub fn decide(votes: u32, ones: u32, own: bool) -> bool
+fn decide(votes: u32, ones: u32, own: bool) -> bool
     requires { ⌜ ones ≤ votes ⌝ }
     ensures { λ r. ⌜ r ≡ decision votes ones own ⌝ }
 {
@@ -28,7 +28,7 @@ pub fn decide(votes: u32, ones: u32, own: bool) -> bool
 }
 
 // The votes of module l as bits: none where its row is missing, and none on itself.
-pub fn ballot(voters: u32, row: u32, l: usize) -> u32
+fn ballot(voters: u32, row: u32, l: usize) -> u32
     requires { ⌜ l < 32 ⌝ }
     ensures { λ r. ⌜ r ≡ ballotOf voters row l ⌝ }
 {
@@ -36,7 +36,7 @@ pub fn ballot(voters: u32, row: u32, l: usize) -> u32
 }
 
 // Every fourth bit from bit k on, each as the lowest of four bits.
-pub fn lane(row: u32, k: u32) -> u32
+fn lane(row: u32, k: u32) -> u32
     requires { ⌜ k < 4 ⌝ }
     ensures { λ r. ⌜ (r ≡ laneOf k (λ j. b2n (bit row j))) × (r ≤ 4369) ⌝ }
 {
@@ -44,7 +44,7 @@ pub fn lane(row: u32, k: u32) -> u32
 }
 
 // Counts the votes on all modules.
-pub fn counted(n: usize, voters: u32, rows: [u32; 16]) -> Tally
+fn counted(n: usize, voters: u32, rows: [u32; 16]) -> Tally
     requires { ⌜ n ≤ 16 ⌝ }
     ensures { λ r. ⌜ r ≡ tallyOf n voters rows ⌝ }
 {
@@ -68,7 +68,7 @@ pub fn counted(n: usize, voters: u32, rows: [u32; 16]) -> Tally
 }
 
 // The count of module j in its lane.
-pub fn column(lane: u32, j: usize) -> u32
+fn column(lane: u32, j: usize) -> u32
     requires { ⌜ j < 16 ⌝ }
     ensures { λ r. ⌜ r ≡ columnIn lane j ⌝ }
 {
@@ -76,7 +76,7 @@ pub fn column(lane: u32, j: usize) -> u32
 }
 
 // The vote on module j by the rows present and the ones among them. The row of j is not counted.
-pub fn vote_on(present: u32, ones: u32, voters: u32, own: u32, j: usize) -> bool
+fn vote_on(present: u32, ones: u32, voters: u32, own: u32, j: usize) -> bool
     requires { ⌜ (j < 32) × (ones ≤ votesBut present voters j) × (b2n (bit voters j) ≤ present) ⌝ }
     ensures { λ r. ⌜ r ≡ decision (votesBut present voters j) ones (bit own j) ⌝ }
 {

@@ -31,7 +31,7 @@ pub fn size_at(s: &[u8]) -> usize
 }
 
 // The first module whose word is wrong or out of turn, or 0.
-pub fn wrong_module(s: &[u8], n: usize) -> usize
+fn wrong_module(s: &[u8], n: usize) -> usize
     requires { ⌜ (n ≤ 16) × (setupLength n ≤ length (now s)) ⌝ }
     ensures { λ r. ⌜ r ≡ lowest n (λ j. not (moduleOk n j (wordAt (now (s .entry)) (3 + j)))) ⌝ }
 {
@@ -48,7 +48,7 @@ pub fn wrong_module(s: &[u8], n: usize) -> usize
 }
 
 // The first module with a send mark that it may not have, or 0.
-pub fn wrong_mark(s: &[u8], n: usize) -> usize
+fn wrong_mark(s: &[u8], n: usize) -> usize
     requires { ⌜ (n ≤ 16) × (setupLength n ≤ length (now s)) ⌝ }
     ensures { λ r. ⌜ r ≡ lowest n (λ j. not (markOk j (wordAt (now (s .entry)) (3 + j)))) ⌝ }
 {
@@ -65,7 +65,7 @@ pub fn wrong_mark(s: &[u8], n: usize) -> usize
 }
 
 // Numbers 5 and 6.
-pub fn check_modules(s: &[u8], n: usize) -> Verdict
+fn check_modules(s: &[u8], n: usize) -> Verdict
     requires { ⌜ (n ≤ 16) × (setupLength n ≤ length (now s)) ⌝ }
     ensures { λ r. ⌜ r
         ≡ checkEach n (λ j. moduleOk n j (wordAt (now (s .entry)) (3 + j))) 5 2

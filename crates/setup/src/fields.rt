@@ -17,7 +17,7 @@ ghost use Rattle.setup.specs.Verdict.{accepted, check, checkEach};
 ghost use Rattle.setup.specs.Check.{moduleFits, markFits, setupTidy, setupVerdict};
 
 // The first module with a field out of range, or 0.
-pub fn wrong_fields(n: usize, places: [u32; 16], criticality: [u32; 16]) -> usize
+fn wrong_fields(n: usize, places: [u32; 16], criticality: [u32; 16]) -> usize
     requires { ⌜ n ≤ 16 ⌝ }
     ensures { λ r. ⌜ r ≡ lowest n (λ j. not (moduleFits n (getD places j 0) (getD criticality j 0))) ⌝ }
 {
@@ -34,7 +34,7 @@ pub fn wrong_fields(n: usize, places: [u32; 16], criticality: [u32; 16]) -> usiz
 }
 
 // The first module with a send mark that it may not have, or 0.
-pub fn wrong_marks(n: usize, marks: u32, places: [u32; 16]) -> usize
+fn wrong_marks(n: usize, marks: u32, places: [u32; 16]) -> usize
     requires { ⌜ n ≤ 16 ⌝ }
     ensures { λ r. ⌜ r ≡ lowest n (λ j. not (markFits j (bit marks j) (getD places j 0))) ⌝ }
 {
@@ -51,7 +51,7 @@ pub fn wrong_marks(n: usize, marks: u32, places: [u32; 16]) -> usize
 }
 
 // Whether nothing stands in the entries from n on.
-pub fn tidy(setup: Setup) -> bool
+fn tidy(setup: Setup) -> bool
     requires { ⌜ setup .n ≤ 16 ⌝ }
     ensures { λ r. ⌜ r ≡ setupTidy setup ⌝ }
 {
@@ -61,7 +61,7 @@ pub fn tidy(setup: Setup) -> bool
 }
 
 // Numbers 5 and 6.
-pub fn module_verdict(setup: Setup) -> Verdict
+fn module_verdict(setup: Setup) -> Verdict
     requires { ⌜ setup .n ≤ 16 ⌝ }
     ensures { λ r. ⌜ r
         ≡ checkEach (setup .n) (λ j. moduleFits (setup .n) (getD (setup .places) j 0) (getD (setup .criticality) j 0)) 5 2

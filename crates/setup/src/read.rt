@@ -31,7 +31,7 @@ pub fn blank() -> Setup
 }
 
 // The setup that the head, the limits and n module words hold.
-pub fn setup_in(s: &[u8], n: usize) -> Setup
+fn setup_in(s: &[u8], n: usize) -> Setup
     requires { ⌜ (n ≤ 16) × (setupLength n ≤ length (now s)) × (n ≡ sizeIn (wordAt (now s) 0)) ⌝ }
     ensures { λ r. ⌜ r ≡ setupOf (now (s .entry)) ⌝ }
 {

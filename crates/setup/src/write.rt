@@ -16,7 +16,7 @@ ghost use Rattle.setup.specs.Setup.{headWord, limitWord, moduleWord, set
 ghost use Rattle.setup.specs.Check.{setupVerdict, writeVerdict, writtenSetup};
 
 // The word of module j + 1.
-pub fn module_word(j: usize, mark: bool, place: u32, criticality: u32) -> u32
+fn module_word(j: usize, mark: bool, place: u32, criticality: u32) -> u32
     requires { ⌜ (j < 16) × (place < 2 ^ 5) × (criticality < 2 ^ 17) ⌝ }
     ensures { λ r. ⌜ r ≡ moduleWord j mark place criticality ⌝ }
 {
@@ -24,7 +24,7 @@ pub fn module_word(j: usize, mark: bool, place: u32, criticality: u32) -> u32
 }
 
 // Writes the head and the limits.
-pub fn write_front(n: usize, p: u32, r: u32, out: &mut [u8])
+fn write_front(n: usize, p: u32, r: u32, out: &mut [u8])
     requires { ⌜ (n ≤ 16) × (p < 2 ^ 28) × (r < 2 ^ 28) × (length (now out) ≡ 12) ⌝ }
     ensures { λ _. ⌜ now (out .exit) ≡ wordBytes (headWord n) ++ (wordBytes (limitWord 2 p) ++ wordBytes (limitWord 3 r)) ⌝ }
 {
@@ -34,7 +34,7 @@ pub fn write_front(n: usize, p: u32, r: u32, out: &mut [u8])
 }
 
 // Writes the module words of a setup.
-pub fn write_modules(setup: Setup, out: &mut [u8])
+fn write_modules(setup: Setup, out: &mut [u8])
     requires { ⌜ (setupVerdict setup .number ≡ 0) × (length (now out) ≡ setup .n * 4) ⌝ }
     ensures { λ _. ⌜ now (out .exit)
         ≡ bytesOf (setup .n) (λ j. moduleWord j (bit (setup .marks) j) (getD (setup .places) j 0) (getD (setup .criticality) j 0)) ⌝ }

@@ -6,7 +6,7 @@ ghost use Rattle.words.specs.Word.{wordAt, putWord, field as fieldOf};
 ghost use Rattle.words.specs.Little.{Little, swappedOf, putLittle};
 
 // Byte k of s as a number.
-pub fn byte_at(s: &[u8], k: usize) -> u32
+fn byte_at(s: &[u8], k: usize) -> u32
     requires { ⌜ k < length (now s) ⌝ }
     ensures { λ r. ⌜ (r ≡ getD (now (s .entry)) k 0) × (r < 256) ⌝ }
 {
@@ -14,7 +14,7 @@ pub fn byte_at(s: &[u8], k: usize) -> u32
 }
 
 // The four bytes of word i of s as a number, the first byte the least significant.
-pub fn little_at(s: &[u8], i: usize) -> u32
+fn little_at(s: &[u8], i: usize) -> u32
     requires { ⌜ i * 4 + 4 ≤ length (now s) ⌝ }
     ensures { λ r. ⌜ Little (now (s .entry)) i r ⌝ }
 {
@@ -41,7 +41,7 @@ pub fn word_at(s: &[u8], i: usize) -> u32
 }
 
 // Writes w at word i of s, the least significant byte first.
-pub fn put_little(s: &mut [u8], i: usize, w: u32)
+fn put_little(s: &mut [u8], i: usize, w: u32)
     requires { ⌜ i * 4 + 4 ≤ length (now s) ⌝ }
     ensures { λ _. ⌜ now (s .exit) ≡ putLittle (now (s .entry)) i w ⌝ }
 {
