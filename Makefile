@@ -32,7 +32,7 @@ harness: rust
 	$(C) c-all
 
 soak: rust
-	$(RUST)/differential 3650000 $(SEED)
+	$(RUST)/differential 3700000 $(SEED)
 
 measure: rust
 	$(C) measure
