@@ -15,7 +15,7 @@ ghost use Rattle.presence.specs.Image.{stateOf, checkImage};
 ghost use Rattle.presence.specs.Calls.{answer, called, checkCall, openCall, stepCall, saveCall, handedOut, outgoingCall};
 
 // An answer without health.
-pub fn refuse(number: u32, index: u32) -> Answer
+fn refuse(number: u32, index: u32) -> Answer
     ensures { λ r. ⌜ r ≡ answer number index 0 ⌝ }
 {
     Answer {
@@ -57,7 +57,7 @@ pub extern "C" fn presence_open(bytes: &[u8], own: u32, out: &mut [u8]) -> Answe
 }
 
 // The refusal of an image by its number and index.
-pub fn refuse_image(image: &[u8]) -> Answer
+fn refuse_image(image: &[u8]) -> Answer
     ensures { λ r. ⌜ r ≡ answer (checkImage (now (image .entry)) .number) (checkImage (now (image .entry)) .index) 0 ⌝ }
 {
     let v = check_image(image);

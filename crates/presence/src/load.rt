@@ -197,7 +197,7 @@ pub fn load(s: &[u8], n: usize) -> Loaded
 }
 
 // The answer of the exact check, with no state.
-pub fn not_loaded(image: &[u8]) -> Opened
+fn not_loaded(image: &[u8]) -> Opened
     ensures { λ r. ⌜ (r .number ≡ checkImage (now (image .entry)) .number) × (r .index ≡ checkImage (now (image .entry)) .index)
         × (r .state ≡ blankState) ⌝ }
 {

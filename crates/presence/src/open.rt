@@ -12,7 +12,7 @@ ghost use Rattle.presence.specs.Opening.{fresh, blank, openOf};
 
 impl State {
     // A fresh module: all-ones syndromes and rows, all heard, zero counters, full view.
-    pub fn fresh(setup: Setup, own: usize) -> State
+    fn fresh(setup: Setup, own: usize) -> State
         requires { ⌜ setup .n ≤ 16 ⌝ }
         ensures { λ r. ⌜ r ≡ fresh setup own ⌝ }
     {

@@ -12,7 +12,7 @@ ghost use Rattle.presence.specs.Step.{placeOf, markOf, ownSyndrome, judg
 
 impl State {
     // The module's own read place.
-    pub fn place(self) -> u32
+    fn place(self) -> u32
         requires { ⌜ Valid self ⌝ }
         ensures { λ r. ⌜ r ≡ placeOf self ⌝ }
     {
@@ -22,7 +22,7 @@ impl State {
     }
 
     // Whether the module has the send mark.
-    pub fn marked(self) -> bool
+    fn marked(self) -> bool
         requires { ⌜ Valid self ⌝ }
         ensures { λ r. ⌜ r ≡ markOf self ⌝ }
     {
@@ -32,7 +32,7 @@ impl State {
     }
 
     // Rules 1 and 3 to 6: what the module makes of this read.
-    pub fn judged(self, this: Reading) -> Judgement
+    fn judged(self, this: Reading) -> Judgement
         requires { ⌜ Valid self ⌝ }
         ensures { λ r. ⌜ r ≡ judgementFor self this ⌝ }
     {
@@ -47,7 +47,7 @@ impl State {
     }
 
     // Rule 7: the word handed out.
-    pub fn outgoing(self, this: Reading, j: Judgement) -> u32
+    fn outgoing(self, this: Reading, j: Judgement) -> u32
         requires { ⌜ Valid self ⌝ }
         requires { ⌜ j ≡ judgementFor self this ⌝ }
         ensures { λ r. ⌜ r ≡ outgoingFor self this ⌝ }
@@ -56,7 +56,7 @@ impl State {
     }
 
     // Rule 8, and what the next step needs.
-    pub fn after(self, this: Reading, j: Judgement) -> State
+    fn after(self, this: Reading, j: Judgement) -> State
         requires { ⌜ Valid self ⌝ }
         requires { ⌜ j ≡ judgementFor self this ⌝ }
         ensures { λ r. ⌜ r ≡ afterRound self this ⌝ }
@@ -75,7 +75,7 @@ impl State {
     }
 
     // A refusal leaves the state as it was.
-    pub fn refused(self, number: u32, index: u32) -> Stepped
+    fn refused(self, number: u32, index: u32) -> Stepped
         ensures { λ r. ⌜ r ≡ refusedStep self number index ⌝ }
     {
         Stepped {
@@ -89,7 +89,7 @@ impl State {
     }
 
     // A round, and rule 9: the outgoing word is tested.
-    pub fn tested(self, this: Reading) -> Stepped
+    fn tested(self, this: Reading) -> Stepped
         requires { ⌜ Valid self ⌝ }
         ensures { λ r. ⌜ r ≡ testedStep self this ⌝ }
     {

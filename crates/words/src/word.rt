@@ -26,7 +26,7 @@ fn little_at(s: &[u8], i: usize) -> u32
 }
 
 // The number whose four bytes are those of w in the other order.
-pub fn swapped(w: u32) -> u32
+fn swapped(w: u32) -> u32
     ensures { λ r. ⌜ r ≡ swappedOf w ⌝ }
 {
     w % 256 * 16777216 + w / 256 % 256 * 65536 + w / 65536 % 256 * 256 + w / 16777216
