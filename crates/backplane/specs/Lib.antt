@@ -1,3 +1,5 @@
-pub mod Script
-pub mod Check
-pub mod Cases
+pub mod Bus
+pub mod Limit
+pub mod Heard
+pub mod Play
+pub mod Run

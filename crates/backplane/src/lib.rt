@@ -1,8 +1,50 @@
 // A whole backplane, played round by round from a run script.
+//
+// This file has what is held from round to round. The entry of module i + 1 stands at i, that of receiver i + 1 and sender j + 1 at 16 * i + j.
+pub mod arrivals;
+pub mod half_heard;
+pub mod limit;
+pub mod play;
 
-// How far a run script has been checked: whether the next word is a told word, whether an event waits for a play, and the rounds so far.
-pub struct Scan {
-    pub told: bool,
-    pub pending: bool,
-    pub rounds: u32,
+use presence::State;
+use script::Cursor;
+use setup::Setup;
+
+// A round as it reaches every receiver: its controller bits, and the words.
+pub struct Bus {
+    pub bits: [u32; 16],
+    pub words: [u32; 256],
+}
+
+// How the rule-followers hear the senders of a round: which are half heard, and which are heard by one of them at least.
+pub struct Hearing {
+    pub half: u32,
+    pub heard: u32,
+}
+
+// All modules after a round: their states, the health vectors that they answered, the round's bus, how it was heard and how the round before
+// was, and whether the fault limit was kept in every round so far.
+pub struct Backplane {
+    setup: Setup,
+    cast: u32,
+    round: u32,
+    states: [State; 16],
+    health: [u32; 16],
+    bus: Bus,
+    hearing: Hearing,
+    before: Hearing,
+    kept: bool,
+}
+
+// A run script as it is played: the place of the round, and the backplane after it.
+pub struct Run {
+    cursor: Cursor,
+    backplane: Backplane,
+}
+
+// What starting a run answers.
+pub struct Started {
+    pub number: u32,
+    pub index: u32,
+    pub run: Run,
 }

@@ -10,6 +10,7 @@ pub mod open;
 pub mod save;
 pub mod step;
 pub mod verdict;
+pub mod view;
 
 use rules::Counters;
 use rules::Reading;

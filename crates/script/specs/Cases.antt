@@ -6,7 +6,7 @@ use lib.Dec.{eqb}
 use lib.ListN.{getD, length, replicate}
 use Rattle.words.specs.Word.{bytesOf}
 use Rattle.setup.specs.declared.Verdict.{Verdict}
-use Rattle.backplane.specs.Check.{checkScript}
+use Rattle.script.specs.Check.{checkScript}
 
 pub record Case : Type 0 where
   pub words : List ℕ

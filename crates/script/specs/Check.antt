@@ -11,8 +11,8 @@ use Rattle.setup.specs.Verdict.{accepted, check, between}
 use Rattle.setup.specs.Setup.{sizeIn}
 use Rattle.setup.specs.Check.{checkFront}
 use Rattle.setup.specs.declared.Verdict.{Verdict}
-use Rattle.backplane.specs.Script.{kindOf, castIn, castOk, senderIn, eventOk, roundsIn, playOk}
-use Rattle.backplane.specs.declared.Scan.{Scan}
+use Rattle.script.specs.Words.{kindOf, castIn, castOk, senderIn, eventOk, roundsIn, playOk}
+use Rattle.script.specs.declared.Scan.{Scan}
 
 -- ---- one word after the cast
 

@@ -1,0 +1,50 @@
+-- The parts are put together.
+use native.Mathlib.Omega.{arith}
+use borrow.Author.Needs.{needs}
+use Rattle.backplane.specs.Bus.{arrived}
+use Rattle.backplane.specs.Play.{earlier}
+use Rattle.backplane.proofs.PlayLaws.{play-made}
+use borrow.Author.Needs.{needs}
+use Rattle.backplane.proofs.Backplane.play.Statement.{statement}
+use Rattle.backplane.proofs.Backplane.play.Tie as tie
+
+sent-words-requires : tie.Need-sent-words-requires
+sent-words-requires c κs = search needs
+
+arrived-requires : tie.Need-arrived-requires
+arrived-requires c κs = search needs
+
+step-all-requires : tie.Need-step-all-requires
+step-all-requires c κs = search needs
+
+hearing-requires : tie.Need-hearing-requires
+hearing-requires c κs = search needs
+
+earlier-requires : tie.Need-earlier-requires
+earlier-requires c κs = search needs
+
+kept-over-requires : tie.Need-kept-over-requires
+kept-over-requires c κs = search needs
+
+add-t17 : tie.Need-add-t17
+add-t17 c = omega (arith, c .before .before .before .before .before .before .before .before .before .before .before .before .before .before .pre .1)
+
+returns : tie.Need-returns
+returns c =
+    let k = c .before .before .before in
+    let s = k .before .before .before .before .before in
+    play-made _ _ (s .before .before .before .sent-words .ensures) (s .before .before .arrived .ensures) (s .step-all .ensures .0) (s .step-all .ensures .1)
+    (k .before .before .hearing .ensures) (k .before .earlier .ensures) (k .kept-over .ensures)
+
+pub play-spec : {M : Type 1} → statement M
+play-spec =
+    tie.close
+    (tie.spec
+    sent-words-requires
+    arrived-requires
+    step-all-requires
+    hearing-requires
+    earlier-requires
+    kept-over-requires
+    add-t17
+    returns)

@@ -1,0 +1,97 @@
+-- A backplane put together from what the functions of a round answer.
+use Prim.Native.Nat.{ℕ, _+_, _<_, _≤_}
+use mathlib.Core.Path.{_≡_, refl, ap, ap₂, _∙_}
+use mathlib.Core.Bool.{Bool, true, _&&_}
+use mathlib.Core.List.{List, _++_}
+use native.Mathlib.Omega.{arith}
+use native.Mathlib.Nat.{le-refl}
+use lib.ListN.{getD, length, length-append, take}
+use lib.Seq.{take-append-seam}
+use Rattle.words.specs.Bits.{full}
+use Rattle.words.specs.Array.{array}
+use Rattle.words.specs.Table.{updated}
+use Rattle.words.proofs.TableLaws.{updated-above, getD-there}
+use Rattle.setup.specs.declared.Setup.{Setup}
+use Rattle.presence.specs.Opening.{blank}
+use Rattle.presence.specs.declared.State.{State}
+use Rattle.script.specs.declared.Events.{Events}
+use Rattle.backplane.specs.Bus.{faultless, arrived}
+use Rattle.backplane.specs.Limit.{hearingOf, keptOver}
+use Rattle.backplane.specs.Play.{openedStates, opened, sentWords, steppedStates, answeredHealth, earlier, played}
+use Rattle.backplane.specs.declared.Bus.{Bus}
+use Rattle.backplane.specs.declared.Hearing.{Hearing}
+use Rattle.backplane.specs.declared.Backplane.{Backplane}
+
+-- in turn i of a loop that steps the modules, module i + 1 is still as it was
+pub not-yet-stepped : (i : ℕ) (f : ℕ → State) (before now : List State) (d : State) → now ≡ updated i f before → i < length before
+    → getD now i d ≡ getD before i blank
+not-yet-stepped i f before now d e h =
+    ap (λ (l : List State). getD l i d) e ∙ updated-above i f before i d (le-refl i) ∙ getD-there before i d blank h
+
+-- ---- the front part of a buffer that was filled
+
+pub front-fits : {k : ℕ} (front rest : List ℕ) → length front ≡ k → k ≤ length (front ++ rest)
+front-fits front rest e = rw (length-append front rest) (omega (arith, e))
+
+pub front-taken : {k : ℕ} (front rest : List ℕ) → length front ≡ k → take k (front ++ rest) ≡ front
+front-taken front rest e = rw (← e) (take-append-seam front rest)
+
+-- opened
+module _ (s : Setup) (cast : ℕ) where
+  abbrev first : List State → List ℕ → Bus → Hearing → Backplane
+  first states health bus hearing = record {
+    setup = s;
+    cast = cast;
+    round = 0;
+    states = states;
+    health = health;
+    bus = bus;
+    hearing = hearing;
+    before = hearing;
+    kept = true;
+  }
+
+  pub open-made : {states : List State} {health : List ℕ} {bus : Bus} {hearing : Hearing} → states ≡ openedStates s → health ≡ array (s .n) (λ i. full (s .n))
+      → bus ≡ faultless (s .n) → hearing ≡ hearingOf (s .n) cast bus → first states health bus hearing ≡ opened s cast
+  unfolding opened
+  open-made {states} {health} {bus} {hearing} e1 e2 e3 e4 =
+      ap₂ (λ (x : List State) (y : List ℕ). first x y bus hearing) e1 e2
+      ∙ ap₂ (λ (x : Bus) (y : Hearing). first (openedStates s) (array (s .n) (λ i. full (s .n))) x y) e3 (e4 ∙ ap (hearingOf (s .n) cast) e3)
+
+-- played
+module _ (b : Backplane) (e : Events) where
+  abbrev next : List State → List ℕ → Bus → Hearing → Bool → Backplane
+  next states health bus hearing kept = record {
+    setup = b .setup;
+    cast = b .cast;
+    round = b .round + 1;
+    states = states;
+    health = health;
+    bus = bus;
+    hearing = hearing;
+    before = b .hearing;
+    kept = b .kept && kept;
+  }
+
+  abbrev states : Bus → List State
+  states x = steppedStates (b .setup) (b .states) x (b .bus)
+
+  abbrev health : Bus → List ℕ
+  health x = answeredHealth (b .setup) (b .states) x (b .bus)
+
+  abbrev this : Bus
+  this = arrived (b .setup .n) (sentWords (b .setup .n) (b .states)) e
+
+  pub play-made : {stepped : List State} {answered : List ℕ} {sent : List ℕ} {bus : Bus} {hearing then : Hearing} {kept : Bool}
+      → sent ≡ sentWords (b .setup .n) (b .states) → bus ≡ arrived (b .setup .n) sent e
+      → stepped ≡ steppedStates (b .setup) (b .states) bus (b .bus) → answered ≡ answeredHealth (b .setup) (b .states) bus (b .bus) → hearing ≡ hearingOf (b .setup .n) (b .cast) bus
+      → then ≡ earlier b → kept ≡ keptOver (b .setup .n) (b .cast) hearing then
+      → next stepped answered bus hearing kept ≡ played b e
+  unfolding played
+  play-made {stepped} {answered} {sent} {bus} {hearing} {then} {kept} e0 e1 e2 e3 e4 e5 e6 =
+      let n = b .setup .n in
+      let q : bus ≡ this = e1 ∙ ap (λ (x : List ℕ). arrived n x e) e0 in
+      let h : hearing ≡ hearingOf n (b .cast) this = e4 ∙ ap (hearingOf n (b .cast)) q in
+      ap₂ (λ (x : List State) (y : List ℕ). next x y bus hearing kept) (e2 ∙ ap states q) (e3 ∙ ap health q)
+      ∙ ap₂ (λ (x : Bus) (y : Hearing). next (states this) (health this) x y kept) q h
+      ∙ ap (λ (x : Bool). next (states this) (health this) this (hearingOf n (b .cast) this) x) (e6 ∙ ap₂ (keptOver n (b .cast)) h e5)

@@ -1,0 +1,20 @@
+-- A word is heard by its controller bit and its form.
+use borrow.Author.Needs.{needs}
+use Rattle.rules.specs.Hearing.{entryOf}
+use Rattle.backplane.specs.Heard.{heardWord}
+use borrow.Author.Needs.{needs}
+use Rattle.backplane.proofs.half_heard.heard_word.Statement.{statement}
+use Rattle.backplane.proofs.half_heard.heard_word.Tie as tie
+
+word-heard-requires : tie.Need-word-heard-requires
+word-heard-requires c κs = search needs
+
+pick-requires : tie.Need-pick-requires
+pick-requires c κs = search needs
+
+returns : tie.Need-returns
+unfolding heardWord entryOf
+returns c = cc
+
+pub heard-word-spec : {M : Type 1} → statement M
+heard-word-spec = tie.close (tie.spec word-heard-requires pick-requires returns)

@@ -1,0 +1,41 @@
+-- Words are compared with those of the first rule-follower.
+use borrow.Author.Needs.{needs}
+use Prim.Native.Nat.{ℕ}
+use mathlib.Core.Path.{ap₂}
+use Rattle.backplane.specs.Limit.{hearingOf}
+use Rattle.backplane.proofs.HearingLaws.{first-small, half-made, heard-made}
+use borrow.Author.Needs.{needs}
+use Rattle.backplane.proofs.half_heard.hearing.Statement.{statement}
+use Rattle.backplane.proofs.half_heard.hearing.Tie as tie
+
+heard-words-requires : tie.Need-heard-words-requires
+heard-words-requires c κs = search needs
+
+first-follower-requires : tie.Need-first-follower-requires
+first-follower-requires c κs = search needs
+
+half-heard-requires : tie.Need-half-heard-requires
+half-heard-requires c κs = (c .before .before .before .before .before .before .pre, rw (c .before .first-follower .ensures) (first-small _ _ (c .before .before .before .before .before .before .args .bus) (c .before .before .before .before .before .before .pre)))
+
+heard-senders-requires : tie.Need-heard-senders-requires
+heard-senders-requires c κs = search needs
+
+returns : tie.Need-returns
+unfolding hearingOf
+returns c =
+    let p = c .before .before .before .before .before in
+    let a = p .before .before .before .before .args in
+    let h = p .before .before .before .before .pre in
+    ap₂ (λ (x y : ℕ). record { half = x; heard = y })
+    (half-made (a .n) (a .cast) (a .bus) h (p .heard-words .ensures) (c .before .before .before .before .first-follower .ensures) (c .before .before .half-heard .ensures))
+    (heard-made (a .n) (a .cast) (a .bus) h (p .heard-words .ensures) (c .heard-senders .ensures))
+
+pub hearing-spec : {M : Type 1} → statement M
+hearing-spec =
+    tie.close
+    (tie.spec
+    heard-words-requires
+    first-follower-requires
+    half-heard-requires
+    heard-senders-requires
+    returns)

@@ -1,0 +1,82 @@
+-- After j turns the array has the words of the modules below j.
+use Prim.Native.Nat.{_-_, _%_, _^_, _≤_, _<_}
+use mathlib.Core.Path.{_≡_, refl, ap, _∙_}
+use native.Mathlib.Omega.{arith}
+use lib.ListN.{getD, length}
+use Rattle.words.specs.Array.{array}
+use Rattle.words.proofs.ArrayLaws.{array-step}
+use borrow.Author.Needs.{needs}
+use Rattle.rules.specs.Hearing.{busWord}
+use Rattle.presence.specs.Opening.{blank}
+use Rattle.backplane.specs.Play.{sentWords}
+use Rattle.presence.specs.declared.State.{State}
+use Rattle.words.proofs.TableLaws.{getD-there}
+use Prim.Native.Nat.{ℕ}
+use Rattle.backplane.proofs.play.sent_words.Statement.{statement}
+use Rattle.backplane.proofs.play.sent_words.Tie as tie
+
+abbrev Inv-loop : tie.InvT-loop
+Inv-loop n states sent₀ j₀ sent j = (j ≤ n) × (sent ≡ array j (λ k. busWord (getD states k blank .latest % 2 ^ 28)))
+
+abbrev μ-loop : tie.MeasureT-loop
+μ-loop n states sent₀ j₀ sent j = n - j
+
+loop-holds : tie.Need-loop-holds Inv-loop μ-loop
+unfolding array
+loop-holds c = (omega arith, refl)
+
+mul-state : tie.Need-mul-state Inv-loop μ-loop
+mul-state c = omega arith
+
+array-copy-out-state : tie.Need-array-copy-out-state Inv-loop μ-loop
+array-copy-out-state c = omega arith
+
+latest-requires : tie.Need-latest-requires Inv-loop μ-loop
+latest-requires c κs = search needs
+
+bus-word-requires : tie.Need-bus-word-requires Inv-loop μ-loop
+bus-word-requires c κs = omega arith
+
+mul-sent : tie.Need-mul-sent Inv-loop μ-loop
+mul-sent c = omega arith
+
+array-write-sent : tie.Need-array-write-sent Inv-loop μ-loop
+array-write-sent c = omega arith
+
+add-j : tie.Need-add-j Inv-loop μ-loop
+add-j c = omega arith
+
+loop-less : tie.Need-loop-less Inv-loop μ-loop
+loop-less c = omega arith
+
+loop-again : tie.Need-loop-again Inv-loop μ-loop
+loop-again c =
+    let l = c .before .before .before .before .loop in
+    let a = c .before .before .before .before .before .args in
+    let h : l .j < length (a .t2) = omega arith in
+    let e = ap (λ (s : State). s .latest) (getD-there (a .t2) (l .j) _ blank h) in
+    (omega arith, array-step _ _ (l .inv .1) (c .bus-word .ensures ∙ ap (λ (x : ℕ). busWord (x % 2 ^ 28)) (c .before .latest .ensures ∙ e)))
+
+returns : tie.Need-returns Inv-loop μ-loop
+unfolding sentWords
+returns c =
+    let e : c .before .loop .j ≡ c .before .before .args .n = omega arith in
+    cc
+
+pub sent-words-spec : {M : Type 1} → statement M
+sent-words-spec =
+    tie.close
+    (tie.spec
+    Inv-loop
+    μ-loop
+    loop-holds
+    mul-state
+    array-copy-out-state
+    latest-requires
+    bus-word-requires
+    mul-sent
+    array-write-sent
+    add-j
+    loop-less
+    loop-again
+    returns)

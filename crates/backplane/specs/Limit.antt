@@ -1,0 +1,33 @@
+-- The fault limit, over how two rounds are heard. (document 01, "Fault limit"; agreement/specs/Fault.antt has the words of it)
+use Prim.Native.Nat.{ℕ}
+use mathlib.Core.Bool.{Bool, not, _&&_, _||_}
+use Rattle.words.specs.Bits.{bit, pack}
+use Rattle.words.specs.Count.{count}
+use Rattle.agreement.specs.Fault.{half, heard, within}
+use Rattle.backplane.specs.Bus.{roundOf}
+use Rattle.backplane.specs.declared.Bus.{Bus}
+use Rattle.backplane.specs.declared.Hearing.{Hearing}
+
+-- the rule-followers
+abbrev pub followsIn : ℕ → ℕ → Bool
+followsIn cast i = not (bit cast i)
+
+unfoldable pub hearingOf : ℕ → ℕ → Bus → Hearing
+hearingOf n cast b = record {
+  half = pack n (half n (followsIn cast) (roundOf n b));
+  heard = pack n (heard n (followsIn cast) (roundOf n b));
+}
+
+-- ---- which senders a, s and b count
+
+unfoldable pub isHalf : Hearing → Hearing → ℕ → Bool
+isHalf h h′ j = bit (h .half) j || bit (h′ .half) j
+
+unfoldable pub isBreaker : ℕ → Hearing → Hearing → ℕ → Bool
+isBreaker cast h h′ j = not (isHalf h h′ j) && (bit cast j && (bit (h .heard) j || bit (h′ .heard) j))
+
+unfoldable pub isUnheard : ℕ → Hearing → Hearing → ℕ → Bool
+isUnheard cast h h′ j = not (isHalf h h′ j) && (not (isBreaker cast h h′ j) && (not (bit (h .heard) j) || not (bit (h′ .heard) j)))
+
+unfoldable pub keptOver : ℕ → ℕ → Hearing → Hearing → Bool
+keptOver n cast h h′ = within n (count n (isHalf h h′)) (count n (isBreaker cast h h′)) (count n (isUnheard cast h h′))

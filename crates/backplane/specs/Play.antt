@@ -1,0 +1,85 @@
+-- A whole backplane, round by round. (document 01, "What runs" and "Bench sheet")
+use Prim.Native.Nat.{ℕ, _+_, _%_, _^_}
+use mathlib.Core.Bool.{Bool, true, cond, _&&_}
+use mathlib.Core.List.{List}
+use lib.ListN.{getD, replicate}
+use Rattle.words.specs.Bits.{full}
+use Rattle.words.specs.Array.{array}
+use Rattle.words.specs.Table.{updated}
+use Rattle.setup.specs.declared.Setup.{Setup}
+use Rattle.rules.specs.Lag.{skewed}
+use Rattle.rules.specs.Hearing.{busWord}
+use Rattle.presence.specs.Opening.{blank, openOf}
+use Rattle.presence.specs.Step.{stepOf}
+use Rattle.presence.specs.declared.State.{State}
+use Rattle.presence.specs.declared.Stepped.{Stepped}
+use Rattle.script.specs.declared.Events.{Events}
+use Rattle.backplane.specs.Bus.{faultless, arrived, readWords, readBits}
+use Rattle.backplane.specs.Limit.{hearingOf, keptOver}
+use Rattle.backplane.specs.declared.Bus.{Bus}
+use Rattle.backplane.specs.declared.Hearing.{Hearing}
+use Rattle.backplane.specs.declared.Backplane.{Backplane}
+
+-- the state of module i + 1
+abbrev pub stateAt : List State → ℕ → State
+stateAt states i = getD states i blank
+
+-- Before round 1: every module is opened with its own number.
+unfoldable pub openedStates : Setup → List State
+openedStates s = updated (s .n) (λ i. openOf s (i + 1) .state) (replicate 16 (openOf s 1 .state))
+
+unfoldable pub opened : Setup → ℕ → Backplane
+opened s cast =
+    let n = s .n in
+    let hearing = hearingOf n cast (faultless n) in
+    record {
+      setup = s;
+      cast = cast;
+      round = 0;
+      states = openedStates s;
+      health = array n (λ i. full n);
+      bus = faultless n;
+      hearing = hearing;
+      before = hearing;
+      kept = true;
+    }
+
+-- Rule 7: all words of a round hold the syndromes of the round before, those of marked modules too. (A syndrome has no bit at 28 or above; the
+-- remainder keeps the sum a word whatever a state holds.)
+unfoldable pub sentWords : ℕ → List State → List ℕ
+sentWords n states = array n (λ j. busWord (stateAt states j .latest % 2 ^ 28))
+
+-- the step of module i + 1, on its read by rule 3 of this round's bus and the one before
+unfoldable pub stepAt : Setup → List State → Bus → Bus → ℕ → Stepped
+stepAt s states this before i =
+    let place = getD (s .places) i 0 in
+    stepOf (stateAt states i) (readWords (s .n) place i (this .words) (before .words))
+    (readBits (s .n) place (getD (this .bits) i 0) (getD (before .bits) i 0))
+
+unfoldable pub steppedStates : Setup → List State → Bus → Bus → List State
+steppedStates s states this before = updated (s .n) (λ i. stepAt s states this before i .state) states
+
+unfoldable pub answeredHealth : Setup → List State → Bus → Bus → List ℕ
+answeredHealth s states this before = array (s .n) (λ i. stepAt s states this before i .health)
+
+-- how the round u + 1 before the next one was heard
+unfoldable pub earlier : Backplane → Hearing
+earlier b = cond (skewed (b .setup .n) (b .setup .places)) (b .before) (b .hearing)
+
+-- The next round with these events: rule-breakers step like the rest, only what they are told to send differs.
+unfoldable pub played : Backplane → Events → Backplane
+played b e =
+    let n = b .setup .n in
+    let this = arrived n (sentWords n (b .states)) e in
+    let hearing = hearingOf n (b .cast) this in
+    record {
+      setup = b .setup;
+      cast = b .cast;
+      round = b .round + 1;
+      states = steppedStates (b .setup) (b .states) this (b .bus);
+      health = answeredHealth (b .setup) (b .states) this (b .bus);
+      bus = this;
+      hearing = hearing;
+      before = b .hearing;
+      kept = b .kept && keptOver n (b .cast) hearing (earlier b);
+    }

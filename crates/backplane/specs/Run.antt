@@ -1,0 +1,53 @@
+-- A run: a script played round by round. (document 01, "What runs" and "Bench sheet")
+use Prim.Native.Nat.{ℕ, zero, suc, _+_}
+use mathlib.Core.Bool.{Bool, true, cond, not, _&&_}
+use mathlib.Core.List.{List}
+use lib.Dec.{leb, ltb}
+use lib.ListN.{getD}
+use Rattle.words.specs.Word.{wordAt}
+use Rattle.setup.specs.Verdict.{isAccepted}
+use Rattle.setup.specs.Setup.{sizeIn, setupOf, blankSetup}
+use Rattle.script.specs.Words.{castIn}
+use Rattle.script.specs.Check.{checkScript}
+use Rattle.script.specs.Events.{none}
+use Rattle.script.specs.Cursor.{start, advanced}
+use Rattle.script.specs.declared.Cursor.{Cursor}
+use Rattle.text.specs.Lines.{linesOf}
+use Rattle.backplane.specs.Play.{stateAt, opened, played}
+use Rattle.backplane.specs.declared.Backplane.{Backplane}
+use Rattle.backplane.specs.declared.Run.{Run}
+use Rattle.backplane.specs.declared.Started.{Started}
+
+-- before round 1 of an accepted script
+unfoldable pub begun : List ℕ → Run
+begun s =
+    let n = sizeIn (wordAt s 0) in
+    record { cursor = start n; backplane = opened (setupOf s) (castIn (wordAt s (n + 3))) }
+
+-- what is held where a script is refused: nothing to play
+unfoldable pub idle : Run
+idle = record { cursor = record { at = 0; left = 0; over = true; events = none }; backplane = opened blankSetup 0 }
+
+unfoldable pub startOf : List ℕ → Started
+startOf s =
+    let v = checkScript s in
+    record { number = v .number; index = v .index; run = cond (isAccepted v) (begun s) idle }
+
+-- The next round, if the script has one. (An accepted script has N at most 16 and at most 100,000 rounds.)
+unfoldable pub goesOn : Cursor → Backplane → Bool
+goesOn c b = not (c .over) && (leb (b .setup .n) 16 && ltb (b .round) 100000)
+
+unfoldable pub nextOf : List ℕ → Run → Run
+nextOf s r =
+    let c = advanced s (r .cursor) in
+    record { cursor = c; backplane = cond (goesOn c (r .backplane)) (played (r .backplane) (c .events)) (r .backplane) }
+
+-- the run after k rounds
+unfoldable pub runAt : List ℕ → ℕ → Run
+runAt s zero = begun s
+runAt s (suc k) = nextOf s (runAt s k)
+
+-- ---- what is printed of a round
+
+unfoldable pub printed : Backplane → List ℕ
+printed b = linesOf (b .setup .n) (b .round) (b .kept) (λ i. getD (b .health) i 0) (λ i. stateAt (b .states) i .counters .view) (b .setup .n)

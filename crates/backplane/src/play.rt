@@ -1,0 +1,172 @@
+// A whole backplane, round by round.
+use crate::Backplane;
+use crate::Bus;
+use crate::Hearing;
+use crate::arrivals::arrived;
+use crate::arrivals::faultless;
+use crate::arrivals::put_read;
+use crate::arrivals::read_bits;
+use crate::half_heard::hearing;
+use crate::limit::kept_over;
+use presence::State;
+use presence::Stepped;
+use rules::hearing::bus_word;
+use rules::lag::is_skewed;
+use script::Events;
+use setup::Setup;
+use words::array::filled;
+use words::bits::full_of;
+ghost use mathlib.Core.Path.{_≡_};
+ghost use Prim.Native.Nat.{_≤_, _<_, _^_};
+ghost use Rattle.presence.specs.Step.{stepOf};
+ghost use Rattle.backplane.specs.Bus.{readWords};
+ghost use Rattle.backplane.specs.Play.{openedStates, opened, sentWords, steppedStates, answeredHealth, earlier, played};
+
+// What the steps of a round give: the states, and the health vectors answered.
+struct Steps {
+    states: [State; 16],
+    health: [u32; 16],
+}
+
+// Every module opened with its own number.
+fn opened_states(setup: Setup) -> [State; 16]
+    requires { ⌜ setup .n ≤ 16 ⌝ }
+    ensures { λ r. ⌜ r ≡ openedStates setup ⌝ }
+{
+    let first = State::open(setup, 1);
+    let state = first.state;
+    let mut states = [state; 16];
+    for i in 0..setup.n {
+        let one = State::open(setup, i + 1);
+        let state = one.state;
+        states[i] = state;
+    }
+    states
+}
+
+// The words sent in the next round: all hold the syndromes of this one.
+fn sent_words(n: usize, states: [State; 16]) -> [u32; 16]
+    requires { ⌜ n ≤ 16 ⌝ }
+    ensures { λ r. ⌜ r ≡ sentWords n states ⌝ }
+{
+    let mut sent = [0u32; 16];
+    for j in 0..n {
+        let state = states[j];
+        sent[j] = bus_word(state.latest() % 268435456);
+    }
+    sent
+}
+
+// The step of module i + 1 on its read.
+fn step_one(
+    state: State,
+    n: usize,
+    place: u32,
+    i: usize,
+    this: &[u32; 256],
+    before: &[u32; 256],
+    bits: u32,
+) -> Stepped
+    requires { ⌜ (n ≤ 16) × (i < 16) ⌝ }
+    ensures { λ r. ⌜ r ≡ stepOf state (readWords n place i (now (this .entry)) (now (before .entry))) bits ⌝ }
+{
+    let mut read = [0u8; 64];
+    let k = n * 4;
+    put_read(n, place, i, this, before, &mut read[..k]);
+    state.step(&read[..k], bits)
+}
+
+// The steps of all modules in the round whose bus is `this`.
+fn step_all(setup: Setup, held: [State; 16], this: Bus, before: Bus) -> Steps
+    requires { ⌜ setup .n ≤ 16 ⌝ }
+    ensures { λ r. ⌜ (r .states ≡ steppedStates setup held this before) × (r .health ≡ answeredHealth setup held this before) ⌝ }
+{
+    let n = setup.n;
+    let places = setup.places;
+    let this_bits = this.bits;
+    let this_words = this.words;
+    let before_bits = before.bits;
+    let before_words = before.words;
+    let mut states = held;
+    let mut health = [0u32; 16];
+    for i in 0..n {
+        let bits = read_bits(n, places[i], this_bits[i], before_bits[i]);
+        let state = states[i];
+        let answer = step_one(state, n, places[i], i, &this_words, &before_words, bits);
+        let next = answer.state;
+        states[i] = next;
+        health[i] = answer.health;
+    }
+    Steps { states, health }
+}
+
+impl Backplane {
+    // Before round 1.
+    pub fn open(setup: Setup, cast: u32) -> Backplane
+        requires { ⌜ setup .n ≤ 16 ⌝ }
+        ensures { λ r. ⌜ r ≡ opened setup cast ⌝ }
+    {
+        let n = setup.n;
+        let states = opened_states(setup);
+        let health = filled(n, full_of(n));
+        let bus = faultless(n);
+        let heard = hearing(n, cast, bus);
+        Backplane {
+            setup,
+            cast,
+            round: 0,
+            states,
+            health,
+            bus,
+            hearing: heard,
+            before: heard,
+            kept: true,
+        }
+    }
+
+    // How the round u + 1 before the next one was heard.
+    fn earlier(self) -> Hearing
+        requires { ⌜ self .setup .n ≤ 16 ⌝ }
+        ensures { λ r. ⌜ r ≡ earlier self ⌝ }
+    {
+        let setup = self.setup;
+        let places = setup.places;
+        if is_skewed(setup.n, places) {
+            let before = self.before;
+            return before;
+        }
+        let hearing = self.hearing;
+        hearing
+    }
+
+    // The next round with these events.
+    pub fn play(self, events: Events) -> Backplane
+        requires { ⌜ (self .setup .n ≤ 16) × (self .round < 2 ^ 31) ⌝ }
+        ensures { λ r. ⌜ r ≡ played self events ⌝ }
+    {
+        let setup = self.setup;
+        let n = setup.n;
+        let held = self.states;
+        let sent = sent_words(n, held);
+        let bus = arrived(n, sent, events);
+        let last = self.bus;
+        let steps = step_all(setup, held, bus, last);
+        let states = steps.states;
+        let health = steps.health;
+        let heard = hearing(n, self.cast, bus);
+        let then = self.earlier();
+        let kept = self.kept & kept_over(n, self.cast, heard, then);
+        let before = self.hearing;
+        Backplane {
+            setup,
+            cast: self.cast,
+            round: self.round + 1,
+            states,
+            health,
+            bus,
+            hearing: heard,
+            before,
+            kept,
+        }
+    }
+}

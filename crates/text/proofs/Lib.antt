@@ -1,0 +1,4 @@
+pub mod WroteLaws
+pub mod NumberLaws
+pub mod LineLaws
+pub mod Cases
