@@ -6,3 +6,4 @@ pub mod ArrayLaws
 pub mod WordLaws
 pub mod ByteLaws
 pub mod LittleLaws
+pub mod RunLaws

@@ -1,0 +1,7 @@
+pub mod FieldLaws
+pub mod ImageWords
+pub mod ImageBytes
+pub mod FrontLaws
+pub mod CheckLaws
+pub mod ReadLaws
+pub mod AnswerLaws
