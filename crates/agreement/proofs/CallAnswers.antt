@@ -1,6 +1,6 @@
 -- What a call from C leaves in its output: accepted, the image of the state that it gives; refused, what was there.
 use Prim.Native.Nat.{ℕ}
-use mathlib.Core.Path.{_≡_, refl, sym, ap, _∙_}
+use mathlib.Core.Path.{_≡_, refl, ap, _∙_}
 use mathlib.Core.Bool.{Bool, true, false, cond}
 use mathlib.Core.Logic.{_≢_}
 use mathlib.Core.List.{List}
@@ -12,10 +12,11 @@ use Rattle.setup.specs.Verdict.{isAccepted}
 use Rattle.setup.specs.Setup.{setupOf}
 use Rattle.setup.specs.Check.{checkSetup}
 use Rattle.setup.specs.declared.Verdict.{Verdict}
+use Rattle.image.specs.Check.{checkImage}
 use Rattle.presence.specs.Opening.{openOf}
 use Rattle.presence.specs.Step.{stepOf}
-use Rattle.presence.specs.Image.{imageOf, stateOf, checkImage, roomFor}
-use Rattle.presence.specs.Calls.{Called, answer, called, refusedCall, wrote, openCall, stepCall, saveCall}
+use Rattle.presence.specs.Image.{imageOf, stateOf, roomFor}
+use Rattle.presence.specs.Calls.{Called, answer, refusedCall, wrote, openCall, stepCall, saveCall}
 use Rattle.presence.specs.declared.State.{State}
 
 -- ---- what a call of three tests gives: of what it reads, of what it makes, of the room in its output

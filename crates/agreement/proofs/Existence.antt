@@ -97,18 +97,21 @@ module _ (C : Choice) where
   honest : (k i l : ℕ) → RuleFollower session l → lies k i l ≡ false
   honest k i l fl = ⊎-elim (λ t. clash (bit cast l) (cast-only k i l t) (not-true _ (fl .true-to))) (λ f. f) (which (lies k i l))
 
-  bound : (last : ℕ) → Bound session last
-  unfolding wordIn words spoken
-  bound last zero i l p h fi fl t = absurd (not-suc-le-zero p)
-  bound last (suc k) i l p h fi fl t =
+  as-sent : (k i j : ℕ) → j < setup .n → lies (suc k) i j ≡ false → words (suc k) i j ≡ sent session j (suc k)
+  unfolding words spoken
+  as-sent k i j hj f =
       let e : suc k - 1 ≡ k = omega arith in
-      let f = honest (suc k) i l fl in
       rw (f, e)
-      (ap (λ (st : State). busWord (st .latest)) (sym (stable k k l (le-refl k)) ∙ sym (state-is k l)) ∙ sym (sent-is session accepted l (fl .below) k))
+      (ap (λ (st : State). busWord (st .latest)) (sym (stable k k j (le-refl k)) ∙ sym (state-is k j)) ∙ sym (sent-is session accepted j hj k))
+
+  bound : (last : ℕ) → Bound session last
+  unfolding wordIn
+  bound last zero i l p h fi fl t = absurd (not-suc-le-zero p)
+  bound last (suc k) i l p h fi fl t = as-sent k i l (fl .below) (honest (suc k) i l fl)
 
   plays : Plays C session
   unfolding words spoken
-  plays = record { setup = refl; cast = refl; controller = refl; told = λ k i j t. cond-true _ _ t; bound = bound }
+  plays = record { setup = refl; cast = refl; controller = refl; told = λ k i j t. cond-true _ _ t; as-sent = as-sent; bound = bound }
 
 pub existence : Existence
 existence C = (session C, plays C)

@@ -1,18 +1,11 @@
 -- An image in a life is the image of the state that the rules give: reading it back gives that state.
-use Prim.Native.Nat.{ℕ, zero, suc, _+_, _*_, _≤_, _<_}
-use mathlib.Core.Path.{_≡_, refl, sym, ap, ap₂, _∙_, subst}
-use mathlib.Core.Bool.{Bool, true, false, cond}
-use mathlib.Core.Logic.{_≢_}
+use Prim.Native.Nat.{ℕ, zero, suc, _+_, _≤_, _<_}
+use mathlib.Core.Path.{_≡_, refl, sym, ap, _∙_, subst}
 use mathlib.Core.List.{List}
-use native.Mathlib.Omega.{arith}
-use lib.ListN.{length, length-replicate}
-use lib.Dec.{eqb}
-use borrow.Author.Tests.{eq-eqb, eqb-true, eqb-false}
-use Rattle.words.specs.Bits.{full}
-use Rattle.words.specs.Array.{array}
-use Rattle.words.proofs.Truth.{which, cond-true}
+use lib.ListN.{length}
+use borrow.Author.Tests.{eq-eqb}
 use Rattle.words.proofs.ArrayLaws.{array-length}
-use Rattle.setup.specs.Verdict.{accepted, isAccepted}
+use Rattle.setup.specs.Verdict.{accepted}
 use Rattle.setup.specs.Setup.{setupOf}
 use Rattle.setup.specs.Check.{checkSetup, setupVerdict}
 use Rattle.setup.specs.declared.Verdict.{Verdict}
@@ -20,20 +13,20 @@ use Rattle.setup.specs.declared.Setup.{Setup}
 use Rattle.setup.proofs.RoundTrip.{read-verdict}
 use Rattle.rules.specs.Hearing.{readingOf}
 use Rattle.rules.specs.Account.{countersOf}
+use Rattle.image.specs.Words.{imageLength}
+use Rattle.image.specs.Check.{checkImage}
 use Rattle.presence.specs.Opening.{fresh, openOf}
-use Rattle.presence.specs.Step.{afterRound, acceptedStep, stepOf}
-use Rattle.presence.specs.Image.{imageLength, imageOf, stateOf, checkImage, roomFor}
-use Rattle.presence.specs.Calls.{Called, answer, called, refusedCall, wrote, openCall, stepCall, saveCall}
+use Rattle.presence.specs.Step.{afterRound, acceptedStep}
+use Rattle.presence.specs.Image.{imageOf, stateOf, roomFor}
 use Rattle.presence.specs.declared.State.{State}
-use Rattle.presence.specs.declared.Opened.{Opened}
 use Rattle.presence.specs.declared.Stepped.{Stepped}
-use Rattle.presence.proofs.ValidLaws.{StateFits, fits-valid}
+use Rattle.presence.proofs.ValidLaws.{fits-valid}
 use Rattle.presence.proofs.RoundTrip.{Shaped, image-accepted}
 use Rattle.agreement.specs.Session.{Session, Accepted, size, RuleFollower, readBits, readBytes, answer as answerTo, state, health, Bound}
 use Rattle.agreement.specs.Life.{Life, opens, steps}
-use Rattle.agreement.specs.Demand.{KeptTo, Demand3}
+use Rattle.agreement.specs.Demand.{KeptTo}
 use Rattle.agreement.specs.Images.{ImageLife, opens as image-opens, steps as image-steps, saves, refused-opening, refused-step, refused-saving, Kept, Demand3C}
-use Rattle.agreement.proofs.Steps.{reading, Held, held, state-zero, state-suc, taken, opened}
+use Rattle.agreement.proofs.Steps.{held, state-zero, state-suc, taken}
 use Rattle.agreement.proofs.Demand.{demand-3}
 use Rattle.agreement.proofs.CallAnswers.{open-writes, open-keeps, step-writes, step-keeps, step-passes, save-writes, save-keeps}
 

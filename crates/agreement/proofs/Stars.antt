@@ -15,7 +15,8 @@ use Rattle.rules.specs.Vote.{decision, tally, voteOf, healthOf}
 use Rattle.rules.specs.Accusation.{differsAt, accusationOf, accusationsOf}
 use Rattle.rules.specs.Syndrome.{syndromeOf, judgementOf, outgoingOf}
 use Rattle.rules.specs.Account.{charged, rewarded, accounted, accountAt, accountedAt, countersOf}
-use Rattle.presence.specs.Valid.{rowFits, penaltyFits, rewardFits, stateTidy, checkState, stateVerdict}
+use Rattle.image.specs.Fits.{rowFits, penaltyFits, rewardFits}
+use Rattle.presence.specs.Valid.{stateTidy, checkState, stateVerdict}
 use Rattle.presence.specs.Opening.{fresh, blank, checkOpening, openOf}
 use Rattle.presence.specs.Step.{placeOf, markOf, ownSyndrome, alignedFor, judgementFor, outgoingFor, afterRound, refusedStep, acceptedStep, testedStep, readStep, stepOf}
 use Rattle.agreement.specs.Fault.{differ, half, heard, halfIn, breakerIn, unheardIn, within, limit}

@@ -1,12 +1,12 @@
 -- Demand 3 speaks of something: for every pattern of hearing and every lie of the cast there is a bound session.
 -- Proved in proofs/Existence.antt.
-use Prim.Native.Nat.{ℕ, suc}
+use Prim.Native.Nat.{ℕ, suc, _<_}
 use mathlib.Core.Path.{_≡_}
-use mathlib.Core.Bool.{Bool, true}
+use mathlib.Core.Bool.{Bool, true, false}
 use Rattle.words.specs.Bits.{bit}
 use Rattle.setup.specs.Check.{setupVerdict}
 use Rattle.setup.specs.declared.Setup.{Setup}
-use Rattle.agreement.specs.Session.{Session, Bound}
+use Rattle.agreement.specs.Session.{Session, size, sent, Bound}
 
 -- What is chosen of a session: an accepted setup, a cast, and by round, receiver and sender the controller bits, where the cast lies, and the word
 -- that it is told to send there.
@@ -25,6 +25,8 @@ pub record Plays (C : Choice) (S : Session) : Type 0 where
   pub cast : S .cast ≡ C .cast
   pub controller : S .controller ≡ C .controller
   pub told : (k i j : ℕ) → C .lies k i j ≡ true → S .word k i j ≡ C .told k i j
+  -- but for the lies, everybody's word is the one it handed out for the round
+  pub as-sent : (k i j : ℕ) → j < size S → C .lies (suc k) i j ≡ false → S .word (suc k) i j ≡ sent S j (suc k)
   pub bound : (last : ℕ) → Bound S last
 
 abbrev pub Existence : Type 0

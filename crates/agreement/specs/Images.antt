@@ -8,8 +8,9 @@ use lib.ListN.{length}
 use Rattle.words.specs.Bits.{full}
 use Rattle.setup.specs.Setup.{setupOf}
 use Rattle.setup.specs.Check.{checkSetup}
-use Rattle.presence.specs.Image.{imageLength, imageOf, stateOf}
-use Rattle.presence.specs.Calls.{Called, openCall, stepCall, saveCall}
+use Rattle.image.specs.Words.{imageLength}
+use Rattle.presence.specs.Image.{imageOf, stateOf}
+use Rattle.presence.specs.Calls.{openCall, stepCall, saveCall}
 use Rattle.agreement.specs.Session.{Session, size, RuleFollower, readBits, readBytes, Bound}
 use Rattle.agreement.specs.Life.{Life}
 use Rattle.agreement.specs.Demand.{KeptTo}

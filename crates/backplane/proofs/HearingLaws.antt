@@ -14,7 +14,7 @@ use Rattle.words.specs.Table.{table}
 use Rattle.words.proofs.Truth.{clash, which, and-l, and-r, and-true, iff-eq}
 use Rattle.words.proofs.BitLaws.{pack-ext}
 use Rattle.words.proofs.CountLaws.{any-intro, any-witness, any-ext}
-use Rattle.words.proofs.LowestLaws.{lowest-zero, lowest-le}
+use Rattle.words.proofs.LowestLaws.{lowest-zero, lowest-le, lowest-passes}
 use Rattle.words.proofs.TableLaws.{table-at}
 use Rattle.rules.specs.Hearing.{wordHeard, entryOf}
 use Rattle.rules.proofs.HearingLaws.{entry-heard}
@@ -54,18 +54,6 @@ differs-as n on on′ w w′ = go (entryOf n on w .heard) (entryOf n on′ w′ 
     go true false h h′ = rw (ne-eqb w 0 (h refl))
     go false true h h′ = rw (ne-eqb 0 w′ (λ e. h′ refl (sym e)))
     go false false h h′ = refl
-
--- ---- the lowest number that passes does pass
-
-lowest-passes : (p : ℕ → Bool) (n k : ℕ) → lowest n p ≡ k + 1 → p k ≡ true
-unfolding lowest
-lowest-passes p zero k e = absurd (omega arith)
-lowest-passes p (suc n) k e = go (λ q. lowest-passes p n k q) (lowest n p) (p n) refl refl e
-  where
-    go : (lowest n p ≡ k + 1 → p k ≡ true) → (l : ℕ) (b : Bool) → lowest n p ≡ l → p n ≡ b → cond (eqb l 0) (cond b (n + 1) 0) l ≡ k + 1 → p k ≡ true
-    go f zero true q r z = let x : k ≡ n = omega arith in rw x r
-    go f zero false q r z = absurd (omega arith)
-    go f (suc l) b q r z = f (q ∙ (rw (ne-eqb (suc l) 0 (omega arith)) at z))
 
 module _ (n cast : ℕ) where
   -- where there is a rule-follower, the first is one

@@ -1,2 +1,4 @@
 pub mod HearingLaws
 pub mod PlayLaws
+pub mod RoundLaws
+pub mod Session

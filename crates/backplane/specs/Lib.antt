@@ -3,3 +3,4 @@ pub mod Limit
 pub mod Heard
 pub mod Play
 pub mod Run
+pub mod Session

@@ -6,7 +6,9 @@ use lib.Dec.{leb, ltb}
 use lib.ListN.{getD}
 use Rattle.words.specs.Word.{wordAt}
 use Rattle.setup.specs.Verdict.{isAccepted}
-use Rattle.setup.specs.Setup.{sizeIn, setupOf, blankSetup}
+use Rattle.setup.specs.Setup.{sizeIn, blankSetup}
+use Rattle.setup.specs.Check.{setupPart, readSetup}
+use Rattle.setup.specs.declared.SetupRead.{SetupRead}
 use Rattle.script.specs.Words.{castIn}
 use Rattle.script.specs.Check.{checkScript}
 use Rattle.script.specs.Events.{none}
@@ -22,7 +24,7 @@ use Rattle.backplane.specs.declared.Started.{Started}
 unfoldable pub begun : List ℕ → Run
 begun s =
     let n = sizeIn (wordAt s 0) in
-    record { cursor = start n; backplane = opened (setupOf s) (castIn (wordAt s (n + 3))) }
+    record { cursor = start n; backplane = opened (readSetup (setupPart s) .setup) (castIn (wordAt s (n + 3))) }
 
 -- what is held where a script is refused: nothing to play
 unfoldable pub idle : Run

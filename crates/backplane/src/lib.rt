@@ -5,6 +5,7 @@ pub mod arrivals;
 pub mod half_heard;
 pub mod limit;
 pub mod play;
+pub mod rounds;
 
 use presence::State;
 use script::Cursor;

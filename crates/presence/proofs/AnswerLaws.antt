@@ -1,59 +1,26 @@
 -- What is answered, by what the checks inside have answered.
 use mathlib.Core.Path.{_≡_, ap, _∙_, sym}
-use mathlib.Core.Bool.{Bool, true, false, cond}
+use mathlib.Core.Bool.{true, false, cond}
 use mathlib.Core.List.{List}
 use Prim.Native.Nat.{ℕ}
 use native.Mathlib.Omega.{arith}
 use lib.ListN.{length}
 use lib.Dec.{eqb}
 use borrow.Author.Tests.{eq-eqb, ne-eqb, eqb-true}
-use Rattle.words.specs.Word.{wordAt}
 use Rattle.words.proofs.Truth.{cond-true, cond-false}
 use Rattle.setup.specs.Verdict.{verdict, accepted, isAccepted, check}
-use Rattle.setup.specs.Setup.{sizeIn}
-use Rattle.setup.specs.Check.{checkHead, checkWords}
 use Rattle.setup.specs.declared.Verdict.{Verdict}
 use Rattle.setup.proofs.VerdictLaws.{check-ok}
-use Rattle.setup.proofs.NextLaws.{andThen, then-next, then-stays, check-refused}
-use Rattle.setup.proofs.AnswerLaws.{head-stays, head-goes}
+use Rattle.setup.proofs.NextLaws.{then-next, then-stays, check-refused}
+use Rattle.image.specs.Words.{imageLength}
+use Rattle.image.specs.Check.{checkImage}
+use Rattle.image.proofs.CheckLaws.{image-zero}
 use Rattle.presence.specs.Valid.{Valid, stateVerdict}
 use Rattle.presence.specs.Opening.{blank}
-use Rattle.presence.specs.Image.{imageLength, imageOf, stateOf, checkTail, checkImage, loadOf, roomFor, saveVerdict, savedOut}
+use Rattle.presence.specs.Image.{imageOf, stateOf, loadOf, roomFor, saveVerdict, savedOut}
 use Rattle.presence.specs.declared.State.{State}
 use Rattle.presence.specs.declared.Opened.{Opened}
 use Rattle.presence.proofs.SmallLaws.{Small, valid-small}
-use Rattle.presence.proofs.ImageLaws.{image-zero}
-
--- ---- v answers the first of two checks, w both
-
-module _ {v a w : Verdict} (next : Verdict) (e : v ≡ a) (t : w ≡ andThen a next) where
-  pub first-stays : (v .number ≡ 0 → ⊥) → v ≡ w
-  first-stays f = sym (then-stays v next f) ∙ ap (λ (x : Verdict). cond (isAccepted x) next x) e ∙ sym t
-
-  pub second-answers : v .number ≡ 0 → next ≡ w
-  second-answers z = sym (then-next v next z) ∙ ap (λ (x : Verdict). cond (isAccepted x) next x) e ∙ sym t
-
--- ---- v is the answer of numbers 1 and 2
-
-module _ {v : Verdict} (s : List ℕ) (e : v ≡ checkHead s true accepted) where
-  pub no-head : (v .number ≡ 0 → ⊥) → isAccepted (checkImage s) ≡ false
-  unfolding checkImage
-  no-head f = ap isAccepted (sym (head-stays s e _ _ f)) ∙ ne-eqb (v .number) 0 f
-
-  module _ {n : ℕ} (size : n ≡ sizeIn (wordAt s 0)) (z : v .number ≡ 0) where
-    pub no-length : (length s ≡ imageLength n → ⊥) → isAccepted (checkImage s) ≡ false
-    unfolding checkImage
-    no-length f =
-        ap isAccepted
-        (sym (head-goes s e _ _ z)
-        ∙ check-refused (eqb (length s) (imageLength (sizeIn (wordAt s 0)))) 3 0 _ (ne-eqb _ _ (rw size at f)))
-
-    pub by-words : length s ≡ imageLength n → {good : Bool} → good ≡ isAccepted (checkWords s n (checkTail s n)) → isAccepted (checkImage s) ≡ good
-    unfolding checkImage
-    by-words l g =
-        ap isAccepted
-        (sym (head-goes s e _ _ z) ∙ check-ok (eqb (length s) (imageLength (sizeIn (wordAt s 0)))) 3 0 _ (eq-eqb _ _ (rw size at l)))
-        ∙ sym (rw size at g)
 
 -- ---- what reading answers
 

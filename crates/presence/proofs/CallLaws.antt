@@ -20,11 +20,15 @@ use Rattle.setup.specs.Check.{checkHead, checkWords, checkSetup, readSetup}
 use Rattle.setup.specs.declared.Setup.{Setup}
 use Rattle.setup.specs.declared.SetupRead.{SetupRead}
 use Rattle.setup.specs.declared.Verdict.{Verdict}
+use Rattle.image.specs.Words.{ownIn, syndromeIn, imageLength}
+use Rattle.image.specs.Check.{checkTail, checkImage}
+use Rattle.image.proofs.CheckLaws.{ImageFits, image-pass, image-zero}
+use Rattle.image.proofs.AnswerLaws.{by-words}
 use Rattle.presence.specs.Valid.{Valid}
 use Rattle.presence.specs.Opening.{openOf}
 use Rattle.presence.specs.Step.{markOf, afterRound, acceptedStep, readStep, stepOf}
-use Rattle.presence.specs.Image.{ownIn, syndromeIn, imageLength, imageOf, stateOf, checkTail, checkImage, roomFor}
-use Rattle.presence.specs.Calls.{Called, answer, called, refusedCall, wrote, openCall, stepCall, saveCall, handedOut, outgoingCall}
+use Rattle.presence.specs.Image.{imageOf, stateOf, roomFor}
+use Rattle.presence.specs.Calls.{answer, called, refusedCall, wrote, openCall, stepCall, saveCall, handedOut, outgoingCall}
 use Rattle.presence.specs.declared.State.{State}
 use Rattle.presence.specs.declared.Answer.{Answer}
 use Rattle.presence.specs.declared.Outgoing.{Outgoing}
@@ -32,9 +36,8 @@ use Rattle.presence.specs.declared.Opened.{Opened}
 use Rattle.presence.specs.declared.Stepped.{Stepped}
 use Rattle.presence.proofs.StepLaws.{step-accepted, step-valid, open-valid}
 use Rattle.presence.proofs.RoundLaws.{step-goes}
-use Rattle.presence.proofs.ImageLaws.{ImageFits, image-pass, image-state, load-valid, image-zero}
+use Rattle.presence.proofs.ImageLaws.{image-state, load-valid}
 use Rattle.presence.proofs.RoundTrip.{written-read}
-use Rattle.presence.proofs.AnswerLaws.{by-words}
 
 -- a refusal by the verdict v, answered by what was found of it
 refused-by : {v w : Verdict} (out : List ℕ) → v ≡ w → called (answer (v .number) (v .index) 0) out ≡ refusedCall (w .number) (w .index) out

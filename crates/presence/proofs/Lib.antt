@@ -1,11 +1,7 @@
 pub mod ValidLaws
 pub mod StepLaws
 pub mod RoundLaws
-pub mod AcceptLaws
-pub mod ImageWords
 pub mod SmallLaws
-pub mod ImageBytes
-pub mod FrontLaws
 pub mod ImageLaws
 pub mod LoadLaws
 pub mod AnswerLaws

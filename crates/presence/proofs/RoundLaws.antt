@@ -1,12 +1,12 @@
 -- What an opening and a step answer, put together from the answers of their parts.
-use mathlib.Core.Path.{_≡_, refl, ap, ap₂, _∙_, sym, subst}
+use mathlib.Core.Path.{_≡_, ap, ap₂, _∙_, sym}
 use mathlib.Core.Bool.{Bool, true, false, cond, _||_}
 use mathlib.Core.Logic.{⊎-elim}
 use mathlib.Core.List.{List}
-use Prim.Native.Nat.{ℕ, _+_, _-_, _*_, _^_, _<_, _≤_}
+use Prim.Native.Nat.{ℕ, _-_, _*_, _^_, _<_, _≤_}
 use native.Mathlib.Omega.{arith}
 use lib.ListN.{getD, length, replicate}
-use lib.Dec.{eqb, leb, ltb}
+use lib.Dec.{leb, ltb}
 use borrow.Author.Tests.{eq-eqb, ne-eqb, lt-ltb, le-ltb, lt-leb, ltb-true, ltb-false}
 use Rattle.words.specs.Bits.{full}
 use Rattle.words.specs.Array.{array}
@@ -17,10 +17,9 @@ use Rattle.setup.specs.declared.Verdict.{Verdict}
 use Rattle.setup.specs.declared.Setup.{Setup}
 use Rattle.setup.proofs.NextLaws.{andThen, then-next, then-stays, fields-then, check-refused}
 use Rattle.setup.proofs.VerdictLaws.{check-ok, between-of}
-use Rattle.rules.specs.Lag.{skewed}
 use Rattle.rules.specs.Hearing.{wordHeard, readingOf}
 use Rattle.rules.specs.Alignment.{alignedOf}
-use Rattle.rules.specs.Syndrome.{judgementOf, outgoingOf}
+use Rattle.rules.specs.Syndrome.{judgementOf}
 use Rattle.rules.specs.Account.{accountAt, countersOf}
 use Rattle.rules.specs.Range.{InRange}
 use Rattle.rules.proofs.RangeLaws.{fits-in-range}
@@ -29,7 +28,7 @@ use Rattle.rules.specs.declared.Counters.{Counters}
 use Rattle.rules.specs.declared.Judgement.{Judgement}
 use Rattle.presence.specs.Valid.{stateVerdict}
 use Rattle.presence.specs.Opening.{fresh, blank, checkOpening, openOf}
-use Rattle.presence.specs.Step.{skewOf, placeOf, markOf, ownSyndrome, alignedFor, judgementFor, outgoingFor, afterRound, refusedStep, acceptedStep, testedStep, readStep, stepOf}
+use Rattle.presence.specs.Step.{skewOf, placeOf, ownSyndrome, alignedFor, judgementFor, outgoingFor, afterRound, refusedStep, acceptedStep, testedStep, readStep, stepOf}
 use Rattle.presence.specs.declared.State.{State}
 use Rattle.presence.specs.declared.Opened.{Opened}
 use Rattle.presence.specs.declared.Stepped.{Stepped}

@@ -14,6 +14,7 @@ use Rattle.words.proofs.Truth.{and-l, and-r, cond-true}
 use Rattle.words.proofs.BitLaws.{bit-pack, pack-ext, pack-own}
 use Rattle.words.proofs.ArrayLaws.{array-at, array-ext, array-own}
 use Rattle.words.proofs.ByteLaws.{bytes-ext}
+use Rattle.words.proofs.RunLaws.{bytes-own}
 use Rattle.setup.specs.Verdict.{accepted}
 use Rattle.setup.specs.Setup.{sizeIn, limitIn, criticalityIn, setupOf, setupBytes, blankSetup}
 use Rattle.setup.specs.Check.{checkSetup, readSetup}
@@ -21,17 +22,19 @@ use Rattle.setup.specs.declared.Setup.{Setup}
 use Rattle.setup.specs.declared.SetupRead.{SetupRead}
 use Rattle.setup.proofs.CheckLaws.{WordsFit, setup-pass}
 use Rattle.rules.specs.Account.{accountAt}
-use Rattle.setup.proofs.BytesLaws.{bytes-own}
 use Rattle.setup.proofs.RoundTrip.{read-written}
+use Rattle.image.specs.Words.{ownWord, ownIn, viewIn, rowWord, heardIn, rowIn, syndromeWord, syndromeIn, counterWord, counterIn, imageLength}
+use Rattle.image.specs.Check.{checkImage}
+use Rattle.image.proofs.FieldLaws.{penalty-of, reward-of}
+use Rattle.image.proofs.ImageWords.{own-made, row-made, syndrome-made, penalty-made, reward-made, own-back, view-back, own-number-right, own-right, heard-back, row-back, row-right, syndrome-back, syndrome-right, counter-back, penalty-right, reward-right}
+use Rattle.image.proofs.ImageBytes.{setup-length, parts-length, at-front, at-own, at-row, at-latest, at-earlier, at-penalty, at-reward, parts-of}
+use Rattle.setup.proofs.FrontLaws.{words-same, setup-same, setup-written}
+use Rattle.image.proofs.CheckLaws.{TailFits, ImageFits, image-pass, image-ok}
 use Rattle.presence.specs.Valid.{Valid, stateTidy}
-use Rattle.presence.specs.Image.{ownWord, ownIn, viewIn, rowWord, heardIn, rowIn, syndromeWord, syndromeIn, counterWord, counterIn, imageLength, imageOf, stateOf, checkImage}
+use Rattle.presence.specs.Image.{imageOf, stateOf}
 use Rattle.presence.specs.declared.State.{State}
-use Rattle.presence.proofs.ValidLaws.{StateFits, valid-fits, penalty-of, reward-of}
+use Rattle.presence.proofs.ValidLaws.{StateFits, valid-fits}
 use Rattle.presence.proofs.SmallLaws.{Small, valid-small, valid-setup}
-use Rattle.presence.proofs.ImageWords.{own-made, row-made, syndrome-made, penalty-made, reward-made, own-back, view-back, own-number-right, own-right, heard-back, row-back, row-right, syndrome-back, syndrome-right, counter-back, penalty-right, reward-right}
-use Rattle.presence.proofs.ImageBytes.{setup-length, parts-length, at-front, at-own, at-row, at-latest, at-earlier, at-penalty, at-reward, parts-of}
-use Rattle.presence.proofs.FrontLaws.{words-same, setup-same, setup-written}
-use Rattle.presence.proofs.ImageLaws.{TailFits, ImageFits, image-pass, image-ok}
 use Rattle.presence.proofs.LoadLaws.{state-by}
 
 -- ---- an accepted image is saved as it was read

@@ -9,10 +9,10 @@ use Rattle.setup.specs.Check.{setupVerdict}
 use Rattle.setup.specs.declared.Verdict.{Verdict}
 use Rattle.setup.proofs.AnswerLaws.{fits-verdict}
 use Rattle.rules.specs.Account.{accountAt}
+use Rattle.image.proofs.ImageWords.{row-small}
 use Rattle.presence.specs.Valid.{Valid}
 use Rattle.presence.specs.declared.State.{State}
 use Rattle.presence.proofs.ValidLaws.{StateFits, valid-fits}
-use Rattle.presence.proofs.ImageWords.{row-small}
 
 pub record Small (st : State) : Type 0 where
   pub size : st .setup .n ≤ 16

@@ -3,12 +3,12 @@ use mathlib.Core.Path.{_≡_, refl, ap, _∙_, sym, subst}
 use mathlib.Core.Bool.{Bool, true, false, cond}
 use mathlib.Core.Logic.{_≢_}
 use mathlib.Core.List.{List}
-use Prim.Native.Nat.{ℕ, _+_, _-_, _*_, _^_, _<_, _≤_}
+use Prim.Native.Nat.{ℕ, _-_, _*_, _^_, _<_, _≤_}
 use native.Mathlib.Omega.{arith}
 use lib.ListN.{length}
 use lib.Dec.{eqb, ltb}
 use borrow.Author.Tests.{eq-eqb, eqb-true, eqb-false, lt-ltb}
-use Rattle.words.proofs.Truth.{cond-both, cond-true, clash}
+use Rattle.words.proofs.Truth.{cond-both, cond-true}
 use Rattle.setup.specs.Verdict.{accepted, isAccepted, check, between}
 use Rattle.setup.specs.Setup.{blankSetup}
 use Rattle.setup.specs.Check.{checkFields}
@@ -16,7 +16,7 @@ use Rattle.setup.specs.declared.Verdict.{Verdict}
 use Rattle.setup.specs.declared.Setup.{Setup}
 use Rattle.setup.proofs.VerdictLaws.{check-ok, check-pass, between-is, between-of}
 use Rattle.setup.proofs.SetupLaws.{SetupFits, fields-pass, fields-ok}
-use Rattle.rules.specs.Hearing.{busWord, wordHeard, readingOf}
+use Rattle.rules.specs.Hearing.{wordHeard, readingOf}
 use Rattle.rules.specs.Syndrome.{outgoingOf}
 use Rattle.presence.specs.Valid.{stateVerdict, Valid}
 use Rattle.presence.specs.Opening.{fresh, blank, checkOpening, openOf}

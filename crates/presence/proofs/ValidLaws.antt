@@ -1,34 +1,30 @@
 -- A valid state, field by field; a fresh module is valid, and a round keeps it so.
-use mathlib.Core.Path.{_≡_, refl, ap, _∙_, sym}
-use mathlib.Core.Bool.{Bool, true, false, cond, not, _&&_, _||_, Bool·beq}
-use mathlib.Core.Logic.{⊎-elim, _⊎_}
+use mathlib.Core.Path.{_≡_, ap, _∙_, sym}
+use mathlib.Core.Bool.{true}
 use mathlib.Core.List.{List}
-use Prim.Native.Nat.{ℕ, _+_, _*_, _%_, _^_, _<_, _≤_}
+use Prim.Native.Nat.{ℕ, _+_, _*_, _^_, _<_, _≤_}
 use native.Mathlib.Omega.{arith}
-use native.Mathlib.Nat.{eq-zero-or-pos}
 use lib.ListN.{getD, getD-replicate, replicate}
-use lib.Dec.{eqb, leb, ltb}
-use borrow.Author.Tests.{leb-true, ltb-true, le-leb, lt-ltb, eqb-true, eq-eqb, ne-eqb, not-true}
+use lib.Dec.{ltb}
+use borrow.Author.Tests.{ltb-true, le-leb, lt-ltb}
 use Rattle.words.specs.Bits.{bit, full}
-use Rattle.words.specs.Array.{array, clearFrom}
-use Rattle.words.proofs.Truth.{and-l, and-r, and-true, or-l, or-r, or-cases, beq-eq, beq-refl, clash, not-both}
+use Rattle.words.specs.Array.{clearFrom}
+use Rattle.words.proofs.Truth.{and-true}
 use Rattle.words.proofs.BitLaws.{pack-lt, full-lt, bit-full}
 use Rattle.words.proofs.ArrayLaws.{array-at, array-clear, clear-of}
-use Rattle.setup.specs.Verdict.{accepted, check, checkEach, between}
-use Rattle.setup.specs.Check.{checkFields}
+use Rattle.setup.specs.Verdict.{accepted, between}
 use Rattle.setup.specs.declared.Setup.{Setup}
 use Rattle.setup.specs.declared.Verdict.{Verdict}
 use Rattle.setup.proofs.VerdictLaws.{check-ok, check-pass, each-ok, each-pass, between-is, between-of}
 use Rattle.setup.proofs.SetupLaws.{SetupFits, fields-pass, fields-ok}
-use Rattle.words.specs.Word.{wordAt}
-use Rattle.rules.specs.Hearing.{wordHeard, entryOf, readingOf}
+use Rattle.rules.specs.Hearing.{readingOf}
 use Rattle.rules.specs.Account.{accountAt, countersOf}
-use Rattle.presence.specs.Valid.{rowFits, penaltyFits, rewardFits, stateTidy, checkState, stateVerdict, Valid}
+use Rattle.image.specs.Fits.{rowFits, penaltyFits, rewardFits}
+use Rattle.image.proofs.FieldLaws.{account-is, penalty-of, reward-of, reading-fits}
+use Rattle.presence.specs.Valid.{stateTidy, checkState, stateVerdict, Valid}
 use Rattle.presence.specs.Opening.{fresh}
 use Rattle.presence.specs.Step.{judgementFor, afterRound}
 use Rattle.presence.specs.declared.State.{State}
-use Rattle.rules.specs.declared.Reading.{Reading}
-use Rattle.rules.proofs.HearingLaws.{heard-is, reading-heard, reading-row}
 use Rattle.rules.proofs.SyndromeLaws.{syndrome-lt}
 use Rattle.rules.proofs.AccountLaws.{AccountFits, counters-fit}
 
@@ -43,36 +39,6 @@ pub record StateFits (st : State) : Type 0 where
   pub accounts : (j : ℕ) → j < st .setup .n
       → AccountFits (st .setup .p) (st .setup .r) (getD (st .setup .criticality) j 0) (accountAt (st .counters) j)
   pub tidy : stateTidy st ≡ true
-
--- ---- one account, as its two words are tested
-
-pub account-is : (p r k : ℕ) (present : Bool) (penalty reward : ℕ) → penaltyFits p k present penalty ≡ true → rewardFits r penalty reward ≡ true
-    → AccountFits p r k (record { present = present; penalty = penalty; reward = reward })
-unfolding penaltyFits rewardFits
-account-is p r k present penalty reward e d = record {
-  penalty = leb-true penalty (p + k) (and-l (leb penalty (p + k)) _ e);
-  view = beq-eq present (leb penalty p) (and-r (leb penalty (p + k)) _ e);
-  reward = ltb-true reward r (and-l (ltb reward r) _ d);
-  unowed = λ z.
-      ⊎-elim (λ t. eqb-true reward 0 t) (λ t. clash (eqb penalty 0) (eq-eqb penalty 0 z) (not-both (eqb penalty 0) t))
-      (or-cases (eqb reward 0) (not (eqb penalty 0)) (and-r (ltb reward r) _ d));
-}
-
-pub penalty-of : (p r k : ℕ) (present : Bool) (penalty reward : ℕ)
-    → AccountFits p r k (record { present = present; penalty = penalty; reward = reward }) → penaltyFits p k present penalty ≡ true
-unfolding penaltyFits
-penalty-of p r k present penalty reward f =
-    and-true (leb penalty (p + k)) _ (le-leb penalty (p + k) (f .penalty)) (rw (f .view) (beq-refl (leb penalty p)))
-
-pub reward-of : (p r k : ℕ) (present : Bool) (penalty reward : ℕ)
-    → AccountFits p r k (record { present = present; penalty = penalty; reward = reward }) → rewardFits r penalty reward ≡ true
-unfolding rewardFits
-reward-of p r k present penalty reward f =
-    and-true (ltb reward r) _ (lt-ltb reward r (f .reward))
-    (⊎-elim (λ (z : penalty ≡ 0). or-l (eqb reward 0) _ (eq-eqb reward 0 (f .unowed z)))
-    (λ (h : 0 < penalty). or-r (eqb reward 0) _ (ap not (ne-eqb penalty 0 (λ z. omega arith)))) (eq-zero-or-pos penalty))
-
--- ---- all of a state
 
 pub valid-fits : (st : State) → Valid st → StateFits st
 unfolding stateVerdict checkState accountAt
@@ -158,19 +124,6 @@ fresh-fits s own f h l =
     }
 
 -- ---- a round
-
-entry-fits : (n : ℕ) (on : Bool) (w : ℕ) → rowFits n (entryOf n on w .heard) (entryOf n on w .row) ≡ true
-unfolding entryOf rowFits
-entry-fits n on w = go (on && wordHeard n w) refl
-  where
-    go : (b : Bool) → on && wordHeard n w ≡ b → ltb (cond b (w % 2 ^ 28) 0) (cond b (2 ^ n) 1) ≡ true
-    go true t = lt-ltb _ _ (heard-is n w (and-r on (wordHeard n w) t) .1)
-    go false f = lt-ltb 0 1 (omega arith)
-
-reading-fits : (n : ℕ) (read : List ℕ) (controller j : ℕ) → j < n → n ≤ 16
-    → rowFits n (bit (readingOf n read controller .heard) j) (getD (readingOf n read controller .rows) j 0) ≡ true
-reading-fits n read controller j h small =
-    rw (reading-heard n read controller j h, reading-row n read controller j h small) (entry-fits n (bit controller j) (wordAt read j))
 
 pub after-fits : (st : State) (read : List ℕ) (controller : ℕ) → StateFits st
     → StateFits (afterRound st (readingOf (st .setup .n) read controller))

@@ -1,21 +1,19 @@
 -- What C calls: the answer, and the output at exit, which a refusal leaves as it was. (document 01, "What runs"; "Answers and their order")
 use Prim.Native.Nat.{ℕ}
-use mathlib.Core.Bool.{Bool, cond}
+use mathlib.Core.Bool.{cond}
 use mathlib.Core.List.{List}
 use lib.Dec.{eqb}
 use Rattle.setup.specs.Verdict.{isAccepted}
 use Rattle.setup.specs.Setup.{setupOf}
 use Rattle.setup.specs.Check.{checkSetup}
-use Rattle.setup.specs.declared.Verdict.{Verdict}
 use Rattle.rules.specs.Hearing.{busWord}
+use Rattle.image.specs.Check.{checkImage}
 use Rattle.presence.specs.Opening.{openOf}
 use Rattle.presence.specs.Step.{markOf, stepOf}
-use Rattle.presence.specs.Image.{imageOf, stateOf, checkImage, roomFor}
+use Rattle.presence.specs.Image.{imageOf, stateOf, roomFor}
 use Rattle.presence.specs.declared.Answer.{Answer}
 use Rattle.presence.specs.declared.Outgoing.{Outgoing}
 use Rattle.presence.specs.declared.State.{State}
-use Rattle.presence.specs.declared.Opened.{Opened}
-use Rattle.presence.specs.declared.Stepped.{Stepped}
 
 -- the answer and the output at exit
 pub record Called : Type 0 where

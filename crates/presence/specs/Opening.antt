@@ -1,6 +1,6 @@
 -- Opening a module from a setup and its own number. (document 01, "One step", last paragraph; number 7)
 use Prim.Native.Nat.{ℕ}
-use mathlib.Core.Bool.{Bool, cond}
+use mathlib.Core.Bool.{cond}
 use mathlib.Core.List.{List}
 use lib.ListN.{replicate}
 use Rattle.words.specs.Bits.{full}

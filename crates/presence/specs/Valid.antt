@@ -1,30 +1,17 @@
 -- Which states are accepted, and the number and index by which the others are refused: 1 to 8, as their image would be.
 -- (document 01, "Answers and their order", number 8)
-use Prim.Native.Nat.{ℕ, _+_, _*_, _^_}
+use Prim.Native.Nat.{_+_, _*_, _^_}
 use mathlib.Core.Path.{_≡_}
-use mathlib.Core.Bool.{Bool, true, cond, not, _&&_, _||_, Bool·beq}
+use mathlib.Core.Bool.{Bool, _&&_}
 use lib.ListN.{getD}
-use lib.Dec.{eqb, leb, ltb}
+use lib.Dec.{ltb}
 use Rattle.words.specs.Bits.{bit}
 use Rattle.words.specs.Array.{clearFrom}
-use Rattle.setup.specs.Verdict.{accepted, isAccepted, check, checkEach, between}
+use Rattle.setup.specs.Verdict.{accepted, check, checkEach, between}
 use Rattle.setup.specs.Check.{checkFields}
 use Rattle.setup.specs.declared.Verdict.{Verdict}
+use Rattle.image.specs.Fits.{rowFits, penaltyFits, rewardFits}
 use Rattle.presence.specs.declared.State.{State}
-
--- ---- what holds of the fields
-
--- no bit at N or above, and no row where the module was not heard
-unfoldable pub rowFits : ℕ → Bool → ℕ → Bool
-rowFits n heard row = ltb row (cond heard (2 ^ n) 1)
-
--- at most P + criticality; in the view exactly where it is not over P
-unfoldable pub penaltyFits : ℕ → ℕ → Bool → ℕ → Bool
-penaltyFits p criticality present penalty = leb penalty (p + criticality) && Bool·beq present (leb penalty p)
-
--- below R, and 0 where the penalty is 0
-unfoldable pub rewardFits : ℕ → ℕ → ℕ → Bool
-rewardFits r penalty reward = ltb reward r && (eqb reward 0 || not (eqb penalty 0))
 
 -- entries from N on are 0: no word of an image holds them
 unfoldable pub stateTidy : State → Bool

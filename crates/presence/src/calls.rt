@@ -2,16 +2,17 @@
 use crate::Answer;
 use crate::Outgoing;
 use crate::State;
-use crate::check::check_image;
 use crate::load::load;
 use crate::save::save_words;
+use image::check::check_image;
 use setup::check::check_head;
 use setup::check::size_at;
 use words::bits::bit_at;
 use words::word::field;
 use words::word::word_at;
 ghost use mathlib.Core.Path.{_≡_};
-ghost use Rattle.presence.specs.Image.{stateOf, checkImage};
+ghost use Rattle.image.specs.Check.{checkImage};
+ghost use Rattle.presence.specs.Image.{stateOf};
 ghost use Rattle.presence.specs.Calls.{answer, called, checkCall, openCall, stepCall, saveCall, handedOut, outgoingCall};
 
 // An answer without health.

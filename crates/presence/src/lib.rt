@@ -3,8 +3,6 @@
 // This file has what a module holds and what its opening and its step answer. Entries and bits of module j + 1 stand at j;
 // those from n on are 0.
 pub mod calls;
-pub mod check;
-pub mod image_word;
 pub mod load;
 pub mod open;
 pub mod save;

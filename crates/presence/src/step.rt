@@ -8,7 +8,7 @@ use words::bits::pick;
 use words::bits::power;
 ghost use mathlib.Core.Path.{_≡_};
 ghost use Rattle.presence.specs.Valid.{Valid};
-ghost use Rattle.presence.specs.Step.{placeOf, markOf, ownSyndrome, judgementFor, outgoingFor, afterRound, refusedStep, testedStep, readStep, stepOf};
+ghost use Rattle.presence.specs.Step.{placeOf, markOf, judgementFor, outgoingFor, afterRound, refusedStep, testedStep, readStep, stepOf};
 
 impl State {
     // The module's own read place.

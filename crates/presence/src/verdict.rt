@@ -1,74 +1,21 @@
 // The check of a state that is already a struct, by the numbers and indexes that its words would get.
 use crate::State;
-use crate::image_word::penalty_fits;
-use crate::image_word::reward_fits;
-use crate::image_word::row_fits;
+use image::fields::wrong_penalties;
+use image::fields::wrong_rewards;
+use image::fields::wrong_rows;
 use setup::Verdict;
 use setup::check::answer;
 use words::array::all_clear;
-use words::bits::bit_at;
 use words::bits::power;
 ghost use mathlib.Core.Path.{_≡_};
-ghost use mathlib.Core.Bool.{not};
-ghost use Prim.Native.Nat.{ℕ, _+_, _*_, _^_, _≤_, _<_};
+ghost use Prim.Native.Nat.{_+_, _*_, _^_, _≤_, _<_};
 ghost use lib.ListN.{getD};
 ghost use lib.Dec.{ltb};
 ghost use Rattle.words.specs.Bits.{bit};
-ghost use Rattle.words.specs.Count.{lowest};
 ghost use Rattle.setup.specs.Verdict.{accepted, check, checkEach};
 ghost use Rattle.setup.specs.Check.{setupVerdict};
-ghost use Rattle.presence.specs.Valid.{rowFits, penaltyFits, rewardFits, stateTidy, checkState, stateVerdict};
-
-// The first module whose row does not fit, or 0.
-fn wrong_rows(n: usize, heard: u32, rows: [u32; 16]) -> usize
-    requires { ⌜ n ≤ 16 ⌝ }
-    ensures { λ r. ⌜ r ≡ lowest n (λ j. not (rowFits n (bit heard j) (getD rows j 0))) ⌝ }
-{
-    let mut j: usize = 0;
-    loop {
-        if n <= j {
-            break 0;
-        }
-        if !row_fits(n, bit_at(heard, j), rows[j]) {
-            break j + 1;
-        }
-        j += 1;
-    }
-}
-
-// The first module whose penalty does not fit, or 0.
-fn wrong_penalties(n: usize, p: u32, criticality: [u32; 16], view: u32, penalty: [u32; 16]) -> usize
-    requires { ⌜ (n ≤ 16) × (p < 2 ^ 28) × ((j : ℕ) → j < n → getD criticality j 0 < 2 ^ 17) ⌝ }
-    ensures { λ r. ⌜ r ≡ lowest n (λ j. not (penaltyFits p (getD criticality j 0) (bit view j) (getD penalty j 0))) ⌝ }
-{
-    let mut j: usize = 0;
-    loop {
-        if n <= j {
-            break 0;
-        }
-        if !penalty_fits(p, criticality[j], bit_at(view, j), penalty[j]) {
-            break j + 1;
-        }
-        j += 1;
-    }
-}
-
-// The first module whose reward does not fit, or 0.
-fn wrong_rewards(n: usize, limit: u32, penalty: [u32; 16], reward: [u32; 16]) -> usize
-    requires { ⌜ n ≤ 16 ⌝ }
-    ensures { λ r. ⌜ r ≡ lowest n (λ j. not (rewardFits limit (getD penalty j 0) (getD reward j 0))) ⌝ }
-{
-    let mut j: usize = 0;
-    loop {
-        if n <= j {
-            break 0;
-        }
-        if !reward_fits(limit, penalty[j], reward[j]) {
-            break j + 1;
-        }
-        j += 1;
-    }
-}
+ghost use Rattle.image.specs.Fits.{rowFits, penaltyFits, rewardFits};
+ghost use Rattle.presence.specs.Valid.{stateTidy, checkState, stateVerdict};
 
 // Whether nothing stands in the entries from n on.
 fn tidy(state: State) -> bool

@@ -7,9 +7,9 @@ use Rattle.words.specs.Count.{lowest}
 use Rattle.setup.specs.Verdict.{check, checkEach}
 use Rattle.setup.specs.Check.{moduleFits, markFits, whole, headOk, limitOk, moduleOk, markOk, checkHead, checkWords, checkFront}
 use Rattle.script.specs.Words.{castOk, eventOk, playOk}
-use Rattle.script.specs.Check.{refusal, scanned, finished, scan, checkPlay, checkScript}
+use Rattle.script.specs.Check.{playRefusal, eventRefusal, refusal, scanned, finished, scan, checkPlay, checkScript}
 use Rattle.script.specs.Cases.{right, cases}
 
 pub cases-right : right cases ≡ true
-unfolding wordAt bytesOf bit lowest check checkEach moduleFits markFits whole headOk limitOk moduleOk markOk checkHead checkWords checkFront castOk eventOk playOk refusal scanned finished scan checkPlay checkScript
+unfolding wordAt bytesOf bit lowest check checkEach moduleFits markFits whole headOk limitOk moduleOk markOk checkHead checkWords checkFront castOk eventOk playOk playRefusal eventRefusal refusal scanned finished scan checkPlay checkScript
 cases-right = refl

@@ -1,1 +1,7 @@
 pub mod Cases
+pub mod ScanLaws
+pub mod GatherLaws
+pub mod EventLaws
+pub mod AheadLaws
+pub mod PlaceLaws
+pub mod CastLaws

@@ -1,5 +1,5 @@
 -- Run scripts and their verdicts: the examples of document 01's table of answers, and the order of the numbers. Computed in proofs/Cases.antt.
-use Prim.Native.Nat.{ℕ, _+_}
+use Prim.Native.Nat.{ℕ}
 use mathlib.Core.Bool.{Bool, true, _&&_}
 use mathlib.Core.List.{List, [], _∷_, _++_}
 use lib.Dec.{eqb}

@@ -1,6 +1,6 @@
 -- Which run scripts are accepted, and the number and index by which the others are refused: 16, then 1 to 6, then 12, 13 and 15 word by word, 14 last.
 -- (document 01, "Answers and their order")
-use Prim.Native.Nat.{ℕ, zero, suc, _+_, _-_, _*_, _/_, _%_, _^_}
+use Prim.Native.Nat.{ℕ, zero, suc, _+_, _-_, _/_}
 use mathlib.Core.Bool.{Bool, true, false, cond, not, _&&_, _||_}
 use mathlib.Core.List.{List}
 use lib.ListN.{length}
@@ -16,12 +16,19 @@ use Rattle.script.specs.declared.Scan.{Scan}
 
 -- ---- one word after the cast
 
--- 12: a wrong kind, spare bits, sender, mask or count; 13: a lie by one outside the cast; 15: over 100,000 rounds; a told word is taken as it is
+-- 12: a wrong count; 15: over 100,000 rounds
+unfoldable pub playRefusal : ℕ → ℕ → ℕ
+playRefusal rounds w = cond (playOk w) (cond (leb (rounds + roundsIn w) 100000) 0 15) 12
+
+-- 12: a wrong kind, spare bits, sender or mask; 13: a lie by one outside the cast
+unfoldable pub eventRefusal : ℕ → ℕ → ℕ → ℕ
+eventRefusal n cast w = cond (between 7 8 (kindOf w) && eventOk n w) (cond (eqb (kindOf w) 7 || bit cast (senderIn w - 1)) 0 13) 12
+
+-- a told word is taken as it is
 unfoldable pub refusal : ℕ → ℕ → Scan → ℕ → ℕ
 refusal n cast sc w =
     cond (sc .told) 0
-    (cond (eqb (kindOf w) 9) (cond (playOk w) (cond (leb (sc .rounds + roundsIn w) 100000) 0 15) 12)
-    (cond (between 7 8 (kindOf w) && eventOk n w) (cond (eqb (kindOf w) 7 || bit cast (senderIn w - 1)) 0 13) 12))
+    (cond (eqb (kindOf w) 9) (playRefusal (sc .rounds) w) (eventRefusal n cast w))
 
 -- what is known after a word that is not refused
 unfoldable pub scanned : Scan → ℕ → Scan

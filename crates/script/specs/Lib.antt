@@ -3,3 +3,5 @@ pub mod Check
 pub mod Cases
 pub mod Events
 pub mod Cursor
+pub mod Told
+pub mod Rounds

@@ -1,5 +1,5 @@
 -- The words of a run script after its setup: one 6, then 7, 8, 9. (document 01, "What runs")
-use Prim.Native.Nat.{ℕ, _+_, _*_, _/_, _%_, _^_}
+use Prim.Native.Nat.{ℕ, _/_, _%_, _^_}
 use mathlib.Core.Bool.{Bool, _&&_}
 use lib.Dec.{eqb, ltb}
 use Rattle.words.specs.Word.{field}

@@ -1,8 +1,9 @@
 pub mod VerdictLaws
+pub mod AcceptLaws
 pub mod SetupLaws
 pub mod CheckLaws
 pub mod NextLaws
 pub mod AnswerLaws
-pub mod BytesLaws
 pub mod WordFields
 pub mod RoundTrip
+pub mod FrontLaws

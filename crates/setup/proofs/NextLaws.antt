@@ -28,6 +28,15 @@ then-next v next e = cond-true next v (eq-eqb (v .number) 0 e)
 pub then-stays : (v next : Verdict) → (v .number ≡ 0 → ⊥) → andThen v next ≡ v
 then-stays v next f = cond-false next v (ne-eqb (v .number) 0 f)
 
+-- ---- v answers the first of two checks, w both
+
+module _ {v a w : Verdict} (next : Verdict) (e : v ≡ a) (t : w ≡ andThen a next) where
+  pub first-stays : (v .number ≡ 0 → ⊥) → v ≡ w
+  first-stays f = sym (then-stays v next f) ∙ ap (λ (x : Verdict). cond (isAccepted x) next x) e ∙ sym t
+
+  pub second-answers : v .number ≡ 0 → next ≡ w
+  second-answers z = sym (then-next v next z) ∙ ap (λ (x : Verdict). cond (isAccepted x) next x) e ∙ sym t
+
 -- ---- the answer of one check
 
 pub check-refused : (ok : Bool) (number index : ℕ) (next : Verdict) → ok ≡ false → check ok number index next ≡ verdict number index

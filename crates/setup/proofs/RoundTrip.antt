@@ -14,6 +14,7 @@ use Rattle.words.proofs.Truth.{and-l, and-r, and-true}
 use Rattle.words.proofs.BitLaws.{bit-pack, pack-lt, pack-ext, pack-own}
 use Rattle.words.proofs.ArrayLaws.{array-at, array-clear, array-ext, array-own}
 use Rattle.words.proofs.ByteLaws.{bytes-length, word-of, bytes-ext}
+use Rattle.words.proofs.RunLaws.{word-first, word-after, bytes-join, bytes-own}
 use Rattle.setup.specs.declared.Setup.{Setup}
 use Rattle.setup.specs.Verdict.{accepted}
 use Rattle.setup.specs.Setup.{headWord, sizeIn, limitWord, limitIn, moduleWord, markIn, placeIn, criticalityIn, setupLength, setupOf, setupBytes}
@@ -21,7 +22,6 @@ use Rattle.setup.specs.Check.{moduleFits, markFits, moduleOk, markOk, se
 use Rattle.setup.proofs.SetupLaws.{SetupFits, module-is, module-of}
 use Rattle.setup.proofs.CheckLaws.{WordsFit, BytesFit, setup-pass, setup-ok}
 use Rattle.setup.proofs.AnswerLaws.{read-accepted, verdict-fits, fits-verdict}
-use Rattle.setup.proofs.BytesLaws.{word-first, word-after, bytes-join, bytes-own}
 use Rattle.setup.proofs.WordFields.{head-made, head-right, size-back, limit-made, limit-right, limit-back, module-made, number-back, mark-back, place-back, criticality-back}
 
 -- ---- bytes that pass the check

@@ -2,7 +2,7 @@
 use Prim.Native.Nat.{ℕ, zero, suc, _+_, _≤_, _<_, zero-le}
 use mathlib.Core.Path.{_≡_, refl, sym, ap, ap₂, _∙_}
 use mathlib.Core.Bool.{Bool, true, false, not, _&&_, _||_}
-use mathlib.Core.Logic.{_⊎_, inl, inr, ⊎-elim, _≢_}
+use mathlib.Core.Logic.{_⊎_, ⊎-elim}
 use native.Mathlib.Omega.{arith}
 use native.Mathlib.Nat.{le-refl, le-of-suc-le-suc, not-suc-le-zero, eq-or-lt-of-le, lt-suc-self}
 use native.Mathlib.Numerals.{add-one}
@@ -10,7 +10,7 @@ use lib.Dec.{eqb}
 use borrow.Author.Tests.{eqb-true, ne-eqb}
 use Rattle.words.specs.Bits.{b2n}
 use Rattle.words.specs.Count.{count, any, all}
-use Rattle.words.proofs.Truth.{clash, which, and-l, and-r, and-true, or-l, or-r, or-cases}
+use Rattle.words.proofs.Truth.{clash, which, and-l, and-r, and-true, or-l, or-r, or-cases, iff-eq}
 
 -- a number below n is below suc n
 up : {l n : ℕ} → l < n → l < suc n
@@ -69,6 +69,17 @@ pub all-intro : (n : ℕ) (p : ℕ → Bool) → ((l : ℕ) → l < n → p l �
 unfolding all
 all-intro zero p h = refl
 all-intro (suc n) p h = and-true (all n p) (p n) (all-intro n p (λ l g. h l (up g))) (h n (lt-suc-self n))
+
+-- two tests of each
+pub all-both : (n : ℕ) (p q : ℕ → Bool) → all n (λ j. p j && q j) ≡ all n p && all n q
+all-both n p q =
+    iff-eq _ _
+    (λ t.
+    and-true (all n p) _ (all-intro n p (λ j h. and-l (p j) (q j) (all-at n (λ j. p j && q j) t j h)))
+    (all-intro n q (λ j h. and-r (p j) (q j) (all-at n (λ j. p j && q j) t j h))))
+    (λ t.
+    all-intro n (λ j. p j && q j)
+    (λ j h. and-true (p j) (q j) (all-at n p (and-l (all n p) _ t) j h) (all-at n q (and-r (all n p) _ t) j h)))
 
 -- ---- `count`
 

@@ -67,6 +67,17 @@ module _ (p : ℕ → Bool) where
   lowest-empty zero h = refl
   lowest-empty (suc n) h = rw (lowest-empty n (λ i l. h i (omega arith)), h n (lt-suc-self n))
 
+  -- k + 1: the number k passes
+  pub lowest-passes : (n k : ℕ) → lowest n p ≡ k + 1 → p k ≡ true
+  unfolding lowest
+  lowest-passes zero k e = absurd (omega arith)
+  lowest-passes (suc n) k e = go (λ q. lowest-passes n k q) (lowest n p) (p n) refl refl e
+    where
+      go : (lowest n p ≡ k + 1 → p k ≡ true) → (l : ℕ) (b : Bool) → lowest n p ≡ l → p n ≡ b → cond (eqb l 0) (cond b (n + 1) 0) l ≡ k + 1 → p k ≡ true
+      go f zero true q r z = let x : k ≡ n = omega arith in rw x r
+      go f zero false q r z = absurd (omega arith)
+      go f (suc l) b q r z = f (q ∙ (rw (ne-eqb (suc l) 0 (omega arith)) at z))
+
 pub lowest-ext : (n : ℕ) (p q : ℕ → Bool) → ((i : ℕ) → i < n → p i ≡ q i) → lowest n p ≡ lowest n q
 unfolding lowest
 lowest-ext zero p q h = refl

@@ -1,5 +1,4 @@
 -- Every field is 0.
-use mathlib.Core.Path.{_≡_}
 use borrow.Author.Needs.{needs}
 use Rattle.presence.specs.Opening.{blank}
 use Rattle.presence.proofs.State.blank.Statement.{statement}

@@ -1,5 +1,4 @@
 -- The parts are those of the rules, and N is at most 16.
-use native.Mathlib.Omega.{arith}
 use borrow.Author.Needs.{needs}
 use Rattle.presence.proofs.ValidLaws.{valid-fits}
 use Rattle.presence.proofs.RoundLaws.{judged-made, place-small}

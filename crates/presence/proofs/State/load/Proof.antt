@@ -3,7 +3,8 @@ use native.Mathlib.Omega.{arith}
 use mathlib.Core.Path.{_∙_}
 use borrow.Author.Tests.{not-true, not-false}
 use Rattle.setup.proofs.AnswerLaws.{head-fits}
-use Rattle.presence.proofs.AnswerLaws.{no-head, no-length, by-words, load-refused, load-accepted}
+use Rattle.image.proofs.AnswerLaws.{no-head, no-length, by-words}
+use Rattle.presence.proofs.AnswerLaws.{load-refused, load-accepted}
 use borrow.Author.Needs.{needs}
 use Rattle.presence.proofs.State.load.Statement.{statement}
 use Rattle.presence.proofs.State.load.Tie as tie

@@ -1,7 +1,5 @@
 -- The own number is one of the modules, so its mark is a bit of the vector.
-use mathlib.Core.Path.{_∙_}
 use native.Mathlib.Omega.{arith}
-use borrow.Author.Needs.{needs}
 use Rattle.presence.specs.Step.{markOf}
 use Rattle.presence.proofs.ValidLaws.{valid-fits}
 use Rattle.presence.proofs.State.marked.Statement.{statement}

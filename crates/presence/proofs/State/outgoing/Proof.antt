@@ -1,6 +1,6 @@
 -- Both syndromes have no bits at N or above, so the word fits.
-use mathlib.Core.Path.{ap, ap₂, _∙_, subst, sym}
-use Prim.Native.Nat.{ℕ, _<_, _^_}
+use mathlib.Core.Path.{ap₂, _∙_, subst, sym}
+use Prim.Native.Nat.{_<_, _^_}
 use mathlib.Core.Bool.{Bool}
 use borrow.Author.Needs.{needs}
 use Rattle.rules.specs.Syndrome.{outgoingOf}

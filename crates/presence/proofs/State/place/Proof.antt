@@ -1,7 +1,6 @@
 -- The own number is one of the modules, so its entry is in the array.
 use mathlib.Core.Path.{refl}
 use native.Mathlib.Omega.{arith}
-use borrow.Author.Needs.{needs}
 use Rattle.presence.specs.Step.{placeOf}
 use Rattle.presence.proofs.ValidLaws.{valid-fits}
 use Rattle.presence.proofs.State.place.Statement.{statement}

@@ -1,7 +1,7 @@
 -- Each test refuses by its number; what passes is the round.
 use native.Mathlib.Omega.{arith}
 use borrow.Author.Needs.{needs}
-use mathlib.Core.Path.{_≡_, ap, _∙_, subst}
+use mathlib.Core.Path.{ap, _∙_, subst}
 use Prim.Native.Nat.{ℕ, _≤_, _<_}
 use Rattle.rules.specs.declared.Reading.{Reading}
 use Rattle.presence.specs.Step.{testedStep}

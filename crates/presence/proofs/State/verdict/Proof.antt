@@ -1,10 +1,9 @@
 -- The answer for the setup, then that for the rest of the state.
 use mathlib.Core.Path.{_∙_}
-use Rattle.setup.proofs.NextLaws.{fields-then}
+use Rattle.setup.proofs.NextLaws.{first-stays, second-answers, fields-then}
 use Rattle.setup.proofs.AnswerLaws.{struct-fits, struct-verdict}
 use Rattle.setup.specs.Check.{setupVerdict}
 use Rattle.presence.specs.Valid.{stateVerdict}
-use Rattle.presence.proofs.AnswerLaws.{first-stays, second-answers}
 use borrow.Author.Needs.{needs}
 use Rattle.presence.proofs.State.verdict.Statement.{statement}
 use Rattle.presence.proofs.State.verdict.Tie as tie

@@ -4,9 +4,9 @@ use borrow.Author.Needs.{needs}
 use mathlib.Core.Path.{refl, ap, _∙_, sym}
 use Prim.Native.Nat.{ℕ, _+_, _*_}
 use Rattle.setup.proofs.AnswerLaws.{head-fits}
+use Rattle.image.proofs.AnswerLaws.{no-head, no-length}
 use Rattle.presence.specs.declared.Answer.{Answer}
 use Rattle.presence.specs.Calls.{called}
-use Rattle.presence.proofs.AnswerLaws.{no-head, no-length}
 use Rattle.presence.proofs.CallLaws.{words-wrong, words-right, step-bad, size-of, room-size, no-room-size, read-valid, step-of, stepped-valid, stepped-setup, step-no-room, step-refused-call, step-wrote}
 use Rattle.presence.proofs.calls.presence_step.Statement.{statement}
 use Rattle.presence.proofs.calls.presence_step.Tie as tie

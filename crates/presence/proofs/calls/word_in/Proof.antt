@@ -1,7 +1,7 @@
 -- The words stand where the image has them, and the own number names one of the modules.
 use native.Mathlib.Omega.{arith}
 use borrow.Author.Needs.{needs}
-use Rattle.presence.proofs.ImageLaws.{image-pass}
+use Rattle.image.proofs.CheckLaws.{image-pass}
 use Rattle.presence.proofs.CallLaws.{own-most, word-made}
 use Rattle.presence.proofs.calls.word_in.Statement.{statement}
 use Rattle.presence.proofs.calls.word_in.Tie as tie

@@ -1,7 +1,8 @@
 -- The parts give the state and the tests of their words; joined, the tests are those of the whole check.
-use Rattle.presence.proofs.LoadLaws.{loaded-good, state-by, read-limit, read-criticality}
+use Rattle.image.specs.Words.{ownIn, viewIn, syndromeIn}
+use Rattle.image.proofs.ReadLaws.{loaded-good, read-limit, read-criticality}
+use Rattle.presence.proofs.LoadLaws.{state-by}
 use mathlib.Core.Path.{ap, _∙_}
-use Rattle.presence.specs.Image.{ownIn, viewIn, syndromeIn}
 use borrow.Author.Needs.{needs}
 use Rattle.presence.proofs.load.load.Statement.{statement}
 use Rattle.presence.proofs.load.load.Tie as tie

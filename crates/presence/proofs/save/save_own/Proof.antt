@@ -3,7 +3,7 @@ use native.Mathlib.Omega.{arith}
 use mathlib.Core.Path.{refl, ap, sym, _∙_}
 use lib.Seq.{length-take-le}
 use Rattle.words.specs.Word.{wordBytes}
-use Rattle.setup.proofs.BytesLaws.{two-parts}
+use Rattle.words.proofs.RunLaws.{two-parts}
 use Rattle.presence.proofs.SmallLaws.{valid-small}
 use borrow.Author.Needs.{needs}
 use Rattle.presence.proofs.save.save_own.Statement.{statement}

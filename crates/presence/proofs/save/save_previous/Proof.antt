@@ -4,7 +4,7 @@ use Prim.Native.Nat.{_*_}
 use mathlib.Core.Path.{sym}
 use lib.Seq.{length-take-le}
 use Rattle.words.proofs.ByteLaws.{bytes-length}
-use Rattle.setup.proofs.BytesLaws.{two-parts}
+use Rattle.words.proofs.RunLaws.{two-parts}
 use Rattle.presence.proofs.SmallLaws.{valid-small}
 use borrow.Author.Needs.{needs}
 use Rattle.presence.proofs.save.save_previous.Statement.{statement}

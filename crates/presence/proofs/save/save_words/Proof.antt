@@ -3,10 +3,10 @@ use native.Mathlib.Omega.{arith}
 use Prim.Native.Nat.{_+_, _*_}
 use mathlib.Core.Path.{sym}
 use lib.Seq.{length-take-le}
-use Rattle.setup.proofs.BytesLaws.{two-parts}
+use Rattle.words.proofs.RunLaws.{two-parts}
+use Rattle.image.proofs.ImageBytes.{setup-length}
 use Rattle.presence.specs.Image.{imageOf}
 use Rattle.presence.proofs.SmallLaws.{valid-setup}
-use Rattle.presence.proofs.ImageBytes.{setup-length}
 use borrow.Author.Needs.{needs}
 use Rattle.presence.proofs.save.save_words.Statement.{statement}
 use Rattle.presence.proofs.save.save_words.Tie as tie

@@ -1,6 +1,6 @@
 -- Three words written one after the other fill the twelve bytes.
-use Rattle.setup.proofs.BytesLaws.{three-words}
 use borrow.Author.Needs.{needs}
+use Rattle.words.proofs.RunLaws.{three-words}
 use Rattle.setup.proofs.write.write_front.Statement.{statement}
 use Rattle.setup.proofs.write.write_front.Tie as tie
 

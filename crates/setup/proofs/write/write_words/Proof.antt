@@ -2,8 +2,8 @@
 use mathlib.Core.Path.{refl, sym}
 use native.Mathlib.Omega.{arith}
 use lib.Seq.{length-take-le}
+use Rattle.words.proofs.RunLaws.{two-parts}
 use Rattle.setup.specs.Setup.{setupBytes}
-use Rattle.setup.proofs.BytesLaws.{two-parts}
 use Rattle.setup.proofs.AnswerLaws.{verdict-fits}
 use borrow.Author.Needs.{needs}
 use Rattle.setup.proofs.write.write_words.Statement.{statement}

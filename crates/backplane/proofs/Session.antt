@@ -1,0 +1,292 @@
+-- The bench plays a session, and what it prints `in` is agreed.
+use Prim.Native.Nat.{ℕ, zero, suc, _+_, _-_, _*_, _%_, _^_, _<_, _≤_}
+use mathlib.Core.Path.{_≡_, refl, sym, ap, ap₂, _∙_, subst}
+use mathlib.Core.Bool.{Bool, true, false, cond, not, _&&_}
+use mathlib.Core.Logic.{_≢_}
+use mathlib.Core.List.{List}
+use native.Mathlib.Omega.{arith}
+use native.Mathlib.Nat.{le-refl}
+use lib.Dec.{eqb, leb, ltb}
+use lib.ListN.{getD, length, take, replicate, length-replicate}
+use borrow.Author.Tests.{eqb-true, eq-eqb, ne-eqb, ltb-true, lt-ltb, le-leb}
+use Rattle.words.specs.Word.{wordAt}
+use Rattle.words.specs.Bits.{bit, b2n, full}
+use Rattle.words.specs.Count.{all}
+use Rattle.words.specs.Array.{array}
+use Rattle.words.specs.Table.{updated, table}
+use Rattle.words.proofs.Truth.{and-l, and-r, and-true, and-false-r, cond-true}
+use Rattle.words.proofs.BitLaws.{bit-full}
+use Rattle.words.proofs.ArrayLaws.{array-at}
+use Rattle.words.proofs.CountLaws.{all-at}
+use Rattle.words.proofs.TableLaws.{table-at, updated-at, updated-length}
+use Rattle.setup.specs.Verdict.{accepted, isAccepted}
+use Rattle.setup.specs.Setup.{sizeIn, setupLength, setupOf}
+use Rattle.setup.specs.Check.{checkSetup, checkFront, setupPart, readSetup, setupVerdict}
+use Rattle.setup.specs.declared.Setup.{Setup}
+use Rattle.setup.specs.declared.SetupRead.{SetupRead}
+use Rattle.setup.specs.declared.Verdict.{Verdict}
+use Rattle.setup.proofs.VerdictLaws.{check-pass}
+use Rattle.setup.proofs.CheckLaws.{FrontFits, front-pass, head-ok, words-ok}
+use Rattle.setup.proofs.SetupLaws.{fields-ok}
+use Rattle.setup.proofs.FrontLaws.{setup-fits, front-accepted, front-setup}
+use Rattle.rules.specs.Lag.{skewed}
+use Rattle.presence.specs.Opening.{blank, openOf}
+use Rattle.rules.specs.declared.Counters.{Counters}
+use Rattle.presence.specs.declared.State.{State}
+use Rattle.script.specs.Words.{castIn}
+use Rattle.script.specs.Check.{checkPlay, checkScript}
+use Rattle.script.specs.Cursor.{start, advanced, cursorAt}
+use Rattle.script.specs.Told.{castOf}
+use Rattle.script.specs.Rounds.{roundsOf}
+use Rattle.script.specs.declared.Cursor.{Cursor}
+use Rattle.script.specs.declared.Events.{Events}
+use Rattle.script.proofs.CastLaws.{only-cast, plays-all}
+use Rattle.agreement.specs.Session.{Session, Accepted, size, u, follows, bitIn, wordIn, state, health, kept}
+use Rattle.agreement.specs.Life.{Life, opens, steps}
+use Rattle.agreement.specs.Demand.{KeptTo}
+use Rattle.agreement.specs.Existence.{Choice}
+use Rattle.agreement.proofs.Steps.{small}
+use Rattle.agreement.proofs.Demand.{demand-3}
+use Rattle.agreement.proofs.Existence.{existence}
+use Rattle.backplane.specs.Bus.{faultless, arrived}
+use Rattle.backplane.specs.Limit.{hearingOf, keptOver}
+use Rattle.backplane.specs.Play.{stateAt, openedStates, opened, sentWords, steppedStates, answeredHealth, earlier, played}
+use Rattle.backplane.specs.Run.{begun, goesOn, nextOf, runAt}
+use Rattle.backplane.specs.Session.{fateIn, toldIn, PlayedBy, HasSession, Holds, PlaysSession, PrintedIn, InAgrees}
+use Rattle.backplane.specs.declared.Bus.{Bus}
+use Rattle.backplane.specs.declared.Hearing.{Hearing}
+use Rattle.backplane.specs.declared.Backplane.{Backplane}
+use Rattle.backplane.specs.declared.Run.{Run}
+use Rattle.backplane.proofs.RoundLaws.{Carries, Hears, Tells, hears-bus, limit-as, carries, states-as, health-as}
+
+-- ---- round by round
+
+module _ (S : Session) (ok : Accepted S) where
+  abbrev n : ℕ
+  n = size S
+
+  -- the backplane after round k, with what the next round needs of it
+  record Shows (k : ℕ) (b : Backplane) : Type 0 where
+    holds : Holds S k b
+    cast : b .cast ≡ S .cast
+    entries : length (b .states) ≡ 16
+    bus : Carries S ok k (b .bus)
+    hearing : Hears S ok k (b .hearing)
+    before : Hears S ok (k - 1) (b .before)
+
+  carries-first : Carries S ok 0 (faultless n)
+  unfolding faultless bitIn wordIn
+  carries-first = record {
+    bits = λ i j hi hj. ap (λ (x : ℕ). bit x j) (array-at n _ i hi (small S ok)) ∙ bit-full n j hj;
+    words = λ i j hi hj. let s = small S ok in table-at _ (i * 16 + j) (omega arith);
+  }
+
+  shows-first : (b : Backplane) → b ≡ opened (S .setup) (S .cast) → Shows 0 b
+  unfolding opened openedStates state health all
+  shows-first b e = subst (Shows 0) (sym e) (record {
+    holds =
+        record {
+          setup = refl;
+          round = refl;
+          states = λ i hi. updated-at n _ (replicate 16 _) i blank hi (rw (length-replicate {A = State} 16 _) (small S ok));
+          health = λ i hi. array-at n _ i hi (small S ok);
+          kept = refl;
+        };
+    cast = refl;
+    entries = updated-length n _ (replicate 16 _) ∙ length-replicate {A = State} 16 (openOf (S .setup) 1 .state);
+    bus = carries-first;
+    hearing = hears-bus S ok 0 (faultless n) carries-first;
+    before = hears-bus S ok 0 (faultless n) carries-first;
+  })
+
+  -- how round k + 1 - u - 1 was heard
+  earlier-hears : (k : ℕ) (b : Backplane) → Shows k b → Hears S ok (suc k - u S - 1) (earlier b)
+  unfolding earlier
+  earlier-hears k b h =
+      subst (λ (x : Setup). Hears S ok (suc k - u S - 1) (cond (skewed (x .n) (x .places)) (b .before) (b .hearing))) (sym (h .holds .setup))
+      (go (skewed n (S .setup .places)))
+    where
+      go : (t : Bool) → Hears S ok (suc k - b2n t - 1) (cond t (b .before) (b .hearing))
+      go true = let e : suc k - 1 - 1 ≡ k - 1 = omega arith in rw e (h .before)
+      go false = let e : suc k - 0 - 1 ≡ k = omega arith in rw e (h .hearing)
+
+  shows-next : (k : ℕ) (b : Backplane) (e : Events) → Shows k b → Tells S ok k e → Shows (suc k) (played b e)
+  unfolding played steppedStates all kept
+  shows-next k b e h t =
+      let s = h .holds .setup in
+      let this = arrived (b .setup .n) (sentWords (b .setup .n) (b .states)) e in
+      let q : this ≡ arrived n (sentWords n (b .states)) e = ap (λ (x : Setup). arrived (x .n) (sentWords (x .n) (b .states)) e) s in
+      let c : Carries S ok (suc k) this = subst (Carries S ok (suc k)) (sym q) (carries S ok k (b .states) (h .holds .states) e t) in
+      let heard : Hears S ok (suc k) (hearingOf (b .setup .n) (b .cast) this) =
+          subst (Hears S ok (suc k)) (sym (ap₂ (λ (x : Setup) (y : ℕ). hearingOf (x .n) y this) s (h .cast))) (hears-bus S ok (suc k) this c) in
+      let limit : keptOver (b .setup .n) (b .cast) (hearingOf (b .setup .n) (b .cast) this) (earlier b) ≡ kept S (suc k) =
+          ap₂ (λ (x : Setup) (y : ℕ). keptOver (x .n) y (hearingOf (b .setup .n) (b .cast) this) (earlier b)) s (h .cast)
+          ∙ limit-as S ok (suc k) (suc k - u S - 1) _ _ heard (earlier-hears k b h) in
+      let one : suc k - 1 ≡ k = omega arith in
+      record {
+        holds =
+            record {
+              setup = s;
+              round = ap (λ (x : ℕ). x + 1) (h .holds .round) ∙ omega arith;
+              states = λ i hi.
+                  ap (λ (x : Setup). stateAt (steppedStates x (b .states) this (b .bus)) i) s
+                  ∙ states-as S ok k (b .states) (h .holds .states) this (b .bus) c (h .bus) (h .entries) i hi;
+              health = λ i hi.
+                  ap (λ (x : Setup). getD (answeredHealth x (b .states) this (b .bus)) i 0) s
+                  ∙ health-as S ok k (b .states) (h .holds .states) this (b .bus) c (h .bus) i hi;
+              kept = ap₂ (λ (x y : Bool). x && y) (h .holds .kept) limit;
+            };
+        cast = h .cast;
+        entries = updated-length (b .setup .n) _ (b .states) ∙ h .entries;
+        bus = c;
+        hearing = heard;
+        before = rw one (h .hearing);
+      }
+
+-- ---- the setup of an accepted script
+
+module _ (s : List ℕ) (e : checkScript s .number ≡ 0) where
+  front : FrontFits s
+  unfolding checkScript
+  front = front-pass s _ (check-pass (leb (length s) 65536) 16 0 _ (omega arith) e .1) .0
+
+  accepts : setupVerdict (setupOf s) .number ≡ 0
+  unfolding setupVerdict
+  accepts = ap (λ (v : Verdict). v .number) (fields-ok (setupOf s) accepted (setup-fits s (front .front) (front .words) (front .room)))
+
+  front-ok : checkFront s accepted ≡ accepted
+  unfolding checkFront
+  front-ok = head-ok s _ _ (front .front) (le-leb _ _ (front .room)) ∙ words-ok s (sizeIn (wordAt s 0)) accepted (front .words)
+
+  part-is : setupPart s ≡ take (setupLength (sizeIn (wordAt s 0))) s
+  unfolding setupPart
+  part-is = ap (λ (k : ℕ). take k s) (cond-true _ _ (ap isAccepted front-ok))
+
+  setup-read : readSetup (setupPart s) .setup ≡ setupOf s
+  unfolding readSetup
+  setup-read =
+      ap (λ (x : List ℕ). readSetup x .setup) part-is
+      ∙ cond-true _ _ (eq-eqb _ 0 (front-accepted s (front .front) (front .words) (front .room)))
+      ∙ front-setup s (front .front) (front .words) (front .room)
+
+  -- ---- its session: every word as it was sent, but for the lies, which only the cast tells
+
+  lies : ℕ → ℕ → ℕ → Bool
+  lies k i j = ltb i 16 && (ltb j 16 && eqb (fateIn s k i j) 8)
+
+  lies-cast : (k i j : ℕ) → lies k i j ≡ true → bit (castOf s) j ≡ true
+  unfolding lies
+  lies-cast k i j t =
+      let hi = ltb-true i 16 (and-l _ _ t) in
+      let hj = ltb-true j 16 (and-l _ _ (and-r (ltb i 16) _ t)) in
+      let f = eqb-true (fateIn s k i j) 8 (and-r (ltb j 16) _ (and-r (ltb i 16) _ t)) in
+      let r : (i * 16 + j) % 16 ≡ j = omega arith in
+      rw r at (only-cast s e k (i * 16 + j) (omega arith) f)
+
+  choice : Choice
+  choice = record {
+    setup = setupOf s;
+    accepted = accepts;
+    cast = castOf s;
+    controller = λ k i j. not (eqb (fateIn s k i j) 7);
+    lies = lies;
+    told = toldIn s;
+    cast-only = lies-cast;
+  }
+
+  told-lies : (k i j : ℕ) → i < 16 → j < 16 → fateIn s k i j ≡ 8 → lies k i j ≡ true
+  unfolding lies
+  told-lies k i j hi hj f = and-true _ _ (lt-ltb i 16 hi) (and-true _ _ (lt-ltb j 16 hj) (eq-eqb _ 8 f))
+
+  no-lie : (k i j : ℕ) → fateIn s k i j ≢ 8 → lies k i j ≡ false
+  unfolding lies
+  no-lie k i j f = and-false-r (ltb i 16) _ (and-false-r (ltb j 16) _ (ne-eqb _ 8 f))
+
+pub has-session : HasSession
+unfolding choice
+has-session s e =
+    let (S, P) = existence (choice s e) in
+    (S, record {
+      setup = P .setup;
+      accepted = ap (λ (x : Setup). setupVerdict x .number) (P .setup) ∙ accepts s e;
+      cast = P .cast;
+      controller = λ k i j. ap (λ (f : ℕ → ℕ → ℕ → Bool). f k i j) (P .controller);
+      told = λ k i j hi hj f. P .told k i j (told-lies s e k i j hi hj f);
+      as-sent = λ k i j hj f. P .as-sent k i j hj (no-lie s e (suc k) i j f);
+      bound = P .bound;
+    })
+
+-- ---- the run is the session, round by round
+
+run-cursor : (s : List ℕ) (k : ℕ) → runAt s k .cursor ≡ cursorAt s k
+unfolding runAt begun nextOf cursorAt
+run-cursor s zero = refl
+run-cursor s (suc k) = ap (advanced s) (run-cursor s k)
+
+cursor-next : (s : List ℕ) (k : ℕ) → advanced s (runAt s k .cursor) ≡ cursorAt s (suc k)
+unfolding cursorAt
+cursor-next s k = ap (advanced s) (run-cursor s k)
+
+module _ (s : List ℕ) (e : checkScript s .number ≡ 0) (S : Session) (P : PlayedBy s S) where
+  tells : (k : ℕ) → Tells S (P .accepted) k (cursorAt s (suc k) .events)
+  tells k =
+      let h = small S (P .accepted) in
+      record {
+        lost = λ i j hi hj. P .controller (suc k) i j;
+        told = λ i j hi hj f. P .told (suc k) i j (omega arith) (omega arith) f;
+        as-sent = λ i j hi hj f. P .as-sent k i j hj f;
+      }
+
+  -- the next round is played, since the script has one
+  goes-on : (k : ℕ) → suc k ≤ roundsOf s → (b : Backplane) → Holds S k b → goesOn (cursorAt s (suc k)) b ≡ true
+  unfolding goesOn
+  goes-on k hk b h =
+      let p = plays-all s e in
+      let m : b .setup .n ≤ 16 = rw (ap (λ (x : Setup). x .n) (h .setup)) (small S (P .accepted)) in
+      let r : b .round < 100000 = omega (arith, h .round, p .most) in
+      and-true _ _ (ap not (p .playing (suc k) hk)) (and-true _ _ (le-leb _ 16 m) (lt-ltb _ 100000 r))
+
+  next-is : (k : ℕ) → suc k ≤ roundsOf s → Shows S (P .accepted) k (runAt s k .backplane)
+      → runAt s (suc k) .backplane ≡ played (runAt s k .backplane) (cursorAt s (suc k) .events)
+  unfolding runAt nextOf
+  next-is k hk h =
+      let b = runAt s k .backplane in
+      ap (λ (x : Cursor). cond (goesOn x b) (played b (x .events)) b) (cursor-next s k) ∙ cond-true _ _ (goes-on k hk b (h .holds))
+
+  shows : (k : ℕ) → k ≤ roundsOf s → Shows S (P .accepted) k (runAt s k .backplane)
+  unfolding runAt begun
+  shows zero hk = shows-first S (P .accepted) _ (ap₂ opened (setup-read s e ∙ sym (P .setup)) (sym (P .cast)))
+  shows (suc k) hk =
+      let h = shows k (omega arith) in
+      subst (Shows S (P .accepted) (suc k)) (sym (next-is k hk h)) (shows-next S (P .accepted) k _ _ h (tells k))
+
+pub plays-session : PlaysSession
+plays-session s e S P k hk = shows s e S P k hk .holds
+
+-- ---- what is printed `in` is agreed: demand 3
+
+lives : (S : Session) (i k : ℕ) → Life S i k (state S i k) (health S i k)
+unfolding state health
+lives S i zero = opens
+lives S i (suc k) = steps (lives S i k)
+
+kept-to : (S : Session) (k : ℕ) → all k (λ ρ. kept S (suc ρ)) ≡ true → KeptTo S k
+kept-to S k e zero pos hρ = absurd (omega arith)
+kept-to S k e (suc ρ) pos hρ = all-at k (λ x. kept S (suc x)) e ρ (omega arith)
+
+pub in-agrees : InAgrees
+in-agrees s e S P k pos hk t =
+    let b = runAt s k .backplane in
+    let h = plays-session s e S P k hk in
+    let A = demand-3 .agreement S (P .accepted) k (P .bound k) k pos (le-refl k) (kept-to S k (sym (h .kept) ∙ t)) in
+    record {
+      same = λ i i′ fi fi′.
+          let (q, c) = A .agree i i′ _ _ _ _ fi fi′ (lives S i k) (lives S i′ k) in (
+            h .health i (fi .below) ∙ q ∙ sym (h .health i′ (fi′ .below)),
+            ap (λ (x : State). x .counters .view) (h .states i (fi .below))
+                ∙ ap (λ (x : Counters). x .view) c
+                ∙ ap (λ (x : State). x .counters .view) (sym (h .states i′ (fi′ .below))),
+          );
+      charged = λ j hj un i fi. ap (λ (x : ℕ). bit x j) (h .health i (fi .below)) ∙ A .charged j hj un i _ _ fi (lives S i k);
+      cleared = λ j fj here alike i fi. ap (λ (x : ℕ). bit x j) (h .health i (fi .below)) ∙ A .cleared j fj here alike i _ _ fi (lives S i k);
+    }

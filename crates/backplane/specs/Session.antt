@@ -1,0 +1,72 @@
+-- The session that a run script plays is one of demand 3's sessions, and what the bench prints of a round is what the session has.
+-- (document 01, "A session" and "Bench sheet") Proved in proofs/Session.antt.
+use Prim.Native.Nat.{ℕ, suc, _+_, _-_, _*_, _≤_, _<_}
+use mathlib.Core.Path.{_≡_}
+use mathlib.Core.Bool.{Bool, true, false, not}
+use mathlib.Core.Logic.{_≢_}
+use mathlib.Core.List.{List}
+use lib.Dec.{eqb}
+use lib.ListN.{getD}
+use Rattle.words.specs.Bits.{bit}
+use Rattle.words.specs.Count.{all}
+use Rattle.setup.specs.Setup.{setupOf}
+use Rattle.presence.specs.declared.State.{State}
+use Rattle.agreement.specs.Session.{Session, Accepted, size, u, RuleFollower, round, state, health, sent, Bound, unheard, halfHeard, kept}
+use Rattle.script.specs.Check.{checkScript}
+use Rattle.script.specs.Cursor.{cursorAt}
+use Rattle.script.specs.Told.{castOf}
+use Rattle.script.specs.Rounds.{roundsOf}
+use Rattle.backplane.specs.Play.{stateAt}
+use Rattle.backplane.specs.Run.{runAt}
+use Rattle.backplane.specs.declared.Backplane.{Backplane}
+
+-- what becomes in round k of the word from sender j to receiver i, and the word that it is told to send
+abbrev pub fateIn : List ℕ → ℕ → ℕ → ℕ → ℕ
+fateIn s k i j = getD (cursorAt s k .events .fate) (i * 16 + j) 0
+
+abbrev pub toldIn : List ℕ → ℕ → ℕ → ℕ → ℕ
+toldIn s k i j = getD (cursorAt s k .events .told) (i * 16 + j) 0
+
+-- S is the session that the script s plays.
+pub record PlayedBy (s : List ℕ) (S : Session) : Type 0 where
+  pub setup : S .setup ≡ setupOf s
+  pub accepted : Accepted S
+  pub cast : S .cast ≡ castOf s
+  -- a lost word arrives with its controller bit clear, every other one with its bit set
+  pub controller : (k i j : ℕ) → S .controller k i j ≡ not (eqb (fateIn s k i j) 7)
+  -- a told word arrives in place of the one sent
+  pub told : (k i j : ℕ) → i < 16 → j < 16 → fateIn s k i j ≡ 8 → S .word k i j ≡ toldIn s k i j
+  -- every other word is the one that its sender handed out for the round, a rule-breaker's too
+  pub as-sent : (k i j : ℕ) → j < size S → fateIn s (suc k) i j ≢ 8 → S .word (suc k) i j ≡ sent S j (suc k)
+  pub bound : (last : ℕ) → Bound S last
+
+-- every accepted script plays a session
+abbrev pub HasSession : Type 0
+HasSession = (s : List ℕ) → checkScript s .number ≡ 0 → (S : Session) × PlayedBy s S
+
+-- After round k the bench holds what the session has: each module's state and health vector, and whether the limit was kept in every round so far.
+pub record Holds (S : Session) (k : ℕ) (b : Backplane) : Type 0 where
+  pub setup : b .setup ≡ S .setup
+  pub round : b .round ≡ k
+  pub states : (i : ℕ) → i < size S → stateAt (b .states) i ≡ state S i k
+  pub health : (i : ℕ) → i < size S → getD (b .health) i 0 ≡ health S i k
+  pub kept : b .kept ≡ all k (λ ρ. kept S (suc ρ))
+
+abbrev pub PlaysSession : Type 0
+PlaysSession = (s : List ℕ) → checkScript s .number ≡ 0 → (S : Session) → PlayedBy s S → (k : ℕ) → k ≤ roundsOf s → Holds S k (runAt s k .backplane)
+
+-- Of a round that is printed `in`: all rule-followers have the same health vector and view, and demand 3's other two claims hold of what is printed.
+-- The round judged is r = k - 2u - 1.
+pub record PrintedIn (S : Session) (k : ℕ) (b : Backplane) : Type 0 where
+  pub same : (i i′ : ℕ) → RuleFollower S i → RuleFollower S i′
+      → (getD (b .health) i 0 ≡ getD (b .health) i′ 0)
+      × (stateAt (b .states) i .counters .view ≡ stateAt (b .states) i′ .counters .view)
+  pub charged : (j : ℕ) → j < size S → unheard S (k - 2 * u S - 1) j ≡ true
+      → (i : ℕ) → RuleFollower S i → bit (getD (b .health) i 0) j ≡ false
+  pub cleared : (j : ℕ) → RuleFollower S j → ((l : ℕ) → RuleFollower S l → round S (k - 2 * u S - 1) .hears l j ≡ true)
+      → ((l : ℕ) → l < size S → l ≢ j → halfHeard S (k - 2 * u S - 1 - u S - 1) l ≡ false)
+      → (i : ℕ) → RuleFollower S i → bit (getD (b .health) i 0) j ≡ true
+
+abbrev pub InAgrees : Type 0
+InAgrees = (s : List ℕ) → checkScript s .number ≡ 0 → (S : Session) → PlayedBy s S
+    → (k : ℕ) → 0 < k → k ≤ roundsOf s → runAt s k .backplane .kept ≡ true → PrintedIn S k (runAt s k .backplane)

@@ -1,0 +1,6 @@
+pub mod FieldLaws
+pub mod ImageWords
+pub mod ImageBytes
+pub mod CheckLaws
+pub mod ReadLaws
+pub mod AnswerLaws

@@ -1,0 +1,28 @@
+// The words of a saved state: read, checked and written, with no state that holds them. Entries and bits of module j + 1 stand at j.
+use rules::Counters;
+use rules::Reading;
+use setup::Setup;
+
+// The setup of an image, and whether its words after the head are right.
+pub struct SetupPart {
+    pub good: bool,
+    pub setup: Setup,
+}
+
+// The previous read of an image, and whether its words are right.
+pub struct RowsPart {
+    pub good: bool,
+    pub previous: Reading,
+}
+
+// The counters of an image, and whether their words are right.
+pub struct CountersPart {
+    pub good: bool,
+    pub counters: Counters,
+}
+
+pub mod check;
+pub mod fields;
+pub mod read;
+pub mod word;
+pub mod write;

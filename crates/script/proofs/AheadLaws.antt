@@ -1,0 +1,147 @@
+-- What lies ahead of a place in an accepted run script: no word is refused, and the rounds add up to those of the whole.
+use mathlib.Core.Path.{_≡_, refl, ap, _∙_, sym}
+use mathlib.Core.Logic.{_⊎_, inl, inr}
+use mathlib.Core.Bool.{Bool, true, false, cond, not, _&&_, _||_}
+use mathlib.Core.List.{List}
+use Prim.Native.Nat.{ℕ, zero, suc, _+_, _-_, _≤_, _<_}
+use native.Mathlib.Omega.{arith}
+use lib.Dec.{eqb, leb}
+use borrow.Author.Tests.{eqb-true, eqb-false, ltb-true}
+use Rattle.words.specs.Word.{wordAt}
+use Rattle.words.specs.Bits.{bit}
+use Rattle.words.proofs.Truth.{and-l, and-r, not-both, cond-true, cond-false}
+use Rattle.setup.specs.declared.Verdict.{Verdict}
+use Rattle.setup.specs.Verdict.{accepted, check, between}
+use Rattle.setup.proofs.VerdictLaws.{check-pass, between-is}
+use Rattle.script.specs.declared.Scan.{Scan}
+use Rattle.script.specs.Words.{kindOf, senderIn, roundsIn, eventOk, playOk}
+use Rattle.script.specs.Check.{playRefusal, eventRefusal, refusal, scanned, finished, scan}
+use Rattle.script.specs.Rounds.{lastScan}
+use Rattle.script.proofs.ScanLaws.{play-rounds, taken-rounds, scan-step}
+
+-- ---- a word that is taken
+
+pub play-taken : (rounds w : ℕ) → playRefusal rounds w ≡ 0 → 1 ≤ roundsIn w
+unfolding playRefusal
+play-taken rounds w e = go (playOk w) refl e
+  where
+    go : (p : Bool) → playOk w ≡ p → _≡_ {A = ℕ} (cond p (cond (leb (rounds + roundsIn w) 100000) 0 15) 12) 0 → 1 ≤ roundsIn w
+    go true t q = play-rounds w t .0
+    go false t q = absurd (omega arith)
+
+-- a loss, or a lie by a sender of the cast
+pub event-taken : (n cast w : ℕ) → eventRefusal n cast w ≡ 0 → (kindOf w ≡ 7) ⊎ ((kindOf w ≡ 8) × (bit cast (senderIn w - 1) ≡ true))
+unfolding eventRefusal
+event-taken n cast w e = go (between 7 8 (kindOf w) && eventOk n w) (eqb (kindOf w) 7) (bit cast (senderIn w - 1)) refl refl refl e
+  where
+    go : (a b d : Bool) → between 7 8 (kindOf w) && eventOk n w ≡ a → eqb (kindOf w) 7 ≡ b → bit cast (senderIn w - 1) ≡ d
+        → _≡_ {A = ℕ} (cond a (cond (b || d) 0 13) 12) 0 → (kindOf w ≡ 7) ⊎ ((kindOf w ≡ 8) × (bit cast (senderIn w - 1) ≡ true))
+    go true true d s t i q = inl (eqb-true (kindOf w) 7 t)
+    go true false true s t i q =
+        let f = eqb-false (kindOf w) 7 t in
+        let h = between-is 7 8 (kindOf w) (and-l (between 7 8 (kindOf w)) _ s) in
+        inr (omega arith, i)
+    go true false false s t i q = absurd (omega arith)
+    go false b d s t i q = absurd (omega arith)
+
+-- ---- the scan behind a word
+
+module _ (sc : Scan) (w : ℕ) where
+  pub scanned-told : sc .told ≡ true → scanned sc w ≡ record { told = false; pending = true; rounds = sc .rounds }
+  unfolding scanned
+  scanned-told t = cond-true _ _ t
+
+  pub scanned-play : sc .told ≡ false → eqb (kindOf w) 9 ≡ true
+      → scanned sc w ≡ record { told = false; pending = false; rounds = sc .rounds + roundsIn w }
+  unfolding scanned
+  scanned-play f t = cond-false _ _ f ∙ cond-true _ _ t
+
+  pub scanned-event : sc .told ≡ false → eqb (kindOf w) 9 ≡ false
+      → scanned sc w ≡ record { told = eqb (kindOf w) 8; pending = true; rounds = sc .rounds }
+  unfolding scanned
+  scanned-event f t = cond-false _ _ f ∙ cond-false _ _ t
+
+  pub refusal-play : (n cast : ℕ) → sc .told ≡ false → eqb (kindOf w) 9 ≡ true → refusal n cast sc w ≡ playRefusal (sc .rounds) w
+  unfolding refusal
+  refusal-play n cast f t = cond-false _ _ f ∙ cond-true _ _ t
+
+  pub refusal-event : (n cast : ℕ) → sc .told ≡ false → eqb (kindOf w) 9 ≡ false → refusal n cast sc w ≡ eventRefusal n cast w
+  unfolding refusal
+  refusal-event n cast f t = cond-false _ _ f ∙ cond-false _ _ t
+
+  pub rounds-grow : sc .rounds ≤ scanned sc w .rounds
+  unfolding scanned
+  rounds-grow = go (sc .told) (eqb (kindOf w) 9)
+    where
+      go : (t p : Bool) → sc .rounds ≤ (cond {A = Scan} t (record { told = false; pending = true; rounds = sc .rounds })
+          (cond p (record { told = false; pending = false; rounds = sc .rounds + roundsIn w })
+          (record { told = eqb (kindOf w) 8; pending = true; rounds = sc .rounds }))) .rounds
+      go true p = omega arith
+      go false true = omega arith
+      go false false = omega arith
+
+pub finished-is : (sc : Scan) → finished sc ≡ true → (sc .told ≡ false) × (0 < sc .rounds)
+unfolding finished
+finished-is sc t =
+    let a = and-l (not (sc .told) && not (sc .pending)) _ t in
+    (not-both (sc .told) (and-l (not (sc .told)) _ a), ltb-true 0 (sc .rounds) (and-r (not (sc .told) && not (sc .pending)) _ t))
+
+-- ---- all that lies ahead
+
+number-pass : (number index : ℕ) (next : Verdict) → check (eqb number 0) number index next .number ≡ 0 → (number ≡ 0) × (next .number ≡ 0)
+unfolding check
+number-pass number index next e = go (eqb number 0) refl e
+  where
+    go : (b : Bool) → eqb number 0 ≡ b → (cond {A = Verdict} b next (record { number = number; index = index })) .number ≡ 0
+        → (number ≡ 0) × (next .number ≡ 0)
+    go true t q = (eqb-true number 0 t, q)
+    go false f q = absurd (eqb-false number 0 f q)
+
+module _ (s : List ℕ) (n cast count total : ℕ) where
+  pub record Ahead (at : ℕ) (sc : Scan) : Type 0 where
+    pub within : at ≤ count
+    pub taken : scan s n cast (count - at) at sc .number ≡ 0
+    pub last : lastScan s (count - at) at sc .rounds ≡ total
+
+  last-step : (at : ℕ) (sc : Scan) → at < count → lastScan s (count - at) at sc ≡ lastScan s (count - (at + 1)) (at + 1) (scanned sc (wordAt s at))
+  unfolding lastScan
+  last-step at sc h =
+      let z : count - at ≡ suc (count - (at + 1)) = omega arith in
+      rw z
+
+  pub ahead-next : (at : ℕ) (sc : Scan) → at < count → Ahead at sc → (refusal n cast sc (wordAt s at) ≡ 0) × Ahead (at + 1) (scanned sc (wordAt s at))
+  ahead-next at sc h a =
+      let (z, q) = number-pass (refusal n cast sc (wordAt s at)) at _ (rw (scan-step s n cast count at sc h) at (a .taken)) in (
+        z,
+        record { within = omega arith; taken = q; last = ap (λ (x : Scan). x .rounds) (sym (last-step at sc h)) ∙ a .last },
+      )
+
+  pub ahead-ends : (sc : Scan) → Ahead count sc → (sc .told ≡ false) × (0 < sc .rounds) × (sc .rounds ≡ total)
+  unfolding scan lastScan
+  ahead-ends sc a =
+      let z : count - count ≡ 0 = omega arith in
+      let (t, q) = check-pass (finished sc) 14 count accepted (omega arith) (rw z at (a .taken)) in
+      let (f, p) = finished-is sc t in
+      (f, p, rw z at (a .last))
+
+  -- the rounds so far are some of all, of which there are at least 1
+  pub ahead-total : (words at : ℕ) (sc : Scan) → at + words ≡ count → Ahead at sc → (sc .rounds ≤ total) × (0 < total)
+  ahead-total zero at sc h a =
+      let e : at ≡ count = omega arith in
+      let (f, p, q) = ahead-ends sc (rw e at a) in
+      (omega arith, omega arith)
+  ahead-total (suc words) at sc h a =
+      let l : at < count = omega arith in
+      let (b, p) = ahead-total words (at + 1) (scanned sc (wordAt s at)) (omega arith) (ahead-next at sc l a .1) in
+      let g = rounds-grow sc (wordAt s at) in
+      (omega arith, p)
+
+  pub ahead-most : (words at : ℕ) (sc : Scan) → at + words ≡ count → Ahead at sc → sc .rounds ≤ 100000 → total ≤ 100000
+  ahead-most zero at sc h a m =
+      let e : at ≡ count = omega arith in
+      let (f, p, q) = ahead-ends sc (rw e at a) in
+      omega arith
+  ahead-most (suc words) at sc h a m =
+      let l : at < count = omega arith in
+      let (z, b) = ahead-next at sc l a in
+      ahead-most words (at + 1) (scanned sc (wordAt s at)) (omega arith) b (taken-rounds n cast sc (wordAt s at) z m)

@@ -1,0 +1,43 @@
+-- Laws of events: what one more event changes, and that lies by senders of the cast alone stay so.
+use mathlib.Core.Path.{_≡_, _∙_, sym}
+use mathlib.Core.Logic.{⊎-elim}
+use mathlib.Core.Bool.{true, false, cond}
+use Prim.Native.Nat.{ℕ, _+_, _-_, _%_}
+use native.Mathlib.Omega.{arith}
+use lib.Dec.{eqb}
+use lib.ListN.{getD, replicate, getD-replicate}
+use borrow.Author.Tests.{eqb-true}
+use Rattle.words.specs.Bits.{bit}
+use Rattle.words.proofs.TableLaws.{table-at}
+use Rattle.words.proofs.Truth.{which, and-l, cond-true, cond-false}
+use Rattle.script.specs.Words.{kindOf, senderIn}
+use Rattle.script.specs.Events.{none, concerns, withEvent}
+use Rattle.script.specs.Told.{ToldBy}
+use Rattle.script.specs.declared.Events.{Events}
+
+concerns-sender : (w x : ℕ) → concerns w x ≡ true → senderIn w ≡ x % 16 + 1
+unfolding concerns
+concerns-sender w x t = eqb-true (senderIn w) (x % 16 + 1) (and-l (eqb (senderIn w) (x % 16 + 1)) _ t)
+
+pub told-none : (cast : ℕ) → ToldBy cast none
+unfolding none
+told-none cast x h e =
+    let z : _≡_ {A = ℕ} (getD (replicate 256 0) x 0) 0 = getD-replicate {A = ℕ} 256 x 0 0 h in
+    absurd (omega arith)
+
+-- one more event, which is a loss, or a lie by a sender of the cast
+pub told-with : (cast w t : ℕ) (e : Events) → ToldBy cast e → (kindOf w ≡ 8 → bit cast (senderIn w - 1) ≡ true) → ToldBy cast (withEvent e w t)
+unfolding withEvent
+told-with cast w t e old lie x h q =
+    let p : cond (concerns w x) (kindOf w) (getD (e .fate) x 0) ≡ 8 =
+    sym (table-at (λ y. cond (concerns w y) (kindOf w) (getD (e .fate) y 0)) x h) ∙ q
+    in
+    ⊎-elim
+    (λ (c : concerns w x ≡ true).
+    let z : senderIn w - 1 ≡ x % 16 =
+    let d = concerns-sender w x c in
+    omega arith
+    in
+    rw z at (lie (sym (cond-true _ _ c) ∙ p)))
+    (λ (c : concerns w x ≡ false). old x h (sym (cond-false _ _ c) ∙ p))
+    (which (concerns w x))

@@ -1,0 +1,187 @@
+// The check of a run script in lent bytes: 16, then 1 to 6, then 12, 13 and 15 word by word, 14 last.
+use crate::Scan;
+use setup::Verdict;
+use setup::check::answer;
+use setup::check::check_front;
+use setup::check::size_at;
+use words::bits::bit_at;
+use words::bits::pick;
+use words::bits::power;
+use words::word::field;
+use words::word::word_at;
+ghost use mathlib.Core.Path.{_≡_};
+ghost use Prim.Native.Nat.{_-_, _/_, _≤_};
+ghost use lib.ListN.{length};
+ghost use Rattle.setup.specs.Verdict.{check, accepted};
+ghost use Rattle.script.specs.Words.{castOk, eventOk, playOk};
+ghost use Rattle.script.specs.Check.{playRefusal, eventRefusal, refusal, scanned, finished, scan, begun, checkPlay, checkScript};
+
+// Kind 6, no bit at n or above.
+fn cast_ok(n: usize, w: u32) -> bool
+    requires { ⌜ n ≤ 16 ⌝ }
+    ensures { λ r. ⌜ r ≡ castOk n w ⌝ }
+{
+    (w / 268435456 == 6) & (w % 268435456 < power(n))
+}
+
+// A sender from 1 to n; a mask that is not empty, without spare bits and bits at n or above.
+fn event_ok(n: usize, w: u32) -> bool
+    requires { ⌜ n ≤ 16 ⌝ }
+    ensures { λ r. ⌜ r ≡ eventOk n w ⌝ }
+{
+    let sender = field(w, 23, 5) as usize;
+    let receivers = w % 8388608;
+    (1 <= sender) & (sender <= n) & (0 < receivers) & (receivers < power(n))
+}
+
+// Kind 9, from 1 to 1,000 rounds.
+fn play_ok(w: u32) -> bool
+    ensures { λ r. ⌜ r ≡ playOk w ⌝ }
+{
+    let rounds = w % 268435456;
+    (w / 268435456 == 9) & ((1 <= rounds) & (rounds <= 1000))
+}
+
+// The number by which a play of the word w is refused, or 0: 12, then 15.
+fn play_refusal(rounds: u32, w: u32) -> u32
+    requires { ⌜ rounds ≤ 100000 ⌝ }
+    ensures { λ r. ⌜ r ≡ playRefusal rounds w ⌝ }
+{
+    if !play_ok(w) {
+        return 12;
+    }
+    pick(rounds + w % 268435456 <= 100000, 0, 15)
+}
+
+// The number by which a loss or a lie w is refused, or 0: 12, then 13.
+fn event_refusal(n: usize, cast: u32, w: u32) -> u32
+    requires { ⌜ n ≤ 16 ⌝ }
+    ensures { λ r. ⌜ r ≡ eventRefusal n cast w ⌝ }
+{
+    let kind = w / 268435456;
+    if !((7 <= kind) & (kind <= 8) & event_ok(n, w)) {
+        return 12;
+    }
+    let sender = field(w, 23, 5) as usize;
+    pick((kind == 7) | bit_at(cast, sender - 1), 0, 13)
+}
+
+impl Scan {
+    // The number by which the word w is refused, or 0.
+    fn refusal(self, n: usize, cast: u32, w: u32) -> u32
+        requires { ⌜ (n ≤ 16) × (self .rounds ≤ 100000) ⌝ }
+        ensures { λ r. ⌜ r ≡ refusal n cast self w ⌝ }
+    {
+        if self.told {
+            return 0;
+        }
+        if w / 268435456 == 9 {
+            return play_refusal(self.rounds, w);
+        }
+        event_refusal(n, cast, w)
+    }
+
+    // What is known after the word w.
+    fn scanned(self, w: u32) -> Scan
+        requires { ⌜ self .rounds ≤ 100000 ⌝ }
+        ensures { λ r. ⌜ r ≡ scanned self w ⌝ }
+    {
+        let rounds = self.rounds;
+        if self.told {
+            return Scan {
+                told: false,
+                pending: true,
+                rounds,
+            };
+        }
+        let kind = w / 268435456;
+        if kind == 9 {
+            let more = rounds + w % 268435456;
+            return Scan {
+                told: false,
+                pending: false,
+                rounds: more,
+            };
+        }
+        Scan {
+            told: kind == 8,
+            pending: true,
+            rounds,
+        }
+    }
+
+    // No told word missing, every event played, at least one play.
+    fn finished(self) -> bool
+        ensures { λ r. ⌜ r ≡ finished self ⌝ }
+    {
+        !self.told & !self.pending & (0 < self.rounds)
+    }
+}
+
+// Number 14, at the word count.
+fn check_end(scan: Scan, at: usize) -> Verdict
+    requires { ⌜ at ≤ 16384 ⌝ }
+    ensures { λ r. ⌜ r ≡ check (finished «scan») 14 at accepted ⌝ }
+{
+    if scan.finished() {
+        return answer(0, 0);
+    }
+    answer(14, at as u32)
+}
+
+// Numbers 12, 13 and 15 word by word from `from` on, then 14.
+fn check_tail(s: &[u8], n: usize, cast: u32, from: usize) -> Verdict
+    requires { ⌜ (n ≤ 16) × (length (now s) ≤ 65536) × (from ≤ length (now s) / 4) ⌝ }
+    ensures { λ r. ⌜ r ≡ scan (now (s .entry)) n cast (length (now (s .entry)) / 4 - from) from begun ⌝ }
+{
+    let count = s.len() / 4;
+    let mut at = from;
+    let mut so_far = Scan {
+        told: false,
+        pending: false,
+        rounds: 0,
+    };
+    loop {
+        if count <= at {
+            break check_end(so_far, at);
+        }
+        let w = word_at(s, at);
+        let number = so_far.refusal(n, cast, w);
+        if number != 0 {
+            break answer(number, at as u32);
+        }
+        let next = so_far.scanned(w);
+        so_far = next;
+        at += 1;
+    }
+}
+
+// From the cast on.
+fn check_play(s: &[u8], n: usize) -> Verdict
+    requires { ⌜ (n ≤ 16) × (length (now s) ≤ 65536) ⌝ }
+    ensures { λ r. ⌜ r ≡ checkPlay (now (s .entry)) n ⌝ }
+{
+    let count = s.len() / 4;
+    if count <= n + 3 {
+        return answer(14, count as u32);
+    }
+    let w = word_at(s, n + 3);
+    if !cast_ok(n, w) {
+        return answer(12, n as u32 + 3);
+    }
+    check_tail(s, n, w % 268435456, n + 4)
+}
+
+// Numbers 16, 1 to 6, 12 to 15 of a run script.
+pub fn check(s: &[u8]) -> Verdict
+    ensures { λ r. ⌜ r ≡ checkScript (now (s .entry)) ⌝ }
+{
+    if 65536 < s.len() {
+        return answer(16, 0);
+    }
+    let front = check_front(s);
+    if front.number != 0 {
+        return front;
+    }
+    check_play(s, size_at(s))
+}
