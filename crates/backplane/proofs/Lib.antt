@@ -1,4 +1,6 @@
 pub mod HearingLaws
 pub mod PlayLaws
 pub mod RoundLaws
+pub mod StartLaws
+pub mod RunLaws
 pub mod Session

@@ -57,6 +57,7 @@ use Rattle.backplane.specs.declared.Bus.{Bus}
 use Rattle.backplane.specs.declared.Hearing.{Hearing}
 use Rattle.backplane.specs.declared.Backplane.{Backplane}
 use Rattle.backplane.specs.declared.Run.{Run}
+use Rattle.backplane.proofs.StartLaws.{accepts, setup-read}
 use Rattle.backplane.proofs.RoundLaws.{Carries, Hears, Tells, hears-bus, limit-as, carries, states-as, health-as}
 
 -- ---- round by round
@@ -143,32 +144,7 @@ module _ (S : Session) (ok : Accepted S) where
         before = rw one (h .hearing);
       }
 
--- ---- the setup of an accepted script
-
 module _ (s : List ℕ) (e : checkScript s .number ≡ 0) where
-  front : FrontFits s
-  unfolding checkScript
-  front = front-pass s _ (check-pass (leb (length s) 65536) 16 0 _ (omega arith) e .1) .0
-
-  accepts : setupVerdict (setupOf s) .number ≡ 0
-  unfolding setupVerdict
-  accepts = ap (λ (v : Verdict). v .number) (fields-ok (setupOf s) accepted (setup-fits s (front .front) (front .words) (front .room)))
-
-  front-ok : checkFront s accepted ≡ accepted
-  unfolding checkFront
-  front-ok = head-ok s _ _ (front .front) (le-leb _ _ (front .room)) ∙ words-ok s (sizeIn (wordAt s 0)) accepted (front .words)
-
-  part-is : setupPart s ≡ take (setupLength (sizeIn (wordAt s 0))) s
-  unfolding setupPart
-  part-is = ap (λ (k : ℕ). take k s) (cond-true _ _ (ap isAccepted front-ok))
-
-  setup-read : readSetup (setupPart s) .setup ≡ setupOf s
-  unfolding readSetup
-  setup-read =
-      ap (λ (x : List ℕ). readSetup x .setup) part-is
-      ∙ cond-true _ _ (eq-eqb _ 0 (front-accepted s (front .front) (front .words) (front .room)))
-      ∙ front-setup s (front .front) (front .words) (front .room)
-
   -- ---- its session: every word as it was sent, but for the lies, which only the cast tells
 
   lies : ℕ → ℕ → ℕ → Bool
@@ -186,7 +162,7 @@ module _ (s : List ℕ) (e : checkScript s .number ≡ 0) where
   choice : Choice
   choice = record {
     setup = setupOf s;
-    accepted = accepts;
+    accepted = accepts s e;
     cast = castOf s;
     controller = λ k i j. not (eqb (fateIn s k i j) 7);
     lies = lies;

@@ -1,31 +1,27 @@
+-- The check answers first; what it accepts is begun.
+use mathlib.Core.Path.{sym, ap, _∙_}
+use borrow.Author.Needs.{needs}
+use Rattle.setup.specs.declared.Verdict.{Verdict}
+use Rattle.backplane.specs.Run.{begun, idle}
+use Rattle.backplane.proofs.RunLaws.{start-refused, start-begun}
 use borrow.Author.Needs.{needs}
 use Rattle.backplane.proofs.Run.start.Statement.{statement}
 use Rattle.backplane.proofs.Run.start.Tie as tie
-use Rattle.backplane.proofs.Run.start.Reads as reads
-use Rattle.backplane.proofs.Run.start.Lts as lts
-use Rattle.backplane.proofs.rounds.begun.Reads as begun-reads
-use Rattle.backplane.proofs.rounds.idle.Reads as idle-reads
-use Rattle.script.proofs.check.check.Reads as check-reads
 
--- src/rounds.rt:69:13
 check-requires : tie.Need-check-requires
 check-requires c κs = search needs
 
--- src/rounds.rt:71:17
 idle-requires : tie.Need-idle-requires
 idle-requires c κs = search needs
 
--- src/rounds.rt:72:13
 returns : tie.Need-returns
-returns c = ?
+returns c = start-refused _ (c .before .before .before .check .ensures) (c .before .if1 .taken) (c .idle .ensures)
 
--- src/rounds.rt:78:13
 begun-requires : tie.Need-begun-requires
-begun-requires c κs = ?
+begun-requires c κs = sym (ap (λ (v : Verdict). v .number) (c .before .before .check .ensures)) ∙ c .if1 .left
 
--- src/rounds.rt:66:5
 returns-2 : tie.Need-returns-2
-returns-2 c = ?
+returns-2 c = start-begun _ (c .before .before .before .check .ensures) (c .before .if1 .left) (c .begun .ensures)
 
 pub start-spec : {M : Type 1} → statement M
 start-spec = tie.close (tie.spec check-requires idle-requires returns begun-requires returns-2)

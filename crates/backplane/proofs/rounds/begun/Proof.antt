@@ -1,46 +1,60 @@
+-- The setup is the part of the script that it was checked by; the cast comes after it.
+use Prim.Native.Nat.{_+_}
+use mathlib.Core.Path.{ap, _∙_}
+use native.Mathlib.Omega.{arith}
+use Rattle.words.specs.Word.{wordAt}
+use borrow.Author.Needs.{needs}
+use Prim.Native.Nat.{ℕ}
+use mathlib.Core.Path.{ap₂}
+use Rattle.setup.specs.declared.SetupRead.{SetupRead}
+use Rattle.setup.specs.Check.{readSetup}
+use Rattle.script.specs.Words.{castIn}
+use Rattle.backplane.specs.Play.{opened}
+use Rattle.backplane.specs.Run.{begun}
+use Rattle.backplane.proofs.StartLaws.{few, cast-there, few-read}
+use Rattle.backplane.proofs.RunLaws.{made}
+use Rattle.script.specs.Cursor.{start}
 use borrow.Author.Needs.{needs}
 use Rattle.backplane.proofs.rounds.begun.Statement.{statement}
 use Rattle.backplane.proofs.rounds.begun.Tie as tie
-use Rattle.backplane.proofs.rounds.begun.Reads as reads
-use Rattle.backplane.proofs.rounds.begun.Lts as lts
-use Rattle.backplane.proofs.Backplane.open.Reads as open-reads
-use Rattle.script.proofs.Cursor.start.Reads as start-reads
-use Rattle.setup.proofs.check.size_at.Reads as size-at-reads
-use Rattle.setup.proofs.part.part.Reads as part-reads
-use Rattle.setup.proofs.read.read.Reads as read-reads
-use Rattle.words.proofs.word.word_at.Reads as word-at-reads
 
--- src/rounds.rt:27:9
 size-at-requires : tie.Need-size-at-requires
-size-at-requires c κs = ?
+size-at-requires c κs =
+    let h = cast-there _ (c .before .pre) in
+    omega (arith, h)
 
--- src/rounds.rt:28:27
 add-word-at : tie.Need-add-word-at
 add-word-at c = search needs
 
--- src/rounds.rt:28:16
 word-at-requires : tie.Need-word-at-requires
-word-at-requires c κs = ?
+word-at-requires c κs =
+    let h = cast-there _ (c .before .before .pre) in
+    omega (arith, h, c .size-at .ensures)
 
--- src/rounds.rt:29:34
 part-requires : tie.Need-part-requires
 part-requires c κs = search needs
 
--- src/rounds.rt:29:9
 read-requires : tie.Need-read-requires
 read-requires c κs = search needs
 
--- src/rounds.rt:31:9
 start-requires : tie.Need-start-requires
-start-requires c κs = ?
+start-requires c κs =
+    let h = few _ (c .before .before .before .before .before .before .pre) in
+    omega (arith, h, c .before .before .before .before .size-at .ensures)
 
--- src/rounds.rt:32:9
 open-requires : tie.Need-open-requires
-open-requires c κs = ?
+open-requires c κs =
+    let s = c .before .before .before .before .before .before .before in
+    rw (ap (λ (x : SetupRead). x .setup .n) (c .before .before .read .ensures ∙ ap readSetup (c .before .before .before .part .ensures))) (few-read _ (s .pre))
 
--- src/rounds.rt:23:1
 returns : tie.Need-returns
-returns c = ?
+unfolding Rattle.backplane.specs.Run.begun
+returns c =
+    let n = c .before .before .before .before .before .before .size-at .ensures in
+    let s = ap (λ (x : SetupRead). x .setup) (c .before .before .before .read .ensures ∙ ap readSetup (c .before .before .before .before .part .ensures)) in
+    made (c .before .start .ensures ∙ ap start n)
+    (c .«open» .ensures
+    ∙ ap₂ opened s (ap castIn (c .before .before .before .before .before .word-at .ensures ∙ ap (λ (m : ℕ). wordAt (c .before .before .before .before .before .before .before .before .args .s .now) (m + 3)) n)))
 
 pub begun-spec : {M : Type 1} → statement M
 begun-spec =

@@ -1,27 +1,32 @@
+-- A backplane without modules, and a script that is over.
+use mathlib.Core.Path.{ap, _∙_}
+use native.Mathlib.Omega.{arith}
+use borrow.Author.Needs.{needs}
+use Rattle.presence.specs.Opening.{blank}
+use Rattle.script.specs.declared.Events.{Events}
+use mathlib.Core.Bool.{true}
+use Rattle.setup.specs.Setup.{blankSetup}
+use Rattle.setup.specs.declared.Setup.{Setup}
+use Rattle.backplane.specs.Play.{opened}
+use Rattle.backplane.specs.Run.{idle}
+use Rattle.backplane.proofs.RunLaws.{made}
 use borrow.Author.Needs.{needs}
 use Rattle.backplane.proofs.rounds.idle.Statement.{statement}
 use Rattle.backplane.proofs.rounds.idle.Tie as tie
-use Rattle.backplane.proofs.rounds.idle.Reads as reads
-use Rattle.backplane.proofs.rounds.idle.Lts as lts
-use Rattle.backplane.proofs.Backplane.open.Reads as open-reads
-use Rattle.script.proofs.Events.none.Reads as none-reads
-use Rattle.setup.proofs.read.blank.Reads as blank-reads
 
--- src/rounds.rt:40:9
 none-requires : tie.Need-none-requires
 none-requires c κs = search needs
 
--- src/rounds.rt:47:37
 blank-requires : tie.Need-blank-requires
 blank-requires c κs = search needs
 
--- src/rounds.rt:47:9
 open-requires : tie.Need-open-requires
-open-requires c κs = ?
+unfolding blankSetup
+open-requires c κs = rw (ap (λ (s : Setup). s .n) (c .blank .ensures)) (omega arith)
 
--- src/rounds.rt:37:1
 returns : tie.Need-returns
-returns c = ?
+unfolding Rattle.backplane.specs.Run.idle
+returns c = made (ap (λ (x : Events). record { at = 0; left = 0; over = true; events = x }) (c .before .before .none .ensures)) (c .«open» .ensures ∙ ap (λ (s : Setup). opened s 0) (c .before .blank .ensures))
 
 pub idle-spec : {M : Type 1} → statement M
 idle-spec = tie.close (tie.spec none-requires blank-requires open-requires returns)

@@ -1,54 +1,60 @@
+-- After i turns the array has the views of the modules below i.
+use Prim.Native.Nat.{_-_, _≤_, _<_}
+use mathlib.Core.Path.{_≡_, refl, ap, _∙_}
+use native.Mathlib.Omega.{arith}
+use lib.ListN.{getD, length}
+use Rattle.words.specs.Array.{array}
+use Rattle.words.proofs.ArrayLaws.{array-step}
+use borrow.Author.Needs.{needs}
+use Rattle.presence.specs.Opening.{blank}
+use Rattle.presence.specs.declared.State.{State}
+use Rattle.words.proofs.TableLaws.{getD-there}
 use Rattle.backplane.proofs.rounds.views.Statement.{statement}
 use Rattle.backplane.proofs.rounds.views.Tie as tie
-use Rattle.backplane.proofs.rounds.views.Reads as reads
-use Rattle.backplane.proofs.rounds.views.Lts as lts
-use Rattle.presence.proofs.State.view.Reads as view-reads
 
 abbrev Inv-loop : tie.InvT-loop
-Inv-loop n states views₀ i₀ views i = ?
+Inv-loop n states views₀ i₀ views i = (i ≤ n) × (views ≡ array i (λ k. getD states k blank .counters .view))
 
 abbrev μ-loop : tie.MeasureT-loop
-μ-loop n states views₀ i₀ views i = ?
+μ-loop n states views₀ i₀ views i = n - i
 
--- src/rounds.rt:57:5
 loop-holds : tie.Need-loop-holds Inv-loop μ-loop
-loop-holds c = ?
+unfolding array
+loop-holds c = (omega arith, refl)
 
--- src/rounds.rt:58:21
 mul-state : tie.Need-mul-state Inv-loop μ-loop
-mul-state c = ?
+mul-state c = omega arith
 
--- src/rounds.rt:58:21
 array-copy-out-state : tie.Need-array-copy-out-state Inv-loop μ-loop
-array-copy-out-state c = ?
+array-copy-out-state c = omega arith
 
--- src/rounds.rt:59:20
 view-requires : tie.Need-view-requires Inv-loop μ-loop
-view-requires c κs = ?
+view-requires c κs = search needs
 
--- src/rounds.rt:59:9
 mul-views : tie.Need-mul-views Inv-loop μ-loop
-mul-views c = ?
+mul-views c = omega arith
 
--- src/rounds.rt:59:9
 array-write-views : tie.Need-array-write-views Inv-loop μ-loop
-array-write-views c = ?
+array-write-views c = omega arith
 
--- src/rounds.rt:57:9
 add-i : tie.Need-add-i Inv-loop μ-loop
-add-i c = ?
+add-i c = omega arith
 
--- src/rounds.rt:57:5
 loop-less : tie.Need-loop-less Inv-loop μ-loop
-loop-less c = ?
+loop-less c = omega arith
 
--- src/rounds.rt:57:5
 loop-again : tie.Need-loop-again Inv-loop μ-loop
-loop-again c = ?
+loop-again c =
+    let l = c .before .before .before .loop in
+    let a = c .before .before .before .before .args in
+    let h : l .i < length (a .t2) = omega arith in
+    let e = ap (λ (s : State). s .counters .view) (getD-there (a .t2) (l .i) _ blank h) in
+    (omega arith, array-step _ _ (l .inv .1) (c .view .ensures ∙ e))
 
--- src/rounds.rt:52:1
 returns : tie.Need-returns Inv-loop μ-loop
-returns c = ?
+returns c =
+    let e : c .before .loop .i ≡ c .before .before .args .n = omega arith in
+    cc
 
 pub views-spec : {M : Type 1} → statement M
 views-spec =
