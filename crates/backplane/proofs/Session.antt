@@ -119,10 +119,10 @@ module _ (S : Session) (ok : Accepted S) where
       let q : this ≡ arrived n (sentWords n (b .states)) e = ap (λ (x : Setup). arrived (x .n) (sentWords (x .n) (b .states)) e) s in
       let c : Carries S ok (suc k) this = subst (Carries S ok (suc k)) (sym q) (carries S ok k (b .states) (h .holds .states) e t) in
       let heard : Hears S ok (suc k) (hearingOf (b .setup .n) (b .cast) this) =
-          subst (Hears S ok (suc k)) (sym (ap₂ (λ (x : Setup) (y : ℕ). hearingOf (x .n) y this) s (h .cast))) (hears-bus S ok (suc k) this c) in
+      subst (Hears S ok (suc k)) (sym (ap₂ (λ (x : Setup) (y : ℕ). hearingOf (x .n) y this) s (h .cast))) (hears-bus S ok (suc k) this c) in
       let limit : keptOver (b .setup .n) (b .cast) (hearingOf (b .setup .n) (b .cast) this) (earlier b) ≡ kept S (suc k) =
-          ap₂ (λ (x : Setup) (y : ℕ). keptOver (x .n) y (hearingOf (b .setup .n) (b .cast) this) (earlier b)) s (h .cast)
-          ∙ limit-as S ok (suc k) (suc k - u S - 1) _ _ heard (earlier-hears k b h) in
+      ap₂ (λ (x : Setup) (y : ℕ). keptOver (x .n) y (hearingOf (b .setup .n) (b .cast) this) (earlier b)) s (h .cast)
+      ∙ limit-as S ok (suc k) (suc k - u S - 1) _ _ heard (earlier-hears k b h) in
       let one : suc k - 1 ≡ k = omega arith in
       record {
         holds =
@@ -181,16 +181,18 @@ module _ (s : List ℕ) (e : checkScript s .number ≡ 0) where
 pub has-session : HasSession
 unfolding choice
 has-session s e =
-    let (S, P) = existence (choice s e) in
-    (S, record {
-      setup = P .setup;
-      accepted = ap (λ (x : Setup). setupVerdict x .number) (P .setup) ∙ accepts s e;
-      cast = P .cast;
-      controller = λ k i j. ap (λ (f : ℕ → ℕ → ℕ → Bool). f k i j) (P .controller);
-      told = λ k i j hi hj f. P .told k i j (told-lies s e k i j hi hj f);
-      as-sent = λ k i j hj f. P .as-sent k i j hj (no-lie s e (suc k) i j f);
-      bound = P .bound;
-    })
+    let (S, P) = existence (choice s e) in (
+      S,
+      record {
+        setup = P .setup;
+        accepted = ap (λ (x : Setup). setupVerdict x .number) (P .setup) ∙ accepts s e;
+        cast = P .cast;
+        controller = λ k i j. ap (λ (f : ℕ → ℕ → ℕ → Bool). f k i j) (P .controller);
+        told = λ k i j hi hj f. P .told k i j (told-lies s e k i j hi hj f);
+        as-sent = λ k i j hj f. P .as-sent k i j hj (no-lie s e (suc k) i j f);
+        bound = P .bound;
+      },
+    )
 
 -- ---- the run is the session, round by round
 
