@@ -3,4 +3,5 @@ pub mod PlayLaws
 pub mod RoundLaws
 pub mod StartLaws
 pub mod RunLaws
+pub mod SoundLaws
 pub mod Session

@@ -2,16 +2,14 @@
 use Prim.Native.Nat.{ℕ, _≤_, _<_}
 use mathlib.Core.Path.{_≡_, sym, ap, ap₂, _∙_, subst}
 use mathlib.Core.Bool.{Bool, true, false, cond}
-use mathlib.Core.Logic.{_≢_, ⊎-elim}
-use native.Mathlib.Omega.{arith}
+use mathlib.Core.Logic.{_≢_}
 use mathlib.Core.List.{List}
 use lib.ListN.{getD}
-use borrow.Author.Tests.{eqb-true, eq-eqb, ne-eqb}
+use borrow.Author.Tests.{eq-eqb, ne-eqb}
 use Rattle.words.specs.Array.{array}
-use Rattle.words.proofs.Truth.{which, cond-true, cond-false, cond-both}
+use Rattle.words.proofs.Truth.{cond-true, cond-false}
 use Rattle.words.proofs.ArrayLaws.{array-at}
 use Rattle.setup.specs.Verdict.{isAccepted}
-use Rattle.setup.specs.Setup.{blankSetup}
 use Rattle.setup.specs.declared.Verdict.{Verdict}
 use Rattle.script.specs.Check.{checkScript}
 use Rattle.script.specs.Cursor.{advanced}
@@ -19,12 +17,11 @@ use Rattle.script.specs.declared.Cursor.{Cursor}
 use Rattle.text.specs.Lines.{linesOf}
 use Rattle.text.specs.Wrote.{Wrote}
 use Rattle.text.proofs.LineLaws.{lines-ext}
-use Rattle.backplane.specs.Play.{stateAt, opened, played}
+use Rattle.backplane.specs.Play.{stateAt, played}
 use Rattle.backplane.specs.Run.{begun, idle, startOf, goesOn, nextOf, printed}
 use Rattle.backplane.specs.declared.Backplane.{Backplane}
 use Rattle.backplane.specs.declared.Run.{Run}
 use Rattle.backplane.specs.declared.Started.{Started}
-use Rattle.backplane.proofs.StartLaws.{few-read}
 
 -- ---- starting
 
@@ -74,21 +71,3 @@ wrote-printed {old} {new} {at} {r} b h e =
     subst (λ (t : List ℕ). Wrote old at t new r)
     (lines-ext (b .setup .n) (b .round) (b .kept) _ _ _ (b .setup .n)
     (λ i hi. ap (λ (x : List ℕ). getD x i 0) e ∙ array-at (b .setup .n) _ i hi h))
-
--- ---- a run has at most 16 modules
-
-abbrev few-in : Run → Type 0
-few-in r = r .backplane .setup .n ≤ 16
-
-pub start-few : (s : List ℕ) → few-in (startOf s .run)
-unfolding startOf begun idle opened blankSetup
-start-few s =
-    ⊎-elim
-    (λ (t : isAccepted (checkScript s) ≡ true). subst few-in (sym (cond-true (begun s) idle t)) (few-read s (eqb-true (checkScript s .number) 0 t)))
-    (λ (f : isAccepted (checkScript s) ≡ false). subst few-in (sym (cond-false (begun s) idle f)) (omega arith))
-    (which (isAccepted (checkScript s)))
-
-pub next-few : (s : List ℕ) (r : Run) → few-in r → few-in (nextOf s r)
-unfolding nextOf played
-next-few s r h =
-    cond-both (λ (b : Backplane). b .setup .n ≤ 16) (goesOn (advanced s (r .cursor)) (r .backplane)) _ _ h h

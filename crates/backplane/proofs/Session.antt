@@ -220,9 +220,8 @@ module _ (s : List ℕ) (e : checkScript s .number ≡ 0) (S : Session) (P : Pla
   unfolding goesOn
   goes-on k hk b h =
       let p = plays-all s e in
-      let m : b .setup .n ≤ 16 = rw (ap (λ (x : Setup). x .n) (h .setup)) (small S (P .accepted)) in
       let r : b .round < 100000 = omega (arith, h .round, p .most) in
-      and-true _ _ (ap not (p .playing (suc k) hk)) (and-true _ _ (le-leb _ 16 m) (lt-ltb _ 100000 r))
+      and-true _ _ (ap not (p .playing (suc k) hk)) (lt-ltb _ 100000 r)
 
   next-is : (k : ℕ) → suc k ≤ roundsOf s → Shows S (P .accepted) k (runAt s k .backplane)
       → runAt s (suc k) .backplane ≡ played (runAt s k .backplane) (cursorAt s (suc k) .events)

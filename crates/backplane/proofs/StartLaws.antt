@@ -16,7 +16,7 @@ use Rattle.setup.specs.declared.Setup.{Setup}
 use Rattle.setup.specs.declared.Verdict.{Verdict}
 use Rattle.setup.proofs.VerdictLaws.{check-pass}
 use Rattle.setup.proofs.CheckLaws.{FrontFits, front-pass, head-ok, words-ok}
-use Rattle.setup.proofs.SetupLaws.{fields-ok}
+use Rattle.setup.proofs.SetupLaws.{SetupFits, fields-ok}
 use Rattle.setup.proofs.FrontLaws.{setup-fits, front-accepted, front-setup}
 use Rattle.script.specs.Check.{checkPlay, checkScript}
 
@@ -25,9 +25,12 @@ module _ (s : List ℕ) (e : checkScript s .number ≡ 0) where
   unfolding checkScript
   front = front-pass s _ (check-pass (leb (length s) 65536) 16 0 _ (omega arith) e .1) .0
 
+  pub script-fits : SetupFits (setupOf s)
+  script-fits = setup-fits s (front .front) (front .words) (front .room)
+
   pub accepts : setupVerdict (setupOf s) .number ≡ 0
   unfolding setupVerdict
-  accepts = ap (λ (v : Verdict). v .number) (fields-ok (setupOf s) accepted (setup-fits s (front .front) (front .words) (front .room)))
+  accepts = ap (λ (v : Verdict). v .number) (fields-ok (setupOf s) accepted script-fits)
 
   front-ok : checkFront s accepted ≡ accepted
   unfolding checkFront

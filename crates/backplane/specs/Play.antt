@@ -1,14 +1,16 @@
 -- A whole backplane, round by round. (document 01, "What runs" and "Bench sheet")
-use Prim.Native.Nat.{ℕ, _+_, _%_, _^_}
+use Prim.Native.Nat.{ℕ, _+_, _%_, _^_, _≤_, _<_}
+use mathlib.Core.Path.{_≡_}
 use mathlib.Core.Bool.{Bool, true, cond, _&&_}
 use mathlib.Core.List.{List}
-use lib.ListN.{getD, replicate}
+use lib.ListN.{getD, length, replicate}
 use Rattle.words.specs.Bits.{full}
 use Rattle.words.specs.Array.{array}
 use Rattle.words.specs.Table.{updated}
 use Rattle.setup.specs.declared.Setup.{Setup}
 use Rattle.rules.specs.Lag.{skewed}
 use Rattle.rules.specs.Hearing.{busWord}
+use Rattle.presence.specs.Valid.{Valid}
 use Rattle.presence.specs.Opening.{blank, openOf}
 use Rattle.presence.specs.Step.{stepOf}
 use Rattle.presence.specs.declared.State.{State}
@@ -23,6 +25,12 @@ use Rattle.backplane.specs.declared.Backplane.{Backplane}
 -- the state of module i + 1
 abbrev pub stateAt : List State → ℕ → State
 stateAt states i = getD states i blank
+
+-- a backplane whose states are within the limits, so that no step has to check its state again
+pub record Sound (b : Backplane) : Type 0 where
+  pub few : b .setup .n ≤ 16
+  pub entries : length (b .states) ≡ 16
+  pub valid : (i : ℕ) → i < b .setup .n → Valid (stateAt (b .states) i)
 
 -- Before round 1: every module is opened with its own number.
 unfoldable pub openedStates : Setup → List State

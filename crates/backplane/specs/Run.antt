@@ -2,7 +2,7 @@
 use Prim.Native.Nat.{ℕ, zero, suc, _+_}
 use mathlib.Core.Bool.{Bool, true, cond, not, _&&_}
 use mathlib.Core.List.{List}
-use lib.Dec.{leb, ltb}
+use lib.Dec.{ltb}
 use lib.ListN.{getD}
 use Rattle.words.specs.Word.{wordAt}
 use Rattle.setup.specs.Verdict.{isAccepted}
@@ -35,9 +35,9 @@ startOf s =
     let v = checkScript s in
     record { number = v .number; index = v .index; run = cond (isAccepted v) (begun s) idle }
 
--- The next round, if the script has one. (An accepted script has N at most 16 and at most 100,000 rounds.)
+-- The next round, if the script has one. (An accepted script has at most 100,000 rounds.)
 unfoldable pub goesOn : Cursor → Backplane → Bool
-goesOn c b = not (c .over) && (leb (b .setup .n) 16 && ltb (b .round) 100000)
+goesOn c b = not (c .over) && ltb (b .round) 100000
 
 unfoldable pub nextOf : List ℕ → Run → Run
 nextOf s r =

@@ -17,10 +17,11 @@ use setup::Setup;
 use words::array::filled;
 use words::bits::full_of;
 ghost use mathlib.Core.Path.{_≡_};
-ghost use Prim.Native.Nat.{_≤_, _<_, _^_};
+ghost use Prim.Native.Nat.{ℕ, _≤_, _<_, _^_};
+ghost use Rattle.presence.specs.Valid.{Valid};
 ghost use Rattle.presence.specs.Step.{stepOf};
 ghost use Rattle.backplane.specs.Bus.{readWords};
-ghost use Rattle.backplane.specs.Play.{openedStates, opened, sentWords, steppedStates, answeredHealth, earlier, played};
+ghost use Rattle.backplane.specs.Play.{stateAt, Sound, openedStates, opened, sentWords, steppedStates, answeredHealth, earlier, played};
 
 // What the steps of a round give: the states, and the health vectors answered.
 struct Steps {
@@ -67,18 +68,18 @@ fn step_one(
     before: &[u32; 256],
     bits: u32,
 ) -> Stepped
-    requires { ⌜ (n ≤ 16) × (i < 16) ⌝ }
+    requires { ⌜ (n ≤ 16) × (i < 16) × Valid state ⌝ }
     ensures { λ r. ⌜ r ≡ stepOf state (readWords n place i (now (this .entry)) (now (before .entry))) bits ⌝ }
 {
     let mut read = [0u8; 64];
     let k = n * 4;
     put_read(n, place, i, this, before, &mut read[..k]);
-    state.step(&read[..k], bits)
+    state.stepped(&read[..k], bits)
 }
 
 // The steps of all modules in the round whose bus is `this`.
 fn step_all(setup: Setup, held: [State; 16], this: Bus, before: Bus) -> Steps
-    requires { ⌜ setup .n ≤ 16 ⌝ }
+    requires { ⌜ (setup .n ≤ 16) × ((i : ℕ) → i < setup .n → Valid (stateAt held i)) ⌝ }
     ensures { λ r. ⌜ (r .states ≡ steppedStates setup held this before) × (r .health ≡ answeredHealth setup held this before) ⌝ }
 {
     let n = setup.n;
@@ -141,7 +142,7 @@ impl Backplane {
 
     // The next round with these events.
     pub fn play(self, events: Events) -> Backplane
-        requires { ⌜ (self .setup .n ≤ 16) × (self .round < 2 ^ 31) ⌝ }
+        requires { ⌜ Sound self × (self .round < 2 ^ 31) ⌝ }
         ensures { λ r. ⌜ r ≡ played self events ⌝ }
     {
         let setup = self.setup;

@@ -16,7 +16,7 @@ ghost use lib.ListN.{length};
 ghost use Rattle.words.specs.Array.{array};
 ghost use Rattle.text.specs.Wrote.{Wrote};
 ghost use Rattle.script.specs.Check.{checkScript};
-ghost use Rattle.backplane.specs.Play.{stateAt};
+ghost use Rattle.backplane.specs.Play.{stateAt, Sound};
 ghost use Rattle.backplane.specs.Run.{begun, idle, startOf, nextOf, printed};
 
 // Before round 1 of an accepted script.
@@ -85,13 +85,13 @@ impl Run {
 
     // Plays the next round, if the script has one.
     pub fn next(self, s: &[u8]) -> Run
+        requires { ⌜ Sound (self .backplane) ⌝ }
         ensures { λ r. ⌜ r ≡ nextOf (now (s .entry)) self ⌝ }
     {
         let last = self.cursor;
         let backplane = self.backplane;
         let cursor = last.advance(s);
-        let setup = backplane.setup;
-        if !cursor.over & ((setup.n <= 16) & (backplane.round < 100000)) {
+        if !cursor.over & (backplane.round < 100000) {
             let events = cursor.events;
             let played = backplane.play(events);
             return Run {

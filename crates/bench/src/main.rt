@@ -4,6 +4,7 @@ use text::line::put_refusal;
 ghost use mathlib.Core.Path.{_≡_};
 ghost use Prim.Native.Nat.{_≤_};
 ghost use lib.ListN.{length};
+ghost use Rattle.backplane.specs.Play.{Sound};
 
 // Writes what is in the buffer if the lines of a round might not fit after it, and answers the next free place.
 fn make_room(out: &[u8], at: usize) -> usize
@@ -28,7 +29,7 @@ fn put_round(run: Run, out: &mut [u8], at: usize) -> usize
 
 // Plays every round of the script.
 fn write_rounds(run: Run, script: &[u8])
-    requires { ⌜ run .backplane .setup .n ≤ 16 ⌝ }
+    requires { ⌜ Sound (run .backplane) ⌝ }
 {
     let mut out = [0u8; 65536];
     let mut at: usize = 0;

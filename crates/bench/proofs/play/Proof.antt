@@ -1,8 +1,8 @@
--- What is started has at most 16 modules.
-use Prim.Native.Nat.{_≤_}
+-- What is started holds states within the limits.
 use mathlib.Core.Path.{sym}
 use borrow.Author.Needs.{needs}
-use Rattle.backplane.proofs.RunLaws.{start-few}
+use Rattle.backplane.specs.Play.{Sound}
+use Rattle.backplane.proofs.SoundLaws.{start-sound}
 use mathlib.Core.Path.{subst}
 use Rattle.backplane.specs.declared.Started.{Started}
 use borrow.Author.Needs.{needs}
@@ -19,7 +19,7 @@ returns : tie.Need-returns
 returns c = search needs
 
 write-rounds-requires : tie.Need-write-rounds-requires
-write-rounds-requires c κs = subst (λ (r : Started). r .run .backplane .setup .n ≤ 16) (sym (c .before .before .before .start .ensures)) (start-few _)
+write-rounds-requires c κs = subst (λ (r : Started). Sound (r .run .backplane)) (sym (c .before .before .before .start .ensures)) (start-sound _)
 
 returns-2 : tie.Need-returns-2
 returns-2 c = search needs

@@ -1,4 +1,4 @@
--- The filled part stays within the buffer, and N stays at most 16.
+-- The filled part stays within the buffer, and the states stay within the limits.
 use Prim.Native.Nat.{_-_, _≤_}
 use mathlib.Core.Path.{_≡_, refl, sym, _∙_}
 use native.Mathlib.Omega.{arith}
@@ -6,13 +6,14 @@ use lib.ListN.{length}
 use lib.Seq.{length-take-le}
 use borrow.Author.Needs.{needs}
 use Rattle.backplane.specs.declared.Run.{Run}
-use Rattle.backplane.proofs.RunLaws.{next-few}
+use Rattle.backplane.specs.Play.{Sound}
+use Rattle.backplane.proofs.SoundLaws.{next-sound}
 use mathlib.Core.Path.{subst}
 use Rattle.bench.proofs.write_rounds.Statement.{statement}
 use Rattle.bench.proofs.write_rounds.Tie as tie
 
 abbrev Inv-loop : tie.InvT-loop
-Inv-loop script out₀ at₀ now₀ k₀ out at now k = (at ≤ 65536) × (length out ≡ 65536) × (now .backplane .setup .n ≤ 16)
+Inv-loop script out₀ at₀ now₀ k₀ out at now k = (at ≤ 65536) × (length out ≡ 65536) × Sound (now .backplane)
 
 abbrev μ-loop : tie.MeasureT-loop
 μ-loop script out₀ at₀ now₀ k₀ out at now k = 100000 - k
@@ -21,7 +22,7 @@ loop-holds : tie.Need-loop-holds Inv-loop μ-loop
 loop-holds c = (omega arith, refl, c .before .pre)
 
 next-requires : tie.Need-next-requires Inv-loop μ-loop
-next-requires c κs = search needs
+next-requires c κs = c .before .loop .inv .2
 
 over-requires : tie.Need-over-requires Inv-loop μ-loop
 over-requires c κs = search needs
@@ -32,7 +33,7 @@ loop-less c = omega arith
 loop-again : tie.Need-loop-again Inv-loop μ-loop
 loop-again c =
     let l = c .before .before .before .before .loop in
-    (l .inv .0, l .inv .1, subst (λ (r : Run). r .backplane .setup .n ≤ 16) (sym (c .before .before .next .ensures)) (next-few _ _ (c .before .before .before .before .loop .inv .2)))
+    (l .inv .0, l .inv .1, subst (λ (r : Run). Sound (r .backplane)) (sym (c .before .before .next .ensures)) (next-sound _ _ (c .before .before .before .before .loop .inv .2)))
 
 slice-aggregate-put-round : tie.Need-slice-aggregate-put-round Inv-loop μ-loop
 slice-aggregate-put-round c = sym (c .before .before .before .before .before .loop .inv .1)
@@ -40,7 +41,7 @@ slice-aggregate-put-round c = sym (c .before .before .before .before .before .lo
 put-round-requires : tie.Need-put-round-requires Inv-loop μ-loop
 put-round-requires c κs =
     let l = c .before .before .before .before .before .loop in
-    (subst (λ (r : Run). r .backplane .setup .n ≤ 16) (sym (c .before .before .before .next .ensures)) (next-few _ _ (c .before .before .before .before .before .loop .inv .2)), l .inv .1, l .inv .0)
+    ((subst (λ (r : Run). Sound (r .backplane)) (sym (c .before .before .before .next .ensures)) (next-sound _ _ (c .before .before .before .before .before .loop .inv .2))) .few, l .inv .1, l .inv .0)
 
 add-k : tie.Need-add-k Inv-loop μ-loop
 add-k c = omega arith
@@ -51,7 +52,7 @@ loop-less-2 c = omega arith
 loop-again-2 : tie.Need-loop-again-2 Inv-loop μ-loop
 loop-again-2 c =
     let l = c .before .before .before .before .before .before .before .loop in
-    (c .before .put-round .ensures, c .before .put-round .kept .1 .0 ∙ l .inv .1, subst (λ (r : Run). r .backplane .setup .n ≤ 16) (sym (c .before .before .before .before .before .next .ensures)) (next-few _ _ (c .before .before .before .before .before .before .before .loop .inv .2)))
+    (c .before .put-round .ensures, c .before .put-round .kept .1 .0 ∙ l .inv .1, subst (λ (r : Run). Sound (r .backplane)) (sym (c .before .before .before .before .before .next .ensures)) (next-sound _ _ (c .before .before .before .before .before .before .before .loop .inv .2)))
 
 array-share-prefix-out : tie.Need-array-share-prefix-out Inv-loop μ-loop
 array-share-prefix-out c = rw (c .before .loop .inv .1) (c .before .loop .inv .0)

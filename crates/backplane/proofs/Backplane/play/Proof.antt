@@ -1,30 +1,28 @@
 -- The parts are put together.
 use native.Mathlib.Omega.{arith}
-use borrow.Author.Needs.{needs}
 use Rattle.backplane.specs.Bus.{arrived}
 use Rattle.backplane.specs.Play.{earlier}
 use Rattle.backplane.proofs.PlayLaws.{play-made}
-use borrow.Author.Needs.{needs}
 use Rattle.backplane.proofs.Backplane.play.Statement.{statement}
 use Rattle.backplane.proofs.Backplane.play.Tie as tie
 
 sent-words-requires : tie.Need-sent-words-requires
-sent-words-requires c κs = search needs
+sent-words-requires c κs = c .before .before .pre .0 .few
 
 arrived-requires : tie.Need-arrived-requires
-arrived-requires c κs = search needs
+arrived-requires c κs = c .before .before .before .pre .0 .few
 
 step-all-requires : tie.Need-step-all-requires
-step-all-requires c κs = search needs
+step-all-requires c κs = (c .before .before .before .before .before .pre .0 .few, c .before .before .before .before .before .pre .0 .valid)
 
 hearing-requires : tie.Need-hearing-requires
-hearing-requires c κs = search needs
+hearing-requires c κs = c .before .before .before .before .before .before .before .before .pre .0 .few
 
 earlier-requires : tie.Need-earlier-requires
-earlier-requires c κs = search needs
+earlier-requires c κs = c .before .before .before .before .before .before .before .before .before .pre .0 .few
 
 kept-over-requires : tie.Need-kept-over-requires
-kept-over-requires c κs = search needs
+kept-over-requires c κs = c .before .before .before .before .before .before .before .before .before .before .pre .0 .few
 
 add-t17 : tie.Need-add-t17
 add-t17 c = omega (arith, c .before .before .before .before .before .before .before .before .before .before .before .before .before .before .pre .1)

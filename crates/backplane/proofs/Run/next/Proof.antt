@@ -1,16 +1,12 @@
 -- The place of the next round, and the round where there is one.
 use Prim.Native.Nat.{_<_}
-use mathlib.Core.Path.{_≡_}
+use mathlib.Core.Bool.{not}
 use native.Mathlib.Omega.{arith}
-use mathlib.Core.Bool.{not, _&&_}
-use lib.Dec.{ltb, leb}
 use borrow.Author.Needs.{needs}
-use mathlib.Core.Bool.{true}
-use borrow.Author.Tests.{leb-true, ltb-true}
-use Rattle.words.proofs.Truth.{and-l, and-r}
+use borrow.Author.Tests.{ltb-true}
+use Rattle.words.proofs.Truth.{and-r}
 use Rattle.backplane.specs.Run.{goesOn}
 use Rattle.backplane.proofs.RunLaws.{next-played, next-over}
-use borrow.Author.Needs.{needs}
 use Rattle.backplane.proofs.Run.next.Statement.{statement}
 use Rattle.backplane.proofs.Run.next.Tie as tie
 
@@ -19,18 +15,18 @@ advance-requires c κs = search needs
 
 play-requires : tie.Need-play-requires
 play-requires c κs =
-    let b = c .before .before .before .before .before .before .before .before .before .before .args .self .backplane in
-    let f : leb (b .setup .n) 16 && ltb (b .round) 100000 ≡ true = and-r (not (c .before .before .before .before .before .before .advance .result .over)) _ (c .before .if1 .taken) in
-    let r : b .round < 100000 = ltb-true _ 100000 (and-r (leb (b .setup .n) 16) _ f) in
-    (leb-true _ 16 (and-l _ _ f), omega (arith, r))
+    let s = c .before .before .before .before .before .before .before .before in
+    let r : s .args .self .backplane .round < 100000 =
+    ltb-true _ 100000 (and-r (not (c .before .before .before .before .advance .result .over)) _ (c .before .if1 .taken)) in
+    (s .pre, omega (arith, r))
 
 returns : tie.Need-returns
 unfolding goesOn
-returns c = next-played _ _ (c .before .before .before .before .before .before .before .advance .ensures) (c .before .before .if1 .taken) (c .play .ensures)
+returns c = next-played _ _ (c .before .before .before .before .before .advance .ensures) (c .before .before .if1 .taken) (c .play .ensures)
 
 returns-2 : tie.Need-returns-2
 unfolding goesOn
-returns-2 c = next-over _ _ (c .before .before .before .before .before .advance .ensures) (c .if1 .left)
+returns-2 c = next-over _ _ (c .before .before .before .advance .ensures) (c .if1 .left)
 
 pub next-spec : {M : Type 1} → statement M
 next-spec = tie.close (tie.spec advance-requires play-requires returns returns-2)

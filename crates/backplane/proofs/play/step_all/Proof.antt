@@ -11,7 +11,8 @@ use Rattle.presence.specs.Opening.{blank}
 use Rattle.backplane.specs.Bus.{readWords, readBits}
 use Rattle.presence.specs.declared.State.{State}
 use Prim.Native.Nat.{ℕ}
-use mathlib.Core.Path.{ap₂}
+use mathlib.Core.Path.{ap₂, sym, subst}
+use Rattle.presence.specs.Valid.{Valid}
 use Rattle.presence.specs.Step.{stepOf}
 use Rattle.presence.specs.declared.Stepped.{Stepped}
 use Rattle.backplane.specs.Play.{stepAt, steppedStates, answeredHealth}
@@ -66,7 +67,14 @@ array-read-step-one : tie.Need-array-read-step-one Inv-loop μ-loop
 array-read-step-one c = omega arith
 
 step-one-requires : tie.Need-step-one-requires Inv-loop μ-loop
-step-one-requires c κs = omega arith
+step-one-requires c κs =
+    let l = c .before .before .before .before .before .loop in
+    let s = c .before .before .before .before .before .before .before .before .before .before .before in
+    let a = s .args in
+    let g : length (a .held) ≡ 16 = s .good .1 .0 .1 .0 .1 in
+    let h : l .i < length (a .held) = omega (arith, g) in
+    let v = s .pre .1 (l .i) (omega arith) in
+    (omega arith, omega arith, subst Valid (sym (not-yet-stepped (l .i) _ (a .held) _ _ (l .inv .2) h)) v)
 
 mul-states : tie.Need-mul-states Inv-loop μ-loop
 mul-states c = omega arith

@@ -1,12 +1,13 @@
 -- The read is written into a buffer of its own, and the module makes its step on it.
 use Prim.Native.Nat.{_*_}
-use mathlib.Core.Path.{sym, ap, _∙_}
+use mathlib.Core.Path.{refl, sym, ap, _∙_}
 use native.Mathlib.Omega.{arith}
 use lib.ListN.{replicate}
 use borrow.Author.Needs.{needs}
 use Prim.Native.Nat.{ℕ}
 use mathlib.Core.List.{List, _++_}
 use Rattle.presence.specs.Step.{stepOf}
+use Rattle.presence.proofs.CallLaws.{step-of}
 use lib.ListN.{drop}
 use lib.Seq.{length-take-le}
 use Rattle.backplane.proofs.PlayLaws.{front-fits, front-taken}
@@ -32,16 +33,16 @@ array-share-prefix-read c =
     let p = c .before .put-read in
     front-fits (p .last .1 .1 .1 .1 .1 .0) (drop k (replicate 64 0)) (p .kept .1 .1 .1 .1 .1 .0 ∙ length-take-le k (replicate 64 0) (omega arith))
 
-slice-aggregate-step : tie.Need-slice-aggregate-step
-slice-aggregate-step c =
+slice-aggregate-stepped : tie.Need-slice-aggregate-stepped
+slice-aggregate-stepped c =
     let k = c .before .before .before .before .args .n * 4 in
     let p = c .before .before .put-read in
     let e = p .kept .1 .1 .1 .1 .1 .0 ∙ length-take-le k (replicate 64 0) (omega arith) in
     let l = p .last .1 .1 .1 .1 .1 .0 in
     sym (length-take-le k (l ++ drop k (replicate 64 0)) (front-fits l (drop k (replicate 64 0)) e))
 
-step-requires : tie.Need-step-requires
-step-requires c κs = search needs
+stepped-requires : tie.Need-stepped-requires
+stepped-requires c κs = c .before .before .before .before .pre .2
 
 returns : tie.Need-returns
 returns c =
@@ -49,7 +50,8 @@ returns c =
     let k = a .n * 4 in
     let p = c .before .before .before .put-read in
     let e = p .kept .1 .1 .1 .1 .1 .0 ∙ length-take-le k (replicate 64 0) (omega arith) in
-    c .step .ensures ∙ ap (λ (x : List ℕ). stepOf (a .state) x (a .bits)) (front-taken (p .last .1 .1 .1 .1 .1 .0) (drop k (replicate 64 0)) e ∙ p .ensures)
+    step-of (a .state) _ (a .bits) refl (c .before .before .before .before .before .pre .2) (c .stepped .ensures)
+    ∙ ap (λ (x : List ℕ). stepOf (a .state) x (a .bits)) (front-taken (p .last .1 .1 .1 .1 .1 .0) (drop k (replicate 64 0)) e ∙ p .ensures)
 
 pub step-one-spec : {M : Type 1} → statement M
 step-one-spec =
@@ -60,6 +62,6 @@ step-one-spec =
     slice-aggregate-put-read
     put-read-requires
     array-share-prefix-read
-    slice-aggregate-step
-    step-requires
+    slice-aggregate-stepped
+    stepped-requires
     returns)
