@@ -1,16 +1,15 @@
 -- Each rule-follower's word of a sender compared with that of one rule-follower: that finds the senders that are half heard.
 use Prim.Native.Nat.{ℕ, zero, suc, _+_, _-_, _*_, _/_, _%_, _^_, _<_, _≤_}
-use mathlib.Core.Path.{_≡_, refl, sym, ap, ap₂, _∙_, subst}
+use mathlib.Core.Path.{_≡_, refl, sym, ap, ap₂, _∙_}
 use mathlib.Core.Bool.{Bool, true, false, cond, not, _&&_, _||_, Bool·beq}
 use mathlib.Core.Logic.{⊎-elim, _≢_}
 use mathlib.Core.List.{List}
 use native.Mathlib.Omega.{arith}
 use lib.Dec.{eqb}
 use lib.ListN.{getD}
-use borrow.Author.Tests.{eqb-true, eqb-false, eq-eqb, ne-eqb, not-true}
-use Rattle.words.specs.Bits.{bit, pack}
+use borrow.Author.Tests.{eqb-true, eqb-false, ne-eqb, not-true}
+use Rattle.words.specs.Bits.{pack}
 use Rattle.words.specs.Count.{any, lowest}
-use Rattle.words.specs.Table.{table}
 use Rattle.words.proofs.Truth.{clash, which, and-l, and-r, and-true, iff-eq}
 use Rattle.words.proofs.BitLaws.{pack-ext}
 use Rattle.words.proofs.CountLaws.{any-intro, any-witness, any-ext}
@@ -18,7 +17,7 @@ use Rattle.words.proofs.LowestLaws.{lowest-zero, lowest-le, lowest-passes}
 use Rattle.words.proofs.TableLaws.{table-at}
 use Rattle.rules.specs.Hearing.{wordHeard, entryOf}
 use Rattle.rules.proofs.HearingLaws.{entry-heard}
-use Rattle.agreement.specs.Fault.{Round, differ, half, heard}
+use Rattle.agreement.specs.Fault.{differ, half, heard}
 use Rattle.backplane.specs.Bus.{bitTo, wordTo, roundOf}
 use Rattle.backplane.specs.Limit.{followsIn}
 use Rattle.backplane.specs.Heard.{heardWord, heardWords, firstFollower, otherwise}

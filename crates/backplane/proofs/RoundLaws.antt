@@ -1,6 +1,6 @@
 -- One round of the bench is one round of the session.
-use Prim.Native.Nat.{ℕ, zero, suc, _+_, _-_, _*_, _/_, _%_, _^_, _<_, _≤_}
-use mathlib.Core.Path.{_≡_, refl, sym, ap, ap₂, _∙_, subst}
+use Prim.Native.Nat.{ℕ, suc, _+_, _-_, _*_, _%_, _^_, _<_, _≤_}
+use mathlib.Core.Path.{_≡_, refl, sym, ap, ap₂, _∙_}
 use mathlib.Core.Bool.{Bool, true, false, cond, not, _&&_, _||_}
 use mathlib.Core.Logic.{⊎-elim, _≢_}
 use mathlib.Core.List.{List}
@@ -9,19 +9,15 @@ use native.Mathlib.Nat.{mod-eq-of-lt}
 use lib.Dec.{eqb, ltb}
 use lib.ListN.{getD, length}
 use borrow.Author.Tests.{eqb-true, eqb-false}
-use Rattle.words.specs.Word.{bytesOf}
-use Rattle.words.specs.Bits.{bit, pack, b2n, full}
-use Rattle.words.specs.Array.{array}
-use Rattle.words.specs.Count.{any, count, all}
-use Rattle.words.specs.Table.{updated, table}
+use Rattle.words.specs.Bits.{bit}
+use Rattle.words.specs.Table.{table}
 use Rattle.words.proofs.Truth.{which, cond-true, cond-false}
 use Rattle.words.proofs.BitLaws.{bit-pack, pack-ext}
 use Rattle.words.proofs.ArrayLaws.{array-at}
 use Rattle.words.proofs.ByteLaws.{bytes-ext}
 use Rattle.words.proofs.CountLaws.{any-ext, count-ext}
-use Rattle.words.proofs.TableLaws.{table-at, updated-at, updated-length}
+use Rattle.words.proofs.TableLaws.{table-at, updated-at}
 use Rattle.setup.specs.declared.Setup.{Setup}
-use Rattle.rules.specs.Lag.{skewed}
 use Rattle.rules.specs.Hearing.{busWord, entryOf}
 use Rattle.rules.proofs.HearingLaws.{below-kind}
 use Rattle.presence.specs.Opening.{blank}
@@ -29,13 +25,13 @@ use Rattle.presence.specs.Step.{stepOf}
 use Rattle.presence.specs.declared.State.{State}
 use Rattle.presence.specs.declared.Stepped.{Stepped}
 use Rattle.script.specs.declared.Events.{Events}
-use Rattle.agreement.specs.Fault.{Round, differ, half, heard, halfIn, breakerIn, unheardIn, within, limit}
-use Rattle.agreement.specs.Session.{Session, Accepted, size, u, follows, bitIn, wordIn, round, readRound, readBits, readBytes, answer, state, health, sent, halfHeard, kept}
+use Rattle.agreement.specs.Fault.{Round, differ, half, heard, halfIn, breakerIn, unheardIn, limit}
+use Rattle.agreement.specs.Session.{Session, Accepted, size, follows, bitIn, wordIn, round, readRound, readBits, readBytes, answer, state, health, sent, halfHeard}
 use Rattle.agreement.proofs.Steps.{small, held}
 use Rattle.agreement.proofs.Aligned.{sent-is}
 use Rattle.backplane.specs.Bus as Bus
 use Rattle.backplane.specs.Bus.{bitTo, wordTo, roundOf, arrived, readWords}
-use Rattle.backplane.specs.Limit.{followsIn, hearingOf, isHalf, isBreaker, isUnheard, keptOver}
+use Rattle.backplane.specs.Limit.{hearingOf, isHalf, isBreaker, isUnheard, keptOver}
 use Rattle.backplane.specs.Play.{stateAt, sentWords, stepAt, steppedStates, answeredHealth}
 use Rattle.backplane.specs.declared.Bus.{Bus}
 use Rattle.backplane.specs.declared.Hearing.{Hearing}

@@ -1,47 +1,37 @@
 -- The bench plays a session, and what it prints `in` is agreed.
-use Prim.Native.Nat.{ℕ, zero, suc, _+_, _-_, _*_, _%_, _^_, _<_, _≤_}
+use Prim.Native.Nat.{ℕ, zero, suc, _+_, _-_, _*_, _%_, _<_, _≤_}
 use mathlib.Core.Path.{_≡_, refl, sym, ap, ap₂, _∙_, subst}
 use mathlib.Core.Bool.{Bool, true, false, cond, not, _&&_}
 use mathlib.Core.Logic.{_≢_}
 use mathlib.Core.List.{List}
 use native.Mathlib.Omega.{arith}
 use native.Mathlib.Nat.{le-refl}
-use lib.Dec.{eqb, leb, ltb}
-use lib.ListN.{getD, length, take, replicate, length-replicate}
-use borrow.Author.Tests.{eqb-true, eq-eqb, ne-eqb, ltb-true, lt-ltb, le-leb}
-use Rattle.words.specs.Word.{wordAt}
-use Rattle.words.specs.Bits.{bit, b2n, full}
+use lib.Dec.{eqb, ltb}
+use lib.ListN.{getD, length, replicate, length-replicate}
+use borrow.Author.Tests.{eqb-true, eq-eqb, ne-eqb, ltb-true, lt-ltb}
+use Rattle.words.specs.Bits.{bit, b2n}
 use Rattle.words.specs.Count.{all}
-use Rattle.words.specs.Array.{array}
-use Rattle.words.specs.Table.{updated, table}
 use Rattle.words.proofs.Truth.{and-l, and-r, and-true, and-false-r, cond-true}
 use Rattle.words.proofs.BitLaws.{bit-full}
 use Rattle.words.proofs.ArrayLaws.{array-at}
 use Rattle.words.proofs.CountLaws.{all-at}
 use Rattle.words.proofs.TableLaws.{table-at, updated-at, updated-length}
-use Rattle.setup.specs.Verdict.{accepted, isAccepted}
-use Rattle.setup.specs.Setup.{sizeIn, setupLength, setupOf}
-use Rattle.setup.specs.Check.{checkSetup, checkFront, setupPart, readSetup, setupVerdict}
+use Rattle.setup.specs.Verdict.{accepted}
+use Rattle.setup.specs.Setup.{setupOf}
+use Rattle.setup.specs.Check.{setupVerdict}
 use Rattle.setup.specs.declared.Setup.{Setup}
-use Rattle.setup.specs.declared.SetupRead.{SetupRead}
-use Rattle.setup.specs.declared.Verdict.{Verdict}
-use Rattle.setup.proofs.VerdictLaws.{check-pass}
-use Rattle.setup.proofs.CheckLaws.{FrontFits, front-pass, head-ok, words-ok}
-use Rattle.setup.proofs.SetupLaws.{fields-ok}
-use Rattle.setup.proofs.FrontLaws.{setup-fits, front-accepted, front-setup}
 use Rattle.rules.specs.Lag.{skewed}
-use Rattle.presence.specs.Opening.{blank, openOf}
 use Rattle.rules.specs.declared.Counters.{Counters}
+use Rattle.presence.specs.Opening.{blank, openOf}
 use Rattle.presence.specs.declared.State.{State}
-use Rattle.script.specs.Words.{castIn}
-use Rattle.script.specs.Check.{checkPlay, checkScript}
-use Rattle.script.specs.Cursor.{start, advanced, cursorAt}
+use Rattle.script.specs.Check.{checkScript}
+use Rattle.script.specs.Cursor.{advanced, cursorAt}
 use Rattle.script.specs.Told.{castOf}
 use Rattle.script.specs.Rounds.{roundsOf}
 use Rattle.script.specs.declared.Cursor.{Cursor}
 use Rattle.script.specs.declared.Events.{Events}
 use Rattle.script.proofs.CastLaws.{only-cast, plays-all}
-use Rattle.agreement.specs.Session.{Session, Accepted, size, u, follows, bitIn, wordIn, state, health, kept}
+use Rattle.agreement.specs.Session.{Session, Accepted, size, u, bitIn, wordIn, state, health, kept}
 use Rattle.agreement.specs.Life.{Life, opens, steps}
 use Rattle.agreement.specs.Demand.{KeptTo}
 use Rattle.agreement.specs.Existence.{Choice}
@@ -52,11 +42,8 @@ use Rattle.backplane.specs.Bus.{faultless, arrived}
 use Rattle.backplane.specs.Limit.{hearingOf, keptOver}
 use Rattle.backplane.specs.Play.{stateAt, openedStates, opened, sentWords, steppedStates, answeredHealth, earlier, played}
 use Rattle.backplane.specs.Run.{begun, goesOn, nextOf, runAt}
-use Rattle.backplane.specs.Session.{fateIn, toldIn, PlayedBy, HasSession, Holds, PlaysSession, PrintedIn, InAgrees}
-use Rattle.backplane.specs.declared.Bus.{Bus}
-use Rattle.backplane.specs.declared.Hearing.{Hearing}
+use Rattle.backplane.specs.Session.{fateIn, toldIn, PlayedBy, HasSession, Holds, PlaysSession, InAgrees}
 use Rattle.backplane.specs.declared.Backplane.{Backplane}
-use Rattle.backplane.specs.declared.Run.{Run}
 use Rattle.backplane.proofs.StartLaws.{accepts, setup-read}
 use Rattle.backplane.proofs.RoundLaws.{Carries, Hears, Tells, hears-bus, limit-as, carries, states-as, health-as}
 

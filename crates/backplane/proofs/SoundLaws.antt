@@ -1,12 +1,12 @@
 -- The states of a run stay within the limits.
 use Prim.Native.Nat.{ℕ, _+_, _<_, _≤_}
 use mathlib.Core.Path.{_≡_, sym, ap, _∙_, subst}
-use mathlib.Core.Bool.{Bool, true, false, cond}
+use mathlib.Core.Bool.{true, false}
 use mathlib.Core.Logic.{⊎-elim}
 use mathlib.Core.List.{List}
 use native.Mathlib.Omega.{arith}
 use lib.Dec.{eqb}
-use lib.ListN.{length, length-replicate, replicate}
+use lib.ListN.{length-replicate, replicate}
 use borrow.Author.Tests.{eqb-true, eqb-false}
 use Rattle.words.proofs.Truth.{which, cond-true, cond-false, cond-both}
 use Rattle.words.proofs.TableLaws.{updated-at, updated-length}

@@ -1,5 +1,5 @@
 -- The bus of a round: what reaches each receiver from each sender, and what each module reads of it. (document 01, rules 3 and 7)
-use Prim.Native.Nat.{ℕ, _+_, _*_, _%_, _^_}
+use Prim.Native.Nat.{ℕ, _+_, _*_, _%_}
 use mathlib.Core.Bool.{Bool, cond, not}
 use mathlib.Core.List.{List}
 use lib.Dec.{eqb, ltb}

@@ -8,7 +8,6 @@ use Rattle.words.specs.Word.{wordAt}
 use Rattle.setup.specs.Verdict.{isAccepted}
 use Rattle.setup.specs.Setup.{sizeIn, blankSetup}
 use Rattle.setup.specs.Check.{setupPart, readSetup}
-use Rattle.setup.specs.declared.SetupRead.{SetupRead}
 use Rattle.script.specs.Words.{castIn}
 use Rattle.script.specs.Check.{checkScript}
 use Rattle.script.specs.Events.{none}

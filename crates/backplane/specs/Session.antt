@@ -2,7 +2,7 @@
 -- (document 01, "A session" and "Bench sheet") Proved in proofs/Session.antt.
 use Prim.Native.Nat.{ℕ, suc, _+_, _-_, _*_, _≤_, _<_}
 use mathlib.Core.Path.{_≡_}
-use mathlib.Core.Bool.{Bool, true, false, not}
+use mathlib.Core.Bool.{true, false, not}
 use mathlib.Core.Logic.{_≢_}
 use mathlib.Core.List.{List}
 use lib.Dec.{eqb}
@@ -10,12 +10,11 @@ use lib.ListN.{getD}
 use Rattle.words.specs.Bits.{bit}
 use Rattle.words.specs.Count.{all}
 use Rattle.setup.specs.Setup.{setupOf}
-use Rattle.presence.specs.declared.State.{State}
-use Rattle.agreement.specs.Session.{Session, Accepted, size, u, RuleFollower, round, state, health, sent, Bound, unheard, halfHeard, kept}
 use Rattle.script.specs.Check.{checkScript}
 use Rattle.script.specs.Cursor.{cursorAt}
 use Rattle.script.specs.Told.{castOf}
 use Rattle.script.specs.Rounds.{roundsOf}
+use Rattle.agreement.specs.Session.{Session, Accepted, size, u, RuleFollower, round, state, health, sent, Bound, unheard, halfHeard, kept}
 use Rattle.backplane.specs.Play.{stateAt}
 use Rattle.backplane.specs.Run.{runAt}
 use Rattle.backplane.specs.declared.Backplane.{Backplane}

@@ -1,11 +1,9 @@
 -- What is started holds states within the limits.
-use mathlib.Core.Path.{sym}
+use mathlib.Core.Path.{sym, subst}
 use borrow.Author.Needs.{needs}
 use Rattle.backplane.specs.Play.{Sound}
 use Rattle.backplane.proofs.SoundLaws.{start-sound}
-use mathlib.Core.Path.{subst}
 use Rattle.backplane.specs.declared.Started.{Started}
-use borrow.Author.Needs.{needs}
 use Rattle.bench.proofs.play.Statement.{statement}
 use Rattle.bench.proofs.play.Tie as tie
 

@@ -1,6 +1,6 @@
 -- The filled part stays within the buffer, and the states stay within the limits.
 use Prim.Native.Nat.{_-_, _≤_}
-use mathlib.Core.Path.{_≡_, refl, sym, _∙_}
+use mathlib.Core.Path.{_≡_, refl, sym, _∙_, subst}
 use native.Mathlib.Omega.{arith}
 use lib.ListN.{length}
 use lib.Seq.{length-take-le}
@@ -8,7 +8,6 @@ use borrow.Author.Needs.{needs}
 use Rattle.backplane.specs.declared.Run.{Run}
 use Rattle.backplane.specs.Play.{Sound}
 use Rattle.backplane.proofs.SoundLaws.{next-sound}
-use mathlib.Core.Path.{subst}
 use Rattle.bench.proofs.write_rounds.Statement.{statement}
 use Rattle.bench.proofs.write_rounds.Tie as tie
 

@@ -1,9 +1,8 @@
 -- Rule 1 says which of the two is meant.
 use mathlib.Core.Path.{sym, _∙_}
 use borrow.Author.Needs.{needs}
-use Rattle.backplane.specs.Play.{earlier}
 use Rattle.words.proofs.Truth.{cond-true, cond-false}
-use borrow.Author.Needs.{needs}
+use Rattle.backplane.specs.Play.{earlier}
 use Rattle.backplane.proofs.Backplane.earlier.Statement.{statement}
 use Rattle.backplane.proofs.Backplane.earlier.Tie as tie
 

@@ -1,11 +1,10 @@
 -- The parts are put together.
-use mathlib.Core.Path.{ap, _∙_}
-use Rattle.words.specs.Array.{array}
-use borrow.Author.Needs.{needs}
-use Rattle.backplane.specs.Bus.{faultless}
 use Prim.Native.Nat.{ℕ}
-use Rattle.backplane.proofs.PlayLaws.{open-made}
+use mathlib.Core.Path.{ap, _∙_}
 use borrow.Author.Needs.{needs}
+use Rattle.words.specs.Array.{array}
+use Rattle.backplane.specs.Bus.{faultless}
+use Rattle.backplane.proofs.PlayLaws.{open-made}
 use Rattle.backplane.proofs.Backplane.open.Statement.{statement}
 use Rattle.backplane.proofs.Backplane.open.Tie as tie
 

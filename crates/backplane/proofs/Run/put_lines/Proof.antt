@@ -2,7 +2,6 @@
 use native.Mathlib.Omega.{arith}
 use borrow.Author.Needs.{needs}
 use Rattle.backplane.proofs.RunLaws.{wrote-printed}
-use borrow.Author.Needs.{needs}
 use Rattle.backplane.proofs.Run.put_lines.Statement.{statement}
 use Rattle.backplane.proofs.Run.put_lines.Tie as tie
 

@@ -4,7 +4,6 @@ use borrow.Author.Needs.{needs}
 use Rattle.setup.specs.declared.Verdict.{Verdict}
 use Rattle.backplane.specs.Run.{begun, idle}
 use Rattle.backplane.proofs.RunLaws.{start-refused, start-begun}
-use borrow.Author.Needs.{needs}
 use Rattle.backplane.proofs.Run.start.Statement.{statement}
 use Rattle.backplane.proofs.Run.start.Tie as tie
 

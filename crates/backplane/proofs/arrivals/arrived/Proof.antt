@@ -1,11 +1,10 @@
 -- The controller bits and the words are put together.
-use borrow.Author.Needs.{needs}
-use Rattle.backplane.specs.Bus.{arrived}
 use Prim.Native.Nat.{ℕ}
 use mathlib.Core.Path.{ap₂}
 use mathlib.Core.List.{List}
-use Rattle.backplane.specs.declared.Bus.{Bus}
 use borrow.Author.Needs.{needs}
+use Rattle.backplane.specs.Bus.{arrived}
+use Rattle.backplane.specs.declared.Bus.{Bus}
 use Rattle.backplane.proofs.arrivals.arrived.Statement.{statement}
 use Rattle.backplane.proofs.arrivals.arrived.Tie as tie
 

@@ -1,13 +1,13 @@
 -- After x turns the first x entries are the words that arrive.
 use Prim.Native.Nat.{_-_, _%_, _≤_}
 use mathlib.Core.Path.{_≡_, refl}
-use native.Mathlib.Omega.{arith}
 use mathlib.Core.Bool.{cond}
+use native.Mathlib.Omega.{arith}
 use lib.Dec.{eqb}
 use lib.ListN.{getD, replicate}
+use borrow.Author.Needs.{needs}
 use Rattle.words.specs.Table.{updated, table}
 use Rattle.words.proofs.TableLaws.{updated-step}
-use borrow.Author.Needs.{needs}
 use Rattle.backplane.proofs.arrivals.arrived_words.Statement.{statement}
 use Rattle.backplane.proofs.arrivals.arrived_words.Tie as tie
 

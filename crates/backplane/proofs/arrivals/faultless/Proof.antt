@@ -1,17 +1,15 @@
 -- The all-ones vector fits a word.
-use mathlib.Core.Path.{ap, _∙_}
+use Prim.Native.Nat.{ℕ}
+use mathlib.Core.Path.{ap, _∙_, ap₂}
+use mathlib.Core.List.{List}
+use borrow.Author.Needs.{needs}
 use Rattle.words.specs.Array.{array}
 use Rattle.words.specs.Table.{table}
-use borrow.Author.Needs.{needs}
-use Rattle.rules.specs.Hearing.{busWord}
-use Rattle.backplane.specs.Bus.{faultless}
-use Prim.Native.Nat.{ℕ}
-use mathlib.Core.Path.{ap₂}
-use mathlib.Core.List.{List}
-use Rattle.backplane.specs.declared.Bus.{Bus}
 use Rattle.words.proofs.BitLaws.{full-lt}
+use Rattle.rules.specs.Hearing.{busWord}
 use Rattle.rules.proofs.HearingLaws.{below-kind}
-use borrow.Author.Needs.{needs}
+use Rattle.backplane.specs.Bus.{faultless}
+use Rattle.backplane.specs.declared.Bus.{Bus}
 use Rattle.backplane.proofs.arrivals.faultless.Statement.{statement}
 use Rattle.backplane.proofs.arrivals.faultless.Tie as tie
 

@@ -1,19 +1,15 @@
 -- After j turns the first j words are those of the read, and the rest is as it was.
-use Prim.Native.Nat.{_+_, _-_, _*_, _≤_}
+use Prim.Native.Nat.{_+_, _-_, _*_, _≤_, ℕ}
 use mathlib.Core.Path.{_≡_, refl, ap, _∙_}
-use native.Mathlib.Omega.{arith}
 use mathlib.Core.Bool.{cond}
-use lib.Dec.{ltb}
-use lib.ListN.{getD, length}
-use Rattle.words.specs.Word.{bytesOf}
-use Rattle.words.proofs.ByteLaws.{bytes-step, bytes-all}
-use borrow.Author.Needs.{needs}
-use Rattle.backplane.specs.Bus.{readWords}
-use Prim.Native.Nat.{ℕ}
 use mathlib.Core.List.{List, _++_}
-use lib.ListN.{drop}
-use Rattle.words.specs.Word.{putWord}
-use Prim.Native.Nat.{ℕ}
+use native.Mathlib.Omega.{arith}
+use lib.Dec.{ltb}
+use lib.ListN.{getD, length, drop}
+use borrow.Author.Needs.{needs}
+use Rattle.words.specs.Word.{bytesOf, putWord}
+use Rattle.words.proofs.ByteLaws.{bytes-step, bytes-all}
+use Rattle.backplane.specs.Bus.{readWords}
 use Rattle.backplane.proofs.arrivals.put_read.Statement.{statement}
 use Rattle.backplane.proofs.arrivals.put_read.Tie as tie
 

@@ -1,12 +1,12 @@
 -- After j turns the vector has the bits below j.
 use Prim.Native.Nat.{_-_, _≤_}
 use mathlib.Core.Path.{_≡_, refl}
-use native.Mathlib.Omega.{arith}
 use mathlib.Core.Bool.{cond}
+use native.Mathlib.Omega.{arith}
 use lib.Dec.{ltb}
+use borrow.Author.Needs.{needs}
 use Rattle.words.specs.Bits.{bit, pack}
 use Rattle.words.proofs.BitLaws.{pack-step, pack-lt}
-use borrow.Author.Needs.{needs}
 use Rattle.backplane.specs.Bus.{readBits}
 use Rattle.backplane.proofs.arrivals.read_bits.Statement.{statement}
 use Rattle.backplane.proofs.arrivals.read_bits.Tie as tie

@@ -1,8 +1,8 @@
 -- As long as the search goes on, the modules below i are rule-breakers; it stops at the first that is not, or at n.
 use Prim.Native.Nat.{_-_, _≤_}
 use mathlib.Core.Path.{_≡_, refl, sym, ap, _∙_}
-use native.Mathlib.Omega.{arith}
 use mathlib.Core.Bool.{not}
+use native.Mathlib.Omega.{arith}
 use Rattle.words.specs.Bits.{bit}
 use Rattle.words.specs.Count.{lowest}
 use Rattle.words.proofs.LowestLaws.{lowest-none, lowest-found, lowest-ends}

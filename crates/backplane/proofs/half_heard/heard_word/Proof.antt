@@ -2,7 +2,6 @@
 use borrow.Author.Needs.{needs}
 use Rattle.rules.specs.Hearing.{entryOf}
 use Rattle.backplane.specs.Heard.{heardWord}
-use borrow.Author.Needs.{needs}
 use Rattle.backplane.proofs.half_heard.heard_word.Statement.{statement}
 use Rattle.backplane.proofs.half_heard.heard_word.Tie as tie
 

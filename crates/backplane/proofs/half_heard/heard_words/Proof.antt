@@ -3,10 +3,10 @@ use Prim.Native.Nat.{_-_, _/_, _%_, _≤_}
 use mathlib.Core.Path.{_≡_, refl}
 use native.Mathlib.Omega.{arith}
 use lib.ListN.{getD, replicate}
+use borrow.Author.Needs.{needs}
 use Rattle.words.specs.Bits.{bit}
 use Rattle.words.specs.Table.{updated, table}
 use Rattle.words.proofs.TableLaws.{updated-step}
-use borrow.Author.Needs.{needs}
 use Rattle.backplane.specs.Heard.{heardWord, heardWords}
 use Rattle.backplane.proofs.half_heard.heard_words.Statement.{statement}
 use Rattle.backplane.proofs.half_heard.heard_words.Tie as tie

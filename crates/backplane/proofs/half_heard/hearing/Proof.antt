@@ -1,10 +1,9 @@
 -- Words are compared with those of the first rule-follower.
-use borrow.Author.Needs.{needs}
 use Prim.Native.Nat.{ℕ}
 use mathlib.Core.Path.{ap₂}
+use borrow.Author.Needs.{needs}
 use Rattle.backplane.specs.Limit.{hearingOf}
 use Rattle.backplane.proofs.HearingLaws.{first-small, half-made, heard-made}
-use borrow.Author.Needs.{needs}
 use Rattle.backplane.proofs.half_heard.hearing.Statement.{statement}
 use Rattle.backplane.proofs.half_heard.hearing.Tie as tie
 

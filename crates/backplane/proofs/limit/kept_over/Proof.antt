@@ -2,11 +2,11 @@
 use Prim.Native.Nat.{_-_, _≤_}
 use mathlib.Core.Path.{_≡_, refl}
 use native.Mathlib.Omega.{arith}
+use borrow.Author.Needs.{needs}
 use Rattle.words.specs.Count.{count}
 use Rattle.words.proofs.CountLaws.{count-more}
-use borrow.Author.Needs.{needs}
-use Rattle.backplane.specs.Limit.{isHalf, isBreaker, isUnheard, keptOver}
 use Rattle.agreement.specs.Fault.{within}
+use Rattle.backplane.specs.Limit.{isHalf, isBreaker, isUnheard, keptOver}
 use Rattle.backplane.proofs.limit.kept_over.Statement.{statement}
 use Rattle.backplane.proofs.limit.kept_over.Tie as tie
 

@@ -3,9 +3,9 @@ use Prim.Native.Nat.{_+_, _-_, _≤_}
 use mathlib.Core.Path.{_≡_}
 use native.Mathlib.Omega.{arith}
 use lib.ListN.{replicate}
+use borrow.Author.Needs.{needs}
 use Rattle.words.specs.Table.{updated}
 use Rattle.words.proofs.TableLaws.{updated-step}
-use borrow.Author.Needs.{needs}
 use Rattle.presence.specs.Opening.{openOf}
 use Rattle.backplane.specs.Play.{openedStates}
 use Rattle.backplane.proofs.play.opened_states.Statement.{statement}

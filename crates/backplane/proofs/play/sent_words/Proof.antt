@@ -1,17 +1,16 @@
 -- After j turns the array has the words of the modules below j.
-use Prim.Native.Nat.{_-_, _%_, _^_, _≤_, _<_}
+use Prim.Native.Nat.{_-_, _%_, _^_, _≤_, _<_, ℕ}
 use mathlib.Core.Path.{_≡_, refl, ap, _∙_}
 use native.Mathlib.Omega.{arith}
 use lib.ListN.{getD, length}
+use borrow.Author.Needs.{needs}
 use Rattle.words.specs.Array.{array}
 use Rattle.words.proofs.ArrayLaws.{array-step}
-use borrow.Author.Needs.{needs}
+use Rattle.words.proofs.TableLaws.{getD-there}
 use Rattle.rules.specs.Hearing.{busWord}
 use Rattle.presence.specs.Opening.{blank}
-use Rattle.backplane.specs.Play.{sentWords}
 use Rattle.presence.specs.declared.State.{State}
-use Rattle.words.proofs.TableLaws.{getD-there}
-use Prim.Native.Nat.{ℕ}
+use Rattle.backplane.specs.Play.{sentWords}
 use Rattle.backplane.proofs.play.sent_words.Statement.{statement}
 use Rattle.backplane.proofs.play.sent_words.Tie as tie
 

@@ -1,6 +1,6 @@
 -- After i turns the modules below i have made their steps, and the others are as they were.
-use Prim.Native.Nat.{_-_, _≤_, _<_}
-use mathlib.Core.Path.{_≡_, refl, ap, _∙_}
+use Prim.Native.Nat.{_-_, _≤_, _<_, ℕ}
+use mathlib.Core.Path.{_≡_, refl, ap, _∙_, ap₂, sym, subst}
 use native.Mathlib.Omega.{arith}
 use lib.ListN.{getD, length}
 use Rattle.words.specs.Array.{array}
@@ -8,13 +8,11 @@ use Rattle.words.specs.Table.{updated}
 use Rattle.words.proofs.ArrayLaws.{array-step}
 use Rattle.words.proofs.TableLaws.{updated-step}
 use Rattle.presence.specs.Opening.{blank}
-use Rattle.backplane.specs.Bus.{readWords, readBits}
 use Rattle.presence.specs.declared.State.{State}
-use Prim.Native.Nat.{ℕ}
-use mathlib.Core.Path.{ap₂, sym, subst}
 use Rattle.presence.specs.Valid.{Valid}
 use Rattle.presence.specs.Step.{stepOf}
 use Rattle.presence.specs.declared.Stepped.{Stepped}
+use Rattle.backplane.specs.Bus.{readWords, readBits}
 use Rattle.backplane.specs.Play.{stepAt, steppedStates, answeredHealth}
 use Rattle.backplane.proofs.PlayLaws.{not-yet-stepped}
 use Rattle.backplane.proofs.play.step_all.Statement.{statement}

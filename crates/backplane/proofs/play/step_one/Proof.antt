@@ -1,17 +1,14 @@
 -- The read is written into a buffer of its own, and the module makes its step on it.
-use Prim.Native.Nat.{_*_}
+use Prim.Native.Nat.{_*_, ℕ}
 use mathlib.Core.Path.{refl, sym, ap, _∙_}
-use native.Mathlib.Omega.{arith}
-use lib.ListN.{replicate}
-use borrow.Author.Needs.{needs}
-use Prim.Native.Nat.{ℕ}
 use mathlib.Core.List.{List, _++_}
+use native.Mathlib.Omega.{arith}
+use lib.ListN.{replicate, drop}
+use lib.Seq.{length-take-le}
+use borrow.Author.Needs.{needs}
 use Rattle.presence.specs.Step.{stepOf}
 use Rattle.presence.proofs.CallLaws.{step-of}
-use lib.ListN.{drop}
-use lib.Seq.{length-take-le}
 use Rattle.backplane.proofs.PlayLaws.{front-fits, front-taken}
-use borrow.Author.Needs.{needs}
 use Rattle.backplane.proofs.play.step_one.Statement.{statement}
 use Rattle.backplane.proofs.play.step_one.Tie as tie
 

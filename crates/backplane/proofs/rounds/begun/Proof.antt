@@ -1,20 +1,17 @@
 -- The setup is the part of the script that it was checked by; the cast comes after it.
-use Prim.Native.Nat.{_+_}
-use mathlib.Core.Path.{ap, _∙_}
+use Prim.Native.Nat.{_+_, ℕ}
+use mathlib.Core.Path.{ap, _∙_, ap₂}
 use native.Mathlib.Omega.{arith}
-use Rattle.words.specs.Word.{wordAt}
 use borrow.Author.Needs.{needs}
-use Prim.Native.Nat.{ℕ}
-use mathlib.Core.Path.{ap₂}
+use Rattle.words.specs.Word.{wordAt}
 use Rattle.setup.specs.declared.SetupRead.{SetupRead}
 use Rattle.setup.specs.Check.{readSetup}
 use Rattle.script.specs.Words.{castIn}
+use Rattle.script.specs.Cursor.{start}
 use Rattle.backplane.specs.Play.{opened}
 use Rattle.backplane.specs.Run.{begun}
 use Rattle.backplane.proofs.StartLaws.{few, cast-there, few-read}
 use Rattle.backplane.proofs.RunLaws.{made}
-use Rattle.script.specs.Cursor.{start}
-use borrow.Author.Needs.{needs}
 use Rattle.backplane.proofs.rounds.begun.Statement.{statement}
 use Rattle.backplane.proofs.rounds.begun.Tie as tie
 

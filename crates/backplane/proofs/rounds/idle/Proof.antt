@@ -1,16 +1,15 @@
 -- A backplane without modules, and a script that is over.
 use mathlib.Core.Path.{ap, _∙_}
+use mathlib.Core.Bool.{true}
 use native.Mathlib.Omega.{arith}
 use borrow.Author.Needs.{needs}
-use Rattle.presence.specs.Opening.{blank}
-use Rattle.script.specs.declared.Events.{Events}
-use mathlib.Core.Bool.{true}
 use Rattle.setup.specs.Setup.{blankSetup}
 use Rattle.setup.specs.declared.Setup.{Setup}
+use Rattle.presence.specs.Opening.{blank}
+use Rattle.script.specs.declared.Events.{Events}
 use Rattle.backplane.specs.Play.{opened}
 use Rattle.backplane.specs.Run.{idle}
 use Rattle.backplane.proofs.RunLaws.{made}
-use borrow.Author.Needs.{needs}
 use Rattle.backplane.proofs.rounds.idle.Statement.{statement}
 use Rattle.backplane.proofs.rounds.idle.Tie as tie
 

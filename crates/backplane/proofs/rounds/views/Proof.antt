@@ -3,12 +3,12 @@ use Prim.Native.Nat.{_-_, _≤_, _<_}
 use mathlib.Core.Path.{_≡_, refl, ap, _∙_}
 use native.Mathlib.Omega.{arith}
 use lib.ListN.{getD, length}
+use borrow.Author.Needs.{needs}
 use Rattle.words.specs.Array.{array}
 use Rattle.words.proofs.ArrayLaws.{array-step}
-use borrow.Author.Needs.{needs}
+use Rattle.words.proofs.TableLaws.{getD-there}
 use Rattle.presence.specs.Opening.{blank}
 use Rattle.presence.specs.declared.State.{State}
-use Rattle.words.proofs.TableLaws.{getD-there}
 use Rattle.backplane.proofs.rounds.views.Statement.{statement}
 use Rattle.backplane.proofs.rounds.views.Tie as tie
 
