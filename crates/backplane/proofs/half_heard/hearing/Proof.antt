@@ -1,6 +1,7 @@
 -- Words are compared with those of the first rule-follower.
 use Prim.Native.Nat.{ℕ}
 use mathlib.Core.Path.{ap₂}
+use native.Mathlib.Omega.{arith}
 use borrow.Author.Needs.{needs}
 use Rattle.backplane.specs.Limit.{hearingOf}
 use Rattle.backplane.proofs.HearingLaws.{first-small, half-made, heard-made}
@@ -14,7 +15,10 @@ first-follower-requires : tie.Need-first-follower-requires
 first-follower-requires c κs = search needs
 
 half-heard-requires : tie.Need-half-heard-requires
-half-heard-requires c κs = (c .before .before .before .before .before .before .pre, rw (c .before .first-follower .ensures) (first-small _ _ (c .before .before .before .before .before .before .args .bus) (c .before .before .before .before .before .before .pre)))
+half-heard-requires c κs =
+    let s = c .before .before .before .before .before .before in
+    let f = first-small (s .args .n) (s .args .cast) (s .args .bus) (s .pre) in
+    (s .pre, omega (arith, f, c .before .first-follower .ensures))
 
 heard-senders-requires : tie.Need-heard-senders-requires
 heard-senders-requires c κs = search needs
