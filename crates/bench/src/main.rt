@@ -2,14 +2,18 @@
 use backplane::Run;
 use text::line::put_refusal;
 ghost use mathlib.Core.Path.{_≡_};
+ghost use mathlib.Core.Bool.{cond};
 ghost use Prim.Native.Nat.{_≤_};
+ghost use lib.Dec.{leb};
 ghost use lib.ListN.{length};
+ghost use Rattle.text.specs.Wrote.{Wrote};
 ghost use Rattle.backplane.specs.Play.{Sound};
+ghost use Rattle.backplane.specs.Run.{printed};
 
-// Writes what is in the buffer if the lines of a round might not fit after it, and answers the next free place.
+// The place of the next round's lines: where they might not fit after what is in the buffer, that is written and they go to its front.
 fn make_room(out: &[u8], at: usize) -> usize
     requires { ⌜ (length (now out) ≡ 65536) × (at ≤ 65536) ⌝ }
-    ensures { λ r. ⌜ r ≤ 64704 ⌝ }
+    ensures { λ r. ⌜ (r ≡ cond (leb at 64704) at 0) × (r ≤ 64704) ⌝ }
 {
     if at <= 64704 {
         return at;
@@ -21,7 +25,7 @@ fn make_room(out: &[u8], at: usize) -> usize
 // Puts the lines of a round into the buffer.
 fn put_round(run: Run, out: &mut [u8], at: usize) -> usize
     requires { ⌜ (run .backplane .setup .n ≤ 16) × (length (now out) ≡ 65536) × (at ≤ 65536) ⌝ }
-    ensures { λ r. ⌜ r ≤ 65536 ⌝ }
+    ensures { λ r. ⌜ Wrote (now (out .entry)) (cond (leb at 64704) at 0) (printed (run .backplane)) (now (out .exit)) r × (r ≤ 65536) ⌝ }
 {
     let from = make_room(out, at);
     run.put_lines(out, from)

@@ -51,7 +51,7 @@ loop-less-2 c = omega arith
 loop-again-2 : tie.Need-loop-again-2 Inv-loop μ-loop
 loop-again-2 c =
     let l = c .before .before .before .before .before .before .before .loop in
-    (c .before .put-round .ensures, c .before .put-round .kept .1 .0 ∙ l .inv .1, subst (λ (r : Run). Sound (r .backplane)) (sym (c .before .before .before .before .before .next .ensures)) (next-sound _ _ (c .before .before .before .before .before .before .before .loop .inv .2)))
+    (c .before .put-round .ensures .1, c .before .put-round .kept .1 .0 ∙ l .inv .1, subst (λ (r : Run). Sound (r .backplane)) (sym (c .before .before .before .before .before .next .ensures)) (next-sound _ _ (c .before .before .before .before .before .before .before .loop .inv .2)))
 
 array-share-prefix-out : tie.Need-array-share-prefix-out Inv-loop μ-loop
 array-share-prefix-out c = rw (c .before .loop .inv .1) (c .before .loop .inv .0)
