@@ -1,7 +1,7 @@
 //! Demand 3 and lemma 3 on random runs of the model.
 
 use harness::model::words::has;
-use harness::random::scripts::script;
+use harness::random::scripts::{careful_script, script};
 use harness::random::Random;
 use harness::script::limit::Hearing;
 use harness::script::print::play_rounds;
@@ -20,8 +20,8 @@ fn demand_3() {
     let mut rounds_due = 0;
     let mut with_faults = 0;
     let mut unheard_due = 0;
-    for _ in 0..1_500 {
-        let script = script(&mut random);
+    for at in 0..3_000 {
+        let script = if at % 2 == 0 { script(&mut random) } else { careful_script(&mut random) };
         let n = script.setup.n;
         let u = script.setup.u();
         let followers: Vec<usize> = (1..=n).filter(|&j| !has(script.cast, j)).collect();

@@ -1,11 +1,12 @@
 //! Runs a bench program on run scripts and compares with the model byte for byte.
 //! Usage: scripts COUNT SEED BENCH
 //!        scripts --dir DIR BENCH    (all NNN.bin with NNN.out of a folder, also against the model)
+//!        scripts --long BENCH       (100,000 rounds exactly; too many lines to keep in a file)
 
-use harness::random::scripts::{script_bytes, WAYS};
+use harness::random::reached::Reached;
+use harness::random::scripts::{long_runs, script_bytes, WAYS};
 use harness::random::Random;
 use harness::script::run;
-use std::collections::BTreeMap;
 use std::env;
 use std::fs;
 use std::io::Write;
@@ -17,6 +18,7 @@ fn main() -> ExitCode {
     let arguments: Vec<String> = env::args().skip(1).collect();
     let result = match arguments.iter().map(String::as_str).collect::<Vec<_>>().as_slice() {
         ["--dir", folder, bench] => run_folder(folder, bench),
+        ["--long", bench] => run_long(bench),
         [count, seed, bench] => match (count.parse(), seed.parse()) {
             (Ok(count), Ok(seed)) => run_random(count, seed, bench),
             _ => usage(),
@@ -33,16 +35,15 @@ fn main() -> ExitCode {
 }
 
 fn usage() -> Result<(), String> {
-    Err("usage: scripts COUNT SEED BENCH, or scripts --dir DIR BENCH".to_string())
+    Err("usage: scripts COUNT SEED BENCH, or scripts --dir DIR BENCH, or scripts --long BENCH".to_string())
 }
 
 fn run_random(count: usize, seed: u64, bench: &str) -> Result<(), String> {
     let mut random = Random::new(seed);
-    let mut kinds: BTreeMap<String, u64> = BTreeMap::new();
+    let mut reached = Reached::default();
     for at in 0..count {
         let bytes = script_bytes(&mut random, at % WAYS);
-        let wanted = by_model(&bytes);
-        let found = by_bench(bench, &bytes)?;
+        let (wanted, found) = by_both(bench, &bytes)?;
         if found != wanted {
             let path = env::temp_dir().join(format!("scripts-{seed}-{at}.bin"));
             let kept = match fs::write(&path, &bytes) {
@@ -54,11 +55,28 @@ fn run_random(count: usize, seed: u64, bench: &str) -> Result<(), String> {
                 first_difference(&wanted, &found)
             ));
         }
-        *kinds.entry(kind_of(&wanted)).or_insert(0) += 1;
+        reached.add(&bytes, &wanted);
     }
-    let counts: Vec<String> = kinds.iter().map(|(kind, count)| format!("{kind}:{count}")).collect();
-    println!("outputs by kind {}", counts.join(" "));
+    println!("scripts by what they reach:\n{}", reached.report().trim_end());
+    let never = reached.never();
+    if !never.is_empty() {
+        println!("  never: {}", never.join("; "));
+    }
     println!("scripts: {count} scripts, seed {seed}: all equal");
+    Ok(())
+}
+
+fn run_long(bench: &str) -> Result<(), String> {
+    for (name, bytes) in long_runs() {
+        let (wanted, found) = by_both(bench, &bytes)?;
+        if found != wanted {
+            return Err(format!("DIFFERENCE in {name}\n{}", first_difference(&wanted, &found)));
+        }
+        if !wanted.starts_with(b"1 1 ") || wanted.iter().filter(|byte| **byte == b'\n').count() != 200_000 {
+            return Err(format!("{name}: not 100,000 rounds of two modules"));
+        }
+        println!("scripts: {name}: 200,000 lines equal");
+    }
     Ok(())
 }
 
@@ -96,6 +114,15 @@ fn by_model(bytes: &[u8]) -> Vec<u8> {
     out
 }
 
+/// The outputs of model and bench; the model plays while the bench does.
+fn by_both(bench: &str, bytes: &[u8]) -> Result<(Vec<u8>, Vec<u8>), String> {
+    thread::scope(|scope| {
+        let model = scope.spawn(|| by_model(bytes));
+        let found = by_bench(bench, bytes)?;
+        Ok((model.join().expect("the model ends"), found))
+    })
+}
+
 /// Standard input to standard output of the program; it may stop reading early.
 fn by_bench(bench: &str, bytes: &[u8]) -> Result<Vec<u8>, String> {
     let mut child = Command::new(bench)
@@ -114,15 +141,6 @@ fn by_bench(bench: &str, bytes: &[u8]) -> Result<Vec<u8>, String> {
         return Err(format!("{bench}: {}", output.status));
     }
     Ok(output.stdout)
-}
-
-/// `played`, or `refused N`.
-fn kind_of(output: &[u8]) -> String {
-    let text = String::from_utf8_lossy(output);
-    match text.strip_prefix("refused ") {
-        Some(rest) => format!("refused {:>2}", rest.split(' ').next().unwrap_or("?")),
-        None => "played".to_string(),
-    }
 }
 
 /// The first line in which two outputs differ.

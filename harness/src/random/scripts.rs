@@ -9,7 +9,7 @@ use crate::script::check::words;
 use crate::script::{Item, Script};
 
 /// How many ways `script_bytes` knows.
-pub const WAYS: usize = 28;
+pub const WAYS: usize = 33;
 
 /// A run script made in one of the ways 0..WAYS-1.
 pub fn script_bytes(random: &mut Random, way: usize) -> Vec<u8> {
@@ -150,8 +150,26 @@ pub fn script_bytes(random: &mut Random, way: usize) -> Vec<u8> {
             all[j as usize + 2] = 4 << 28 | number << 23 | place << 17 | criticality;
             bytes_of(&all)
         }
+        // 2: a wrong head, before a sound rest.
+        31 => {
+            let spare = 1 << random.between(5, 27);
+            let kind = random.pick(&[0, 2, 3, 5, 9, 15]) << 28;
+            all[0] = random.pick(&[
+                1 << 28,
+                1 << 28 | 1,
+                1 << 28 | 17,
+                1 << 28 | 31,
+                all[0] | spare,
+                kind | n as u32,
+            ]);
+            bytes_of(&all)
+        }
+        // 3: whole words, fewer than N+3.
+        27 => bytes_of(&all[..1 + random.below(n + 2)]),
+        // Accepted, and within the fault limit or just over it.
+        28..=30 => bytes_of(&words(&careful_script(random))),
         // Accepted: 100,000 rounds, no more.
-        25 if random.chance(1, 3) => {
+        25 if random.chance(1, 6) => {
             let mut script = script;
             script.setup = setup_of(random, 2, 1);
             script.cast &= 3;
@@ -185,9 +203,10 @@ pub fn script(random: &mut Random) -> Script {
 
 fn script_of(random: &mut Random, setup: Setup, cast: u32) -> Script {
     let mut items = Vec::new();
+    let quiet = random.chance(1, 20);
     for _ in 0..1 + random.below(10) {
         // Few events keep within the fault limit, many leave it.
-        let events = random.pick(&[0, 1, 1, 1, 2, 3, 8]);
+        let events = if quiet { 0 } else { random.pick(&[0, 1, 1, 1, 2, 3, 8]) };
         for _ in 0..events {
             items.push(event(random, setup.n, cast));
         }
@@ -196,19 +215,94 @@ fn script_of(random: &mut Random, setup: Setup, cast: u32) -> Script {
     Script { setup, cast, items }
 }
 
+/// An accepted script that keeps within the fault limit, often with nothing to spare, or at times
+/// passes it by one. Events lie three rounds apart, so no round counts those of two plays.
+pub fn careful_script(random: &mut Random) -> Script {
+    let mut setup = lively_setup(random);
+    while setup.n < 4 {
+        setup = lively_setup(random);
+    }
+    let n = setup.n;
+    let mut cast: u32 = 0;
+    for _ in 0..random.below(n / 2) {
+        cast |= 1 << random.below(n);
+    }
+    let mut items = Vec::new();
+    for _ in 0..1 + random.below(8) {
+        // The limit is N > 2a + 2s + b + 1; every rule-breaker counts two, half heard or not.
+        let mut spare = n - 2 - 2 * cast.count_ones() as usize;
+        let half = random.between(1, n as u32) as usize;
+        if cast >> (half - 1) & 1 == 1 {
+            for _ in 0..1 + random.below(4) {
+                items.push(event_by(random, n, cast, half));
+            }
+        } else if spare >= 2 && random.chance(2, 3) {
+            spare -= 2;
+            items.push(Item::Loss { sender: half, receivers: random.mask(n) });
+        }
+        let mut unheard = match random.below(8) {
+            0..=2 => spare,
+            3..=6 => random.below(spare + 1),
+            _ => spare + random.below(2),
+        };
+        for sender in 1..=n {
+            if sender == half {
+                continue;
+            }
+            if cast >> (sender - 1) & 1 == 1 {
+                match random.below(4) {
+                    0 | 1 => {}
+                    2 => items.push(Item::Lie { sender, receivers: full(n), told: told(random, n) }),
+                    // Unheard by all, by some for the word they are told.
+                    _ => {
+                        items.push(Item::Loss { sender, receivers: full(n) });
+                        items.push(Item::Lie {
+                            sender,
+                            receivers: random.mask(n),
+                            told: random.pick(&[0, 6 << 28]),
+                        });
+                    }
+                }
+            } else if unheard > 0 {
+                unheard -= 1;
+                items.push(Item::Loss { sender, receivers: full(n) });
+            }
+        }
+        items.push(Item::Play { rounds: random.pick(&[3, 3, 4, 6]) });
+    }
+    Script { setup, cast, items }
+}
+
 fn event(random: &mut Random, n: usize, cast: u32) -> Item {
     let sender = random.between(1, n as u32) as usize;
+    event_by(random, n, cast, sender)
+}
+
+fn event_by(random: &mut Random, n: usize, cast: u32, sender: usize) -> Item {
     let receivers = random.mask(n);
     if cast >> (sender - 1) & 1 == 0 || random.chance(1, 3) {
         return Item::Loss { sender, receivers };
     }
-    let told = match random.below(8) {
+    let told = told(random, n);
+    Item::Lie { sender, receivers, told }
+}
+
+fn told(random: &mut Random, n: usize) -> u32 {
+    match random.below(8) {
         0 => random.word(),
         // Words that look like words of a script.
-        1 => random.pick(&[9 << 28, 6 << 28, 7 << 28 | 1 << 23, 8 << 28, 5 << 28 | 1 << n, 0]),
+        1 => random.pick(&[
+            9 << 28,
+            9 << 28 | 1,
+            6 << 28,
+            7 << 28 | 1 << 23 | 1,
+            8 << 28 | 1 << 23 | 1,
+            1 << 28 | n as u32,
+            5 << 28 | 1 << n,
+            0,
+        ]),
         _ => 5 << 28 | random.vector(n),
-    };
-    Item::Lie { sender, receivers, told }
+    }
 }
 
 /// Rounds of more than three digits.
@@ -242,4 +336,23 @@ fn crowded_script(random: &mut Random, count: usize) -> Vec<u8> {
     }
     script.items.push(Item::Play { rounds: 2 });
     bytes_of(&words(&script))
+}
+
+/// Scripts of two modules and 100,000 rounds, no more, each with a name.
+pub fn long_runs() -> Vec<(&'static str, Vec<u8>)> {
+    let setup: [u32; 5] = [0x10000002, 0x20000001, 0x30000003, 0x40840001, 0x41040001];
+    let play = |rounds: u32| 9 << 28 | rounds;
+    let quiet = [&setup[..], &[6 << 28], &[play(1_000); 100]].concat();
+    let to_1 = 8 << 28 | 1 << 23 | 1;
+    // Told words that look like plays and count no rounds; the last play is the one round left.
+    let lies = [
+        &setup[..],
+        &[6 << 28 | 1, to_1, play(1_000)],
+        &[play(1_000); 99],
+        &[to_1, play(1), play(999), play(1)],
+    ];
+    vec![
+        ("100 plays of 1,000", bytes_of(&quiet)),
+        ("told words like plays, 100,000 rounds", bytes_of(&lies.concat())),
+    ]
 }

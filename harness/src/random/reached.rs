@@ -1,0 +1,212 @@
+//! What scripts have in them and what comes of them, by name: to see what random scripts reach.
+
+use crate::model::step::heard_word;
+use crate::model::words::{full, kind, words_of, MAX};
+use crate::script::check::{check, Item, Script, MOST_BYTES, MOST_ROUNDS};
+use std::collections::BTreeMap;
+
+/// Every name, in the order of a report.
+const NAMES: [(&str, &[&str]); 10] = [
+    ("refused", &["1", "2", "3", "4", "5", "6", "12", "13", "14", "15", "16"]),
+    ("14 for want of", &["cast", "told word", "play of events", "any play"]),
+    ("played", &["N 2", "N 3", "N 4", "N 5", "N 6", "N 7", "N 8", "N 9", "N 10", "N 11", "N 12", "N 13"]),
+    ("played", &["N 14", "N 15", "N 16", "u 0", "u 1", "marks", "several plays"]),
+    ("played", &["100,000 rounds", "65,536 bytes"]),
+    ("cast of", &["nobody", "some", "all"]),
+    ("events", &["none", "losses", "lies heard", "lies not heard"]),
+    ("replaced", &["loss by loss", "loss by lie", "lie by loss", "lie by lie"]),
+    (
+        "limit",
+        &["in, no event", "in, losses", "in, lies", "in, all are cast", "in then out", "out from round 1"],
+    ),
+    ("view", &["all stay", "some leave", "modules differ"]),
+];
+
+/// How many scripts had each name.
+pub struct Reached {
+    counts: BTreeMap<(&'static str, &'static str), u64>,
+}
+
+impl Default for Reached {
+    fn default() -> Reached {
+        let mut counts = BTreeMap::new();
+        for (group, names) in NAMES {
+            for name in names {
+                counts.insert((group, *name), 0);
+            }
+        }
+        Reached { counts }
+    }
+}
+
+impl Reached {
+    /// Counts a script with the output that it gives.
+    pub fn add(&mut self, bytes: &[u8], output: &[u8]) {
+        match check(bytes) {
+            Ok(script) => self.add_played(&script, bytes, &String::from_utf8_lossy(output)),
+            Err(refused) => {
+                self.count("refused", &refused.number.to_string());
+                if refused.number == 14 {
+                    self.count("14 for want of", wanting(bytes));
+                }
+            }
+        }
+    }
+
+    /// The names that no script had.
+    pub fn never(&self) -> Vec<String> {
+        let none = self.counts.iter().filter(|(_, count)| **count == 0);
+        none.map(|((group, name), _)| format!("{group} {name}")).collect()
+    }
+
+    /// One line a group: name and count.
+    pub fn report(&self) -> String {
+        let mut text = String::new();
+        for (group, names) in NAMES {
+            let each: Vec<String> =
+                names.iter().map(|name| format!("{name}: {}", self.counts[&(group, *name)])).collect();
+            text.push_str(&format!("  {group:14} {}\n", each.join("; ")));
+        }
+        text
+    }
+
+    fn count(&mut self, group: &str, name: &str) {
+        let found = self.counts.iter_mut().find(|((g, n), _)| *g == group && *n == name);
+        *found.expect("every name is listed").1 += 1;
+    }
+
+    fn count_if(&mut self, holds: bool, group: &str, name: &str) {
+        if holds {
+            self.count(group, name);
+        }
+    }
+
+    fn add_played(&mut self, script: &Script, bytes: &[u8], output: &str) {
+        let n = script.setup.n;
+        let modules = &script.setup.modules[..n];
+        self.count("played", &format!("N {n}"));
+        self.count("played", if script.setup.u() == 0 { "u 0" } else { "u 1" });
+        self.count_if(modules.iter().any(|module| module.send_mark), "played", "marks");
+        self.count(
+            "cast of",
+            if script.cast == 0 {
+                "nobody"
+            } else if script.cast == full(n) {
+                "all"
+            } else {
+                "some"
+            },
+        );
+        self.count_if(bytes.len() == MOST_BYTES, "played", "65,536 bytes");
+
+        let rounds: Vec<u32> = script.items.iter().filter_map(rounds_of).collect();
+        self.count_if(rounds.len() > 1, "played", "several plays");
+        self.count_if(rounds.iter().sum::<u32>() == MOST_ROUNDS, "played", "100,000 rounds");
+
+        let told: Vec<u32> = script.items.iter().filter_map(told_of).collect();
+        let losses = script.items.iter().any(|item| matches!(item, Item::Loss { .. }));
+        self.count_if(told.is_empty() && !losses, "events", "none");
+        self.count_if(losses, "events", "losses");
+        self.count_if(told.iter().any(|word| heard_word(n, *word).is_some()), "events", "lies heard");
+        self.count_if(told.iter().any(|word| heard_word(n, *word).is_none()), "events", "lies not heard");
+        for name in replaced(script) {
+            self.count("replaced", name);
+        }
+
+        let begins_in = output.split('\n').next().is_some_and(|line| line.ends_with(" in"));
+        let ends_in = output.ends_with(" in\n");
+        let name = match (begins_in, ends_in) {
+            (true, true) if script.cast == full(n) => "in, all are cast",
+            (true, true) if !told.is_empty() => "in, lies",
+            (true, true) if losses => "in, losses",
+            (true, true) => "in, no event",
+            (true, false) => "in then out",
+            (false, _) => "out from round 1",
+        };
+        self.count("limit", name);
+
+        let views: Vec<&str> = output.lines().filter_map(|line| line.split(' ').nth(3)).collect();
+        let leaves = views.iter().any(|view| view.contains('0'));
+        self.count("view", if leaves { "some leave" } else { "all stay" });
+        let differ = views.chunks(n).any(|round| round.iter().any(|view| *view != round[0]));
+        self.count_if(differ, "view", "modules differ");
+    }
+}
+
+/// What a script refused by 14 lacks.
+fn wanting(bytes: &[u8]) -> &'static str {
+    let words = words_of(bytes).expect("14 has whole words");
+    let n = (words[0] & 31) as usize;
+    let mut at = n + 4;
+    if words.len() < at {
+        return "cast";
+    }
+    let (mut played, mut waits) = (false, false);
+    while at < words.len() {
+        match kind(words[at]) {
+            8 => {
+                at += 1;
+                waits = true;
+            }
+            7 => waits = true,
+            _ => {
+                played = true;
+                waits = false;
+            }
+        }
+        at += 1;
+    }
+    if at > words.len() {
+        "told word"
+    } else if waits {
+        "play of events"
+    } else {
+        assert!(!played, "14 has a reason");
+        "any play"
+    }
+}
+
+fn rounds_of(item: &Item) -> Option<u32> {
+    match item {
+        Item::Play { rounds } => Some(*rounds),
+        _ => None,
+    }
+}
+
+fn told_of(item: &Item) -> Option<u32> {
+    match item {
+        Item::Lie { told, .. } => Some(*told),
+        _ => None,
+    }
+}
+
+/// Which kinds of events replaced which, each once.
+fn replaced(script: &Script) -> Vec<&'static str> {
+    let mut waiting: [[Option<bool>; MAX]; MAX] = [[None; MAX]; MAX];
+    let mut names = Vec::new();
+    for item in &script.items {
+        let (sender, receivers, lie) = match *item {
+            Item::Loss { sender, receivers } => (sender, receivers, false),
+            Item::Lie { sender, receivers, .. } => (sender, receivers, true),
+            Item::Play { .. } => {
+                waiting = [[None; MAX]; MAX];
+                continue;
+            }
+        };
+        for (at, earlier) in waiting[sender - 1].iter_mut().enumerate() {
+            if receivers >> at & 1 == 1 {
+                names.extend(match (*earlier, lie) {
+                    (None, _) => None,
+                    (Some(false), false) => Some("loss by loss"),
+                    (Some(false), true) => Some("loss by lie"),
+                    (Some(true), false) => Some("lie by loss"),
+                    (Some(true), true) => Some("lie by lie"),
+                });
+                *earlier = Some(lie);
+            }
+        }
+    }
+    names.sort();
+    names.dedup();
+    names
+}
