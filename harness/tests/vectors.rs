@@ -67,16 +67,33 @@ fn own_calls_hold_every_number() {
     assert!(count.iter().all(|&count| count > 0), "{count:?}");
 }
 
-#[test]
-fn scripts() {
-    let mut count = 0;
-    for entry in fs::read_dir(data("vectors")).unwrap() {
+/// Every script of a folder with its output; answers the outputs.
+fn outputs(folder: &str) -> Vec<String> {
+    let mut outputs = Vec::new();
+    for entry in fs::read_dir(data(folder)).unwrap() {
         let path = entry.unwrap().path();
         if path.extension().is_some_and(|extension| extension == "bin") {
             let wanted = fs::read_to_string(path.with_extension("out")).unwrap();
             assert_eq!(common::run_both(&fs::read(&path).unwrap()), wanted, "{}", path.display());
-            count += 1;
+            outputs.push(wanted);
         }
     }
-    assert_eq!(count, 46);
+    outputs
+}
+
+#[test]
+fn scripts() {
+    assert_eq!(outputs("vectors").len(), 46);
+}
+
+/// Own scripts hold every number that a run can be refused by, and runs that end in and out of the limit.
+#[test]
+fn own_scripts() {
+    let outputs = outputs("own-scripts");
+    for number in [1, 2, 3, 4, 5, 6, 12, 13, 14, 15, 16] {
+        assert!(outputs.iter().any(|text| text.starts_with(&format!("refused {number} at "))), "{number}");
+    }
+    for limit in [" in\n", " out\n"] {
+        assert!(outputs.iter().any(|text| text.ends_with(limit)), "{limit}");
+    }
 }
