@@ -1,18 +1,19 @@
-# make run      checks the starred table of worked cases
+# make run      builds the bench and plays examples/sheet.hex, document 01's bench sheet
 # make test     the gate: proves everything from nothing, tries every wrong program that must be refused, then runs the harness
-# make harness  the harness alone: a Rust implementation of document 01 and a C program against the proved library
-# make soak     the harness on a hundred million calls
+# make harness  the harness alone: a Rust implementation of document 01 and a C program against the proved library and the bench
+# make soak     the harness on a hundred million calls and a hundred thousand run scripts
 # make measure  instructions, stack and code size of a step beside plain C, and time beside the Rust implementation
-.PHONY: run test harness soak measure library rust clean
+# make time     time of the bench beside the Rust player: 100,000 rounds of 16 modules
+.PHONY: run test harness soak measure time library bench rust clean
 
 LIB := target/staticlib
+BENCH := target/bin/bench
 RUST := target/harness/release
 SEED ?= 1
 C := $(MAKE) --no-print-directory -f harness/c.mk PRESENCE_LIB=$(LIB) C_BUILD=target/c
 
-run:
-	rt check agreement
-	@echo "The worked cases of crates/agreement/specs/Stars.antt come out as written there."
+run: bench
+	tools/hex2bin examples/sheet.hex | $(BENCH)
 
 test:
 	.ci/run
@@ -21,22 +22,35 @@ test:
 library:
 	rt staticlib presence
 
+# the proved bench, $(BENCH); rt skips what is unchanged
+bench:
+	rt check bench
+
 rust: library
 	cd harness && PRESENCE_LIB_DIR=../$(LIB) CARGO_TARGET_DIR=../target/harness cargo build --release --offline --features library
 
-harness: rust
+harness: rust bench
 	cd harness && CARGO_TARGET_DIR=../target/harness cargo test --release --offline --quiet
 	cd harness && ../$(RUST)/vectors
 	for f in harness/data/calls.txt harness/data/own-calls.txt; do $(RUST)/vectors --print $$f | diff - $$f || exit 1; done
 	$(RUST)/differential 36500 $(SEED)
+	tools/hex2bin examples/sheet.hex | cmp - harness/data/vectors/001-star-sheet.bin
+	$(RUST)/scripts --dir harness/data/vectors $(BENCH)
+	$(RUST)/scripts --dir harness/data/own-scripts $(BENCH)
+	$(RUST)/scripts --long $(BENCH)
+	$(RUST)/scripts 1000 $(SEED) $(BENCH)
 	$(C) c-all
 
-soak: rust
+soak: rust bench
 	$(RUST)/differential 3700000 $(SEED)
+	$(RUST)/scripts 100000 $(SEED) $(BENCH)
 
 measure: rust
 	$(C) measure
 	$(RUST)/time_step
+
+time: rust bench
+	harness/measure/time_bench.py $(BENCH) $(RUST)/player target/time
 
 clean:
 	rm -rf target
