@@ -15,6 +15,7 @@ use Rattle.backplane.specs.declared.Bus.{Bus}
 
 -- ---- by receiver i and sender j
 
+-- the controller bit, and the word
 abbrev pub bitTo : Bus → ℕ → ℕ → Bool
 bitTo b i j = bit (getD (b .bits) i 0) j
 

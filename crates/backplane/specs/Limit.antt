@@ -12,6 +12,7 @@ use Rattle.backplane.specs.declared.Hearing.{Hearing}
 abbrev pub followsIn : ℕ → ℕ → Bool
 followsIn cast i = not (bit cast i)
 
+-- which senders of a round are half heard, and which are heard by some rule-follower
 unfoldable pub hearingOf : ℕ → ℕ → Bus → Hearing
 hearingOf n cast b = record {
   half = pack n (half n (followsIn cast) (roundOf n b));
@@ -20,14 +21,18 @@ hearingOf n cast b = record {
 
 -- ---- which senders a, s and b count
 
+-- a: half heard in either round
 unfoldable pub isHalf : Hearing → Hearing → ℕ → Bool
 isHalf h h′ j = bit (h .half) j || bit (h′ .half) j
 
+-- s: another rule-breaker, heard in either
 unfoldable pub isBreaker : ℕ → Hearing → Hearing → ℕ → Bool
 isBreaker cast h h′ j = not (isHalf h h′ j) && (bit cast j && (bit (h .heard) j || bit (h′ .heard) j))
 
+-- b: of the remaining ones, unheard in either
 unfoldable pub isUnheard : ℕ → Hearing → Hearing → ℕ → Bool
 isUnheard cast h h′ j = not (isHalf h h′ j) && (not (isBreaker cast h h′ j) && (not (bit (h .heard) j) || not (bit (h′ .heard) j)))
 
+-- the limit over a round and the round u + 1 before it
 unfoldable pub keptOver : ℕ → ℕ → Hearing → Hearing → Bool
 keptOver n cast h h′ = within n (count n (isHalf h h′)) (count n (isBreaker cast h h′)) (count n (isUnheard cast h h′))

@@ -36,6 +36,7 @@ pub record Sound (b : Backplane) : Type 0 where
 unfoldable pub openedStates : Setup → List State
 openedStates s = updated (s .n) (λ i. openOf s (i + 1) .state) (replicate 16 (openOf s 1 .state))
 
+-- and all that the first round looks back on is faultless
 unfoldable pub opened : Setup → ℕ → Backplane
 opened s cast =
     let n = s .n in
@@ -64,9 +65,11 @@ stepAt s states this before i =
     stepOf (stateAt states i) (readWords (s .n) place i (this .words) (before .words))
     (readBits (s .n) place (getD (this .bits) i 0) (getD (before .bits) i 0))
 
+-- the states that the steps of all modules hand back
 unfoldable pub steppedStates : Setup → List State → Bus → Bus → List State
 steppedStates s states this before = updated (s .n) (λ i. stepAt s states this before i .state) states
 
+-- the health vectors that they answer
 unfoldable pub answeredHealth : Setup → List State → Bus → Bus → List ℕ
 answeredHealth s states this before = array (s .n) (λ i. stepAt s states this before i .health)
 

@@ -29,6 +29,7 @@ begun s =
 unfoldable pub idle : Run
 idle = record { cursor = record { at = 0; left = 0; over = true; events = none }; backplane = opened blankSetup 0 }
 
+-- a script is checked whole before anything of it is played
 unfoldable pub startOf : List ℕ → Started
 startOf s =
     let v = checkScript s in
@@ -38,6 +39,7 @@ startOf s =
 unfoldable pub goesOn : Cursor → Backplane → Bool
 goesOn c b = not (c .over) && ltb (b .round) 100000
 
+-- a script that is over leaves the backplane as it is
 unfoldable pub nextOf : List ℕ → Run → Run
 nextOf s r =
     let c = advanced s (r .cursor) in
@@ -50,5 +52,6 @@ runAt s (suc k) = nextOf s (runAt s k)
 
 -- ---- what is printed of a round
 
+-- one line for each module: round, module, health, view, `in` or `out`
 unfoldable pub printed : Backplane → List ℕ
 printed b = linesOf (b .setup .n) (b .round) (b .kept) (λ i. getD (b .health) i 0) (λ i. stateAt (b .states) i .counters .view) (b .setup .n)

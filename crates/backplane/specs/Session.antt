@@ -51,6 +51,7 @@ pub record Holds (S : Session) (k : ℕ) (b : Backplane) : Type 0 where
   pub health : (i : ℕ) → i < size S → getD (b .health) i 0 ≡ health S i k
   pub kept : b .kept ≡ all k (λ ρ. kept S (suc ρ))
 
+-- of every round of the script
 abbrev pub PlaysSession : Type 0
 PlaysSession = (s : List ℕ) → checkScript s .number ≡ 0 → (S : Session) → PlayedBy s S → (k : ℕ) → k ≤ roundsOf s → Holds S k (runAt s k .backplane)
 
@@ -66,6 +67,7 @@ pub record PrintedIn (S : Session) (k : ℕ) (b : Backplane) : Type 0 where
       → ((l : ℕ) → l < size S → l ≢ j → halfHeard S (k - 2 * u S - 1 - u S - 1) l ≡ false)
       → (i : ℕ) → RuleFollower S i → bit (getD (b .health) i 0) j ≡ true
 
+-- of every round that is printed `in`
 abbrev pub InAgrees : Type 0
 InAgrees = (s : List ℕ) → checkScript s .number ≡ 0 → (S : Session) → PlayedBy s S
     → (k : ℕ) → 0 < k → k ≤ roundsOf s → runAt s k .backplane .kept ≡ true → PrintedIn S k (runAt s k .backplane)

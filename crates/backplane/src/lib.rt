@@ -1,11 +1,11 @@
 // A whole backplane, played round by round from a run script.
 //
 // This file has what is held from round to round. The entry of module i + 1 stands at i, that of receiver i + 1 and sender j + 1 at 16 * i + j.
-pub mod arrivals;
-pub mod half_heard;
-pub mod limit;
-pub mod play;
-pub mod rounds;
+mod arrivals;
+mod half_heard;
+mod limit;
+mod play;
+mod rounds;
 
 use presence::State;
 use script::Cursor;

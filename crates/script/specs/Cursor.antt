@@ -13,9 +13,11 @@ use Rattle.script.specs.declared.Cursor.{Cursor}
 
 -- ---- the words up to the next play; `lie` is the lie whose told word comes next, or 0
 
+-- the word w is a play, and no told word
 unfoldable pub isPlay : ℕ → ℕ → Bool
 isPlay lie w = eqb lie 0 && eqb (kindOf w) 9
 
+-- the lie that waits for its told word after the word w
 unfoldable pub lieAfter : ℕ → ℕ → ℕ
 lieAfter lie w = cond (eqb lie 0 && eqb (kindOf w) 8) w 0
 

@@ -8,6 +8,7 @@ use Rattle.words.specs.Table.{table}
 use Rattle.script.specs.Words.{kindOf, senderIn, receiversIn}
 use Rattle.script.specs.declared.Events.{Events}
 
+-- every word arrives as it was sent
 unfoldable pub none : Events
 none = record { fate = replicate 256 0; told = replicate 256 0 }
 

@@ -17,6 +17,7 @@ use Rattle.script.specs.declared.Events.{Events}
 abbrev pub ToldBy : ℕ → Events → Type 0
 ToldBy cast e = (x : ℕ) → x < 256 → getD (e .fate) x 0 ≡ 8 → bit cast (x % 16) ≡ true
 
+-- the cast of a script
 abbrev pub castOf : List ℕ → ℕ
 castOf s = castIn (wordAt s (sizeIn (wordAt s 0) + 3))
 

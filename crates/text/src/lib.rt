@@ -1,5 +1,5 @@
 // The lines of the bench as text in lent bytes. Each function writes at a place and answers the place after its text.
-pub mod byte;
+mod byte;
 pub mod line;
-pub mod number;
-pub mod vector;
+mod number;
+mod vector;
