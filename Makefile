@@ -1,15 +1,17 @@
 # make run      builds the bench and plays examples/sheet.hex, document 01's bench sheet
 # make test     the gate: proves everything from nothing, tries every wrong program that must be refused, then runs the harness
 # make harness  the harness alone: a Rust implementation of document 01 and a C program against the proved library and the bench
+# make tools-test   the tests of the tools for run scripts and what the bench prints, alone; harness runs them too
 # make soak     the harness on a hundred million calls and a hundred thousand run scripts
 # make measure  instructions, stack and code size of a step beside plain C, and time beside the Rust implementation
 # make time     time of the bench beside the Rust player: 100,000 rounds of 16 modules
-.PHONY: run test harness soak measure time library bench rust clean
+.PHONY: run test harness tools-test soak measure time library bench rust clean
 
 LIB := target/staticlib
 BENCH := target/bin/bench
 RUST := target/harness/release
 SEED ?= 1
+TOOLS_TEST := BENCH=$(BENCH) python3 -m unittest discover -s tools/tests
 C := $(MAKE) --no-print-directory -f harness/c.mk PRESENCE_LIB=$(LIB) C_BUILD=target/c
 
 run: bench
@@ -39,7 +41,11 @@ harness: rust bench
 	$(RUST)/scripts --dir harness/data/own-scripts $(BENCH)
 	$(RUST)/scripts --long $(BENCH)
 	$(RUST)/scripts 1000 $(SEED) $(BENCH)
+	$(TOOLS_TEST)
 	$(C) c-all
+
+tools-test: bench
+	$(TOOLS_TEST)
 
 soak: rust bench
 	$(RUST)/differential 3700000 $(SEED)

@@ -1,0 +1,282 @@
+"""Script text to words.
+
+A line holds one statement; everything from a # on is a comment.
+
+    modules 4                                  first: how many modules
+    penalty limit 1
+    reward limit 3
+    module 1 x-axis place 4 criticality 1      one line for each module in turn; the name may be left out,
+    module 2 place 1 criticality 1 mark        and may later stand in place of the number; mark is the send mark
+    ...
+    cast none                                  the rule-breakers: none, all, or a list
+    loss 2 to all                              in the next round nobody hears module 2
+    loss x-axis to 3 4                         receivers: all, all but a list, or a list
+    lie 2 to 3 says 1011                       module 2 is in the cast: module 3 hears this syndrome, module 1 leftmost
+    lie 2 to 4 word 0x5000000F                 any told word, in hexadecimal
+    play 2                                     events count for the first round of the next play
+    word 0x90000000                            a raw word, and
+    bytes 0x9000                               one to three bytes at the end, both only with --unchecked
+"""
+
+import re
+
+from . import check
+from . import words as w
+
+NAME = re.compile(r"[A-Za-z][A-Za-z0-9_-]*\Z")
+RESERVED = {"modules", "penalty", "reward", "limit", "module", "place", "criticality", "mark", "cast", "none", "all", "but",
+            "loss", "lie", "to", "says", "word", "play", "bytes"}
+FORMS = {
+    "modules": "modules N",
+    "penalty": "penalty limit P",
+    "reward": "reward limit R",
+    "module": "module NUMBER [NAME] place L criticality C [mark]",
+    "cast": "cast none, cast all or cast MODULES",
+    "loss": "loss SENDER to RECEIVERS",
+    "lie": "lie SENDER to RECEIVERS says VECTOR, or ... word 0xHEX",
+    "play": "play ROUNDS",
+    "word": "word 0xHEX",
+    "bytes": "bytes 0xHEX",
+}
+
+
+class ScriptError(Exception):
+    """What is wrong in a script text, and in which line."""
+
+    def __init__(self, line, message):
+        super().__init__(message)
+        self.line = line
+
+
+class Source:
+    """A script text as words: their lines, the names of modules, and bytes that make no whole word."""
+
+    def __init__(self, unchecked=False):
+        self.unchecked = unchecked
+        self.n = None
+        self.names = {}
+        self.words = []
+        self.lines = []
+        self.rest = b""
+        self.line = 0
+
+    def fail(self, message):
+        raise ScriptError(self.line, message)
+
+    def put(self, *words):
+        self.words += words
+        self.lines += [self.line] * len(words)
+
+    def data(self):
+        return w.to_bytes(self.words) + self.rest
+
+
+def assemble(text, unchecked=False):
+    """The Source of a script text; a ScriptError where the text is wrong or, unless unchecked, the script would be refused."""
+    source = Source(unchecked)
+    for source.line, line in enumerate(text.split("\n"), 1):
+        tokens = line.split("#")[0].split()
+        if tokens:
+            statement(source, tokens)
+    if not unchecked:
+        refused = check.refusal(source.data())
+        if refused:
+            raise ScriptError(line_of(source, refused), f"{refused.reason} (refused {refused.number} at {refused.index})")
+    return source
+
+
+def line_of(source, refused):
+    """The line to name for a refusal: that of its word, or where the script is too long, or where it ends."""
+    if refused.number == 16:
+        return source.lines[w.MOST_BYTES // 4]
+    if refused.number in (1, 3) or refused.index >= len(source.lines):
+        return source.lines[-1] if source.lines else 1
+    return source.lines[refused.index]
+
+
+def statement(source, tokens):
+    keyword, rest = tokens[0], tokens[1:]
+    if keyword not in FORMS:
+        source.fail(f"'{keyword}' begins no statement")
+    if source.rest:
+        source.fail("bytes end a script, and here is more")
+    if keyword in ("word", "bytes") and not source.unchecked:
+        source.fail(f"a line '{keyword}' needs --unchecked")
+    if not READERS[keyword](source, rest):
+        source.fail(f"the form is: {FORMS[keyword]}")
+
+
+# Each reader takes the tokens after its keyword and answers whether they have the statement's form.
+
+
+def read_modules(source, tokens):
+    if len(tokens) != 1:
+        return False
+    if source.n is not None:
+        source.fail("the number of modules stands twice")
+    source.n = ranged(source, tokens[0], "number of modules")
+    source.put(w.make(w.HEAD, source.n))
+    return True
+
+
+def read_limit(kind, what):
+    def reader(source, tokens):
+        if len(tokens) != 2 or tokens[0] != "limit":
+            return False
+        source.put(w.make(kind, ranged(source, tokens[1], what)))
+        return True
+    return reader
+
+
+def read_module(source, tokens):
+    tokens = list(tokens)
+    mark = tokens[-1:] == ["mark"]
+    if mark:
+        tokens.pop()
+    named = len(tokens) == 6
+    if len(tokens) not in (5, 6) or tokens[-4] != "place" or tokens[-2] != "criticality":
+        return False
+    number = bounded(source, tokens[0], "module", 1, source.n, 31)
+    place = bounded(source, tokens[-3], "read place", 0, source.n, 31)
+    if named:
+        add_name(source, tokens[1], number)
+    source.put(w.module_word(number, int(mark), place, ranged(source, tokens[-1], "criticality")))
+    return True
+
+
+def add_name(source, name, number):
+    if not NAME.match(name) or name in RESERVED:
+        source.fail(f"'{name}' cannot be a name: letters, digits, - and _, a letter first, no word of the language")
+    if source.names.get(name, number) != number:
+        source.fail(f"two modules have the name '{name}'")
+    source.names[name] = number
+
+
+def read_cast(source, tokens):
+    if not tokens:
+        return False
+    source.put(w.make(w.CAST, modules_mask(source, tokens)))
+    return True
+
+
+def read_loss(source, tokens):
+    if len(tokens) < 3 or tokens[1] != "to":
+        return False
+    source.put(w.event_word(w.LOSS, one_module(source, tokens[0], 31), modules_mask(source, tokens[2:])))
+    return True
+
+
+def read_lie(source, tokens):
+    if len(tokens) < 5 or tokens[1] != "to" or tokens[-2] not in ("says", "word"):
+        return False
+    lie = w.event_word(w.LIE, one_module(source, tokens[0], 31), modules_mask(source, tokens[2:-2]))
+    told = syndrome(source, tokens[-1]) if tokens[-2] == "says" else raw_word(source, tokens[-1])
+    source.put(lie, told)
+    return True
+
+
+def read_play(source, tokens):
+    if len(tokens) != 1:
+        return False
+    source.put(w.make(w.PLAY, ranged(source, tokens[0], "play count")))
+    return True
+
+
+def read_word(source, tokens):
+    if len(tokens) != 1:
+        return False
+    source.put(raw_word(source, tokens[0]))
+    return True
+
+
+def read_bytes(source, tokens):
+    if len(tokens) != 1 or not re.match(r"0x([0-9A-Fa-f]{2}){1,3}\Z", tokens[0]):
+        return False
+    source.rest = bytes.fromhex(tokens[0][2:])
+    return True
+
+
+READERS = {
+    "modules": read_modules,
+    "penalty": read_limit(w.PENALTY_LIMIT, "penalty limit"),
+    "reward": read_limit(w.REWARD_LIMIT, "reward limit"),
+    "module": read_module,
+    "cast": read_cast,
+    "loss": read_loss,
+    "lie": read_lie,
+    "play": read_play,
+    "word": read_word,
+    "bytes": read_bytes,
+}
+
+
+# ---- numbers, modules and words ----
+
+
+def number(source, token, what):
+    # a dozen digits are more than any field holds
+    if not re.match(r"[0-9]{1,12}\Z", token):
+        source.fail(f"'{token}' is no {what}")
+    return int(token)
+
+
+def ranged(source, token, what):
+    """A number within document 01's range; with --unchecked any that fits its bits."""
+    found = number(source, token, what)
+    bits = w.RANGES[what].bits
+    if source.unchecked:
+        if found >> bits:
+            source.fail(f"the {what} {found} does not fit into {bits} bits")
+    elif not w.in_range(what, found):
+        source.fail(w.outside(what, found))
+    return found
+
+
+def bounded(source, token, what, low, high, most):
+    """A number from low to high; with --unchecked any up to most, which is what its bits hold."""
+    found = number(source, token, what)
+    if source.unchecked:
+        low, high = 0, most
+    elif high is None:
+        source.fail("the number of modules must stand before this")
+    if not low <= found <= high:
+        source.fail(f"the {what} is {found}, not within {low} to {high}")
+    return found
+
+
+def one_module(source, token, most):
+    if token in source.names:
+        return source.names[token]
+    if not token.isdigit():
+        source.fail(f"no module has the name '{token}'")
+    return bounded(source, token, "module", 1, source.n, most)
+
+
+def modules_mask(source, tokens):
+    """none, all, all but a list, or a list of modules."""
+    if tokens == ["none"]:
+        return 0
+    if tokens[0] != "all":
+        listed = [one_module(source, token, w.MOST_MODULES) for token in tokens]
+        if 0 in listed:
+            source.fail("there is no module 0 in a list")
+        return w.mask_of(listed)
+    if source.n is None or source.n > w.MOST_MODULES:
+        source.fail("'all' needs the number of modules, at most 16, before it")
+    if len(tokens) > 1 and (tokens[1] != "but" or len(tokens) == 2):
+        source.fail("after 'all' only 'but' and a list of modules can stand")
+    return w.all_modules(source.n) & ~(modules_mask(source, tokens[2:]) if len(tokens) > 2 else 0)
+
+
+def syndrome(source, token):
+    if source.n is None:
+        source.fail("'says' needs the number of modules before it")
+    if not re.match(r"[01]+\Z", token) or len(token) != source.n:
+        source.fail(f"a syndrome has one digit 0 or 1 for each of {source.n} modules, module 1 leftmost, and not '{token}'")
+    return w.make(w.BUS, w.vector_mask(token))
+
+
+def raw_word(source, token):
+    if not re.match(r"0x[0-9A-Fa-f]{8}\Z", token):
+        source.fail(f"a raw word is 0x and eight hexadecimal digits, and not '{token}'")
+    return int(token, 16)

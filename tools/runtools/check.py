@@ -1,0 +1,132 @@
+"""Document 01's check of a run script: number, index and reason of a refusal, in document 01's order."""
+
+from collections import namedtuple
+
+from . import words as w
+
+Refusal = namedtuple("Refusal", "number index reason")
+
+# The numbers that the bench can print, in the words of document 01's table.
+MEANING = {
+    1: "the script is empty, or not whole words",
+    2: "the first word is no head",
+    3: "the script has fewer words than a setup",
+    4: "a limit word is wrong",
+    5: "a module word is wrong or out of turn",
+    6: "a send mark on module 1, or with a read place at or above the module's own number",
+    12: "a run word is wrong: its kind (the cast stands first and nowhere else), a spare bit, the sender, the mask or the play count",
+    13: "a lie by a module outside the cast",
+    14: "the cast or a told word is missing, or events are never played, or nothing is played",
+    15: "over 100,000 rounds",
+    16: "the script has over 65,536 bytes",
+}
+
+
+def refusal(data):
+    """The refusal that the bench gives for these bytes, or None if it plays them."""
+    if len(data) > w.MOST_BYTES:
+        return Refusal(16, 0, f"the script has {len(data):,} bytes, over 65,536")
+    if not data or len(data) % 4:
+        return Refusal(1, 0, "the script is empty" if not data else f"{len(data):,} bytes are not whole words")
+    words = w.to_words(data)
+    return setup_refusal(words) or run_refusal(words)
+
+
+def setup_refusal(words):
+    n = w.value(words[0])
+    if w.kind(words[0]) != w.HEAD:
+        return Refusal(2, 0, "a script begins with the number of modules")
+    if not w.in_range("number of modules", n):
+        return Refusal(2, 0, w.outside("number of modules", n))
+    if len(words) < n + 3:
+        return Refusal(3, 0, f"the setup of {n} modules has {n + 3} words, and the script only {len(words)}")
+    limits = [(1, w.PENALTY_LIMIT, "penalty limit"), (2, w.REWARD_LIMIT, "reward limit")]
+    for at, kind, what in limits:
+        if w.kind(words[at]) != kind:
+            return Refusal(4, at, f"here the {what} is due")
+        if not w.in_range(what, w.value(words[at])):
+            return Refusal(4, at, w.outside(what, w.value(words[at])))
+    modules = words[3:n + 3]
+    for number, reason_of in ((5, module_reason), (6, mark_reason)):
+        for j, word in enumerate(modules, 1):
+            reason = reason_of(word, j, n)
+            if reason:
+                return Refusal(number, j + 2, reason)
+    return None
+
+
+def module_reason(word, due, n):
+    """Why this word is not that of the module that is due (number 5), or None."""
+    if w.kind(word) != w.MODULE:
+        return f"here module {due} is due"
+    module = w.read_module(word)
+    if module.number != due:
+        return f"module {module.number} stands where module {due} is due"
+    if module.place > n:
+        return f"the read place of module {due} is {module.place}, not within 0 to {n}"
+    if not w.in_range("criticality", module.criticality):
+        return w.outside("criticality", module.criticality)
+    return None
+
+
+def mark_reason(word, own, n):
+    """Why this module may not have the send mark that it has (number 6), or None."""
+    module = w.read_module(word)
+    if module.mark and own == 1:
+        return "module 1 cannot have the send mark"
+    if module.mark and module.place >= own:
+        return f"module {own} has the send mark, so its read place must be below {own}, not {module.place}"
+    return None
+
+
+def run_refusal(words):
+    n = w.value(words[0])
+    first = n + 3
+    if len(words) == first:
+        return Refusal(14, first, "the cast is missing")
+    reason = cast_reason(words[first], n)
+    if reason:
+        return Refusal(12, first, reason)
+    cast, rounds, ending = w.mask(words[first]), 0, "nothing is played"
+    for at, word, told in w.run_items(words, first + 1):
+        reason = run_word_reason(word, n)
+        if reason:
+            return Refusal(12, at, reason)
+        if w.kind(word) == w.PLAY:
+            rounds += w.value(word)
+            ending = None
+            if rounds > w.MOST_ROUNDS:
+                return Refusal(15, at, f"this play makes {rounds:,} rounds, over 100,000")
+        else:
+            ending = "the events at the end are never played"
+            if w.kind(word) == w.LIE:
+                if not cast >> (w.sender(word) - 1) & 1:
+                    return Refusal(13, at, f"module {w.sender(word)} lies but is not in the cast")
+                if told is None:
+                    ending = "the told word of the last lie is missing"
+    return Refusal(14, len(words), ending) if ending else None
+
+
+def cast_reason(word, n):
+    if w.kind(word) != w.CAST:
+        return "here the cast is due"
+    if w.value(word) >> n:
+        return f"the cast has bits beyond module {n}"
+    return None
+
+
+def run_word_reason(word, n):
+    """Why this word may not stand after the cast (number 12), or None."""
+    if w.kind(word) == w.PLAY:
+        return None if w.in_range("play count", w.value(word)) else w.outside("play count", w.value(word))
+    if w.kind(word) not in (w.LOSS, w.LIE):
+        return "here a loss, a lie or a play is due"
+    if not 1 <= w.sender(word) <= n:
+        return f"the sender is {w.sender(word)}, not within 1 to {n}"
+    if w.spare_bits(word):
+        return "spare bits are set"
+    if not w.mask(word):
+        return "no receiver is named"
+    if w.mask(word) >> n:
+        return f"the receivers go beyond module {n}"
+    return None

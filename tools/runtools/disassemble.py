@@ -1,0 +1,90 @@
+"""A script's bytes to text, in one form: assembling the text gives the same bytes again."""
+
+from . import check
+from . import words as w
+
+
+def disassemble(data):
+    """The script text. A refused script begins with the refusal, and the words from the refused one on are raw."""
+    refused = check.refusal(data)
+    words = w.to_words(data)
+    if refused is None:
+        return "\n".join(setup_lines(words) + [""] + run_lines(words, len(words))) + "\n"
+    lines = [f"# refused {refused.number} at {refused.index}: {refused.reason}",
+             "# this text assembles with --unchecked only"]
+    readable = readable_words(words, refused)
+    lines += setup_lines(words[:readable]) + run_lines(words[:readable], readable)
+    for at, word in enumerate(words[readable:], readable):
+        here = f"  # refused {refused.number} at {at}" if at == refused.index else ""
+        lines.append(f"word 0x{word:08X}{here}")
+    rest = data[len(words) * 4:]
+    if rest:
+        lines.append(f"bytes 0x{rest.hex().upper()}")
+    return "\n".join(lines) + "\n"
+
+
+def readable_words(words, refused):
+    """How many words of a refused script have a readable form: those before the refused one, and no lie without its told word."""
+    if refused.number in (1, 2, 3, 16):
+        return 0
+    if refused.number != 14:
+        return refused.index
+    items = list(w.run_items(words, w.value(words[0]) + 4))
+    cut = bool(items) and w.kind(items[-1][1]) == w.LIE and items[-1][2] is None
+    return len(words) - cut
+
+
+def setup_lines(words):
+    if not words:
+        return []
+    n = w.value(words[0])
+    lines = [f"modules {n}"]
+    lines += [f"penalty limit {w.value(word)}" for word in words[1:2]]
+    lines += [f"reward limit {w.value(word)}" for word in words[2:3]]
+    for word in words[3:n + 3]:
+        module = w.read_module(word)
+        mark = " mark" if module.mark else ""
+        lines.append(f"module {module.number} place {module.place} criticality {module.criticality}{mark}")
+    lines += [f"cast {modules_text(w.mask(word), n)}" for word in words[n + 3:n + 4]]
+    return lines
+
+
+def run_lines(words, end):
+    if not end:
+        return []
+    n, lines, played = w.value(words[0]), [], 0
+    for _, word, told in w.run_items(words[:end], n + 4):
+        if w.kind(word) == w.PLAY:
+            count = w.value(word)
+            lines.append(f"play {count}  # {rounds_text(played + 1, played + count)}")
+            played += count
+        else:
+            lines.append(event_text(word, told, n))
+    return lines
+
+
+def event_text(word, told, n):
+    what = "loss" if w.kind(word) == w.LOSS else "lie"
+    text = f"{what} {w.sender(word)} to {modules_text(w.mask(word), n)}"
+    if told is None:
+        return text
+    return f"{text} {told_text(told, n)}"
+
+
+def told_text(told, n):
+    """A told word that is heard as its syndrome, any other as it is."""
+    if w.is_heard(told, n):
+        return f"says {w.vector_text(told, n)}"
+    return f"word 0x{told:08X}"
+
+
+def modules_text(mask, n):
+    if mask == 0:
+        return "none"
+    if mask == w.all_modules(n):
+        return "all"
+    return " ".join(str(j) for j in w.modules_of(mask))
+
+
+def rounds_text(first, last):
+    return f"round {first}" if first == last else f"rounds {first} to {last}"

@@ -1,0 +1,82 @@
+"""The marks in a picture's cells. Each differs from the others by shape or hatch, and not by colour alone."""
+
+from . import svg
+
+CHARGE = "#D55E00"
+EVENT = "#0072B2"
+LIE = "#882255"
+GREY = "#9A9A9A"
+
+BAND = 13    # height of a cell's upper band: losses and lies of the round
+JUDGED = 21  # height of its lower band: how the module is judged
+
+HATCH = svg.element(
+    "pattern",
+    svg.rect(0, 0, 5, 5, fill="#EDEDED") + svg.line(0, 0, 0, 5, stroke="#8A8A8A", stroke_width=2),
+    id="outside", width=5, height=5, patternUnits="userSpaceOnUse", patternTransform="rotate(45)")
+
+
+def state(cell):
+    """Which mark a cell gets, by name. A module that some views still had before the round, and none after it, leaves."""
+    if cell.after is None:
+        return "views differ"
+    if cell.health is None:
+        return "healths differ"
+    if cell.before is not False and not cell.after:
+        return "leaves"
+    if not cell.after:
+        return "outside" if cell.health else "outside, judged 0"
+    return "healthy" if cell.health else "charged"
+
+
+def judged(name, x, y, width):
+    """The mark of a state in the lower band, whose upper left corner is x, y."""
+    middle, centre = x + width / 2, y + JUDGED / 2
+    parts = []
+    if name.startswith("outside"):
+        parts.append(svg.rect(x, y, width, JUDGED, fill="url(#outside)"))
+    if name == "outside, judged 0":
+        parts.append(svg.element("circle", cx=middle, cy=centre, r=3.5, fill="#000", stroke="#fff"))
+    if name == "charged":
+        parts.append(svg.rect(middle - 7, centre - 7, 14, 14, fill=CHARGE, stroke="#000"))
+    if name == "leaves":
+        parts.append(svg.rect(middle - 8, centre - 8, 16, 16, fill="#000"))
+        for turn in (1, -1):
+            parts.append(svg.line(middle - 4.5, centre - 4.5 * turn, middle + 4.5, centre + 4.5 * turn, stroke="#fff", stroke_width=2.5))
+    if name.endswith("differ"):
+        parts.append(differing(x, y, width, name == "views differ"))
+    return "".join(parts)
+
+
+def differing(x, y, width, hatched):
+    """A thick frame with the sign for unequal; half hatched where the views differ."""
+    right, low = x + width - 2.75, y + JUDGED - 2.75
+    half = svg.polygon([(x + 2.75, low), (right, low), (right, y + 2.75)], fill="url(#outside)")
+    return "".join([
+        svg.rect(x + 1.5, y + 1.5, width - 3, JUDGED - 3, fill="#FFF3B0", stroke="#000", stroke_width=2.5),
+        half if hatched else "",
+        svg.text(x + width / 2, y + JUDGED / 2 + 6, "≠", 16, text_anchor="middle", font_weight="bold"),
+    ])
+
+
+def events(found, n, x, y, width):
+    """Triangles for losses, diamonds for lies; filled if to all modules."""
+    names = event_names(found, n)
+    start = x + width / 2 - 5 * (len(names) - 1)
+    return "".join(event(name, start + 10 * i, y + BAND / 2) for i, name in enumerate(names))
+
+
+def event_names(found, n):
+    names = []
+    if found.losses:
+        names.append("loss to all" if len(found.losses) == n else "loss to some")
+    if found.lies:
+        names.append("lie to all" if len(found.lies) == n else "lie to some")
+    return names
+
+
+def event(name, x, y):
+    filled = name.endswith("all")
+    if name.startswith("loss"):
+        return svg.polygon([(x - 4.5, y - 4), (x + 4.5, y - 4), (x, y + 4.5)], fill=EVENT if filled else "#fff", stroke=EVENT, stroke_width=1.5)
+    return svg.polygon([(x, y - 5), (x + 4.5, y), (x, y + 5), (x - 4.5, y)], fill=LIE if filled else "#fff", stroke=LIE, stroke_width=1.5)

@@ -1,0 +1,79 @@
+"""An accepted run script as the other tools need it: setup, cast, names, and the events of each round."""
+
+from collections import namedtuple
+
+from . import check
+from . import words as w
+from .assemble import ScriptError, assemble
+
+# receivers that hear nothing from a sender in a round, and receivers that hear a told word instead
+Events = namedtuple("Events", "losses lies")
+
+
+class Script:
+    def __init__(self, data, names=None):
+        words = w.to_words(data)
+        self.n = w.value(words[0])
+        self.penalty_limit = w.value(words[1])
+        self.reward_limit = w.value(words[2])
+        self.modules = [w.read_module(word) for word in words[3:self.n + 3]]
+        self.cast = w.modules_of(w.mask(words[self.n + 3]))
+        self.names = {number: name for name, number in (names or {}).items()}
+        self.events = {}
+        self.rounds = 0
+        self._read_run(words)
+
+    def _read_run(self, words):
+        """Events count for the next round played; a later one for the same sender and receiver replaces an earlier."""
+        pending = {}
+        for _, word, told in w.run_items(words, self.n + 4):
+            if w.kind(word) == w.PLAY:
+                if pending:
+                    self.events[self.rounds + 1] = by_sender(pending)
+                    pending = {}
+                self.rounds += w.value(word)
+            else:
+                for receiver in w.modules_of(w.mask(word)):
+                    pending[w.sender(word), receiver] = told
+
+    @property
+    def u(self):
+        """Rule 1: 0 if every read place is N, else 1."""
+        return 0 if all(module.place == self.n for module in self.modules) else 1
+
+    @property
+    def followers(self):
+        return [j for j in range(1, self.n + 1) if j not in self.cast]
+
+    def label(self, module):
+        name = self.names.get(module)
+        return f"{module} {name}" if name else str(module)
+
+
+def by_sender(pending):
+    """What is pending for sender and receiver (None for a loss, else the told word), by sender."""
+    found = {}
+    for (sender, receiver), told in sorted(pending.items(), key=lambda item: item[0]):
+        events = found.setdefault(sender, Events([], []))
+        if told is None:
+            events.losses.append(receiver)
+        else:
+            events.lies.append((receiver, told))
+    return found
+
+
+def load(data, name):
+    """The Script of a file's bytes, which hold a script or its text; a ValueError with one sentence if it is refused."""
+    # every script of bytes has a 0 in its head, and a text has none
+    if b"\0" not in data:
+        try:
+            source = assemble(data.decode("utf-8"))
+        except ScriptError as error:
+            raise ValueError(f"{name}:{error.line}: {error}") from None
+        except UnicodeDecodeError:
+            raise ValueError(f"{name}: neither a script nor its text") from None
+        return Script(source.data(), source.names)
+    refused = check.refusal(data)
+    if refused:
+        raise ValueError(f"{name}: refused {refused.number} at {refused.index}: {refused.reason}")
+    return Script(data)

@@ -1,0 +1,91 @@
+"""A run in plain text: who was charged, who left the view, when the limit was broken, whether the modules agreed."""
+
+from .account import plural, rounds_text
+
+
+def summary(account):
+    lines = head_lines(account) + limit_lines(account) + agreement_lines(account)
+    lines += [""] + charge_lines(account)
+    lines += [""] + leaving_lines(account)
+    return "\n".join(lines) + "\n"
+
+
+def head_lines(account):
+    rounds = len(account.run.rounds)
+    lines = [f"{account.n} modules, {rounds:,} {plural(rounds, 'round')}"]
+    script = account.script
+    if script is None:
+        return lines + ["cast:      unknown without --script; all modules are compared"]
+    lines += [f"limits:    penalty {script.penalty_limit:,}, reward {script.reward_limit:,}"]
+    if not account.of_followers:
+        return lines + ["cast:      all modules, so there is no rule-follower; all modules are compared"]
+    return lines + [f"cast:      {labels(account, script.cast) or 'nobody'}"]
+
+
+def limit_lines(account):
+    if account.first_out is None:
+        return ["limit:     kept in every round"]
+    return [f"limit:     broken first in round {account.first_out}"]
+
+
+def agreement_lines(account):
+    who = "rule-followers" if account.of_followers else "modules"
+    differing = account.differing_rounds()
+    if not differing:
+        return [f"agreement: all {who} gave the same health and view in every round"]
+    if not account.of_followers:
+        note = "" if account.script else " (rule-breakers may; give --script to tell)"
+        return [f"agreement: modules differ in {rounds_text(differing)}{note}"]
+    faults = account.faults()
+    if not faults:
+        return [f"agreement: rule-followers differ in {rounds_text(differing)}, all after the limit was broken"]
+    return ["", f"*** FAULT: rule-followers differ in {rounds_text(faults)} while the limit was kept.",
+            "*** Demand 3 rules this out: keep the script and this output.",
+            *detail_lines(account, faults[0])]
+
+
+def detail_lines(account, number):
+    """What each rule-follower says in a round in which they differ."""
+    rows = account.run.rounds[number - 1].rows
+    return [f"    round {number}, module {account_label(account, i)}: health {rows[i - 1][0]}, view {rows[i - 1][1]}" for i in account.judges]
+
+
+def charge_lines(account):
+    lines = ["Charged (health 0 while in the view):"]
+    for j, by_judges in enumerate(account.charges(), 1):
+        for judges, rounds in in_order(by_judges):
+            count = f"{len(rounds):,} {plural(len(rounds), 'charge')}"
+            lines.append(f"  module {account_label(account, j)}: {count} in {rounds_text(rounds)}{only_by(account, judges)}")
+    return lines if len(lines) > 1 else lines + ["  nobody"]
+
+
+def leaving_lines(account):
+    lines = ["Left the view:"]
+    for j, by_judges in enumerate(account.leavings(), 1):
+        for judges, rounds in in_order(by_judges):
+            lines.append(f"  module {account_label(account, j)}: in {rounds_text(rounds)}{only_by(account, judges)}")
+        left = {i for judges in by_judges for i in judges}
+        stays = [i for i in account.judges if i not in left]
+        if left and stays:
+            lines.append(f"  module {account_label(account, j)}: still in the view of {labels(account, stays)}")
+    return lines if len(lines) > 1 else lines + ["  nobody"]
+
+
+def in_order(by_judges):
+    return sorted(by_judges.items(), key=lambda item: item[1])
+
+
+def only_by(account, judges):
+    """Nothing if all judges say so, else who does, or who does not, whichever are fewer."""
+    others = [i for i in account.judges if i not in judges]
+    if not others:
+        return ""
+    return f", only by {labels(account, judges)}" if len(judges) <= len(others) else f", but not by {labels(account, others)}"
+
+
+def labels(account, modules):
+    return ", ".join(account_label(account, j) for j in modules)
+
+
+def account_label(account, module):
+    return account.script.label(module) if account.script else str(module)

@@ -1,0 +1,118 @@
+"""The words of a run script: kinds, fields and masks, after document 01."""
+
+from collections import namedtuple
+
+HEAD, PENALTY_LIMIT, REWARD_LIMIT, MODULE, BUS, CAST, LOSS, LIE, PLAY = range(1, 10)
+
+MOST_MODULES = 16
+MOST_BYTES = 65_536
+MOST_ROUNDS = 100_000
+
+# What a number may be after document 01, and how many bits its field has.
+Range = namedtuple("Range", "low high bits")
+RANGES = {
+    "number of modules": Range(2, MOST_MODULES, 5),
+    "penalty limit": Range(1, 1_000_000, 28),
+    "reward limit": Range(1, 8_000_000, 28),
+    "criticality": Range(1, 100_000, 17),
+    "play count": Range(1, 1_000, 28),
+}
+
+ModuleWord = namedtuple("ModuleWord", "number mark place criticality")
+
+
+def kind(word):
+    return word >> 28
+
+
+def value(word):
+    """All bits but the kind."""
+    return word & 0x0FFF_FFFF
+
+
+def make(kind_, bits):
+    return kind_ << 28 | bits
+
+
+def module_word(number, mark, place, criticality):
+    return make(MODULE, number << 23 | mark << 22 | place << 17 | criticality)
+
+
+def read_module(word):
+    return ModuleWord(word >> 23 & 31, word >> 22 & 1, word >> 17 & 31, word & 0x1FFFF)
+
+
+def event_word(kind_, sender, receivers):
+    return make(kind_, sender << 23 | receivers)
+
+
+def sender(word):
+    return word >> 23 & 31
+
+
+def mask(word):
+    return word & 0xFFFF
+
+
+def spare_bits(word):
+    """The bits of an event that document 01 gives no name: 22..16."""
+    return word & 0x007F_0000
+
+
+def all_modules(n):
+    return (1 << n) - 1
+
+
+def mask_of(modules):
+    return sum(1 << (j - 1) for j in set(modules))
+
+
+def modules_of(mask_):
+    """The modules of a mask, in order."""
+    return [j + 1 for j in range(MOST_MODULES) if mask_ >> j & 1]
+
+
+def vector_text(mask_, n):
+    """A vector as document 01 prints it: module 1 leftmost."""
+    return "".join(str(mask_ >> j & 1) for j in range(n))
+
+
+def vector_mask(text):
+    return sum(1 << j for j, digit in enumerate(text) if digit == "1")
+
+
+def is_heard(word, n):
+    """Rule 2: kind 5 and no bits at N or above."""
+    return kind(word) == BUS and value(word) >> n == 0
+
+
+def to_words(data):
+    return [int.from_bytes(data[i:i + 4], "big") for i in range(0, len(data) - 3, 4)]
+
+
+def to_bytes(words):
+    return b"".join(word.to_bytes(4, "big") for word in words)
+
+
+def outside(what, number):
+    """The sentence for a number outside the range that document 01 gives it."""
+    low, high, _ = RANGES[what]
+    return f"the {what} is {number}, not within {low:,} to {high:,}"
+
+
+def in_range(what, number):
+    return RANGES[what].low <= number <= RANGES[what].high
+
+
+def run_items(words, start):
+    """The words of a run from index start on: index, word, and after a lie its told word (None if the script ends)."""
+    at = start
+    while at < len(words):
+        told = None
+        if kind(words[at]) == LIE:
+            told = words[at + 1] if at + 1 < len(words) else None
+            yield at, words[at], told
+            at += 2
+        else:
+            yield at, words[at], None
+            at += 1

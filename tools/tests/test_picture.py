@@ -1,0 +1,126 @@
+import re
+import time
+import unittest
+import xml.etree.ElementTree as xml
+
+from common import SHEET, printed, read, root, stored, tool
+
+from runtools import check, marks, script, svg
+from runtools.account import Account, Cell
+from runtools.columns import columns, label
+from runtools.lines import read_run
+from runtools.picture import picture
+
+SVG = "{http://www.w3.org/2000/svg}"
+ALL = ("1111", "1111")
+GONE = ("1110", "1110")
+SETUP = SHEET.split("cast")[0]
+
+
+def account(output, text=None):
+    return Account(read_run(output.splitlines(True)), script.load(text.encode(), "text") if text else None)
+
+
+class Columns(unittest.TestCase):
+    def labels(self, *rounds, run="cast none\nplay {n}", **options):
+        text = SETUP + run.replace("{n}", str(len(rounds)))
+        return [label(column) for column in columns(account(printed(*rounds), text), **options)]
+
+    def test_rounds_alike_are_one_column(self):
+        quiet, gone = ("in", *[ALL] * 4), ("in", *[GONE] * 4)
+        self.assertEqual(self.labels(*[quiet] * 5, *[gone] * 6), ["1–5", "6", "7–11"])
+
+    def test_two_rounds_alike_stay_two(self):
+        self.assertEqual(self.labels(*[("in", *[ALL] * 4)] * 2), ["1", "2"])
+
+    def test_a_broken_limit_and_an_event_begin_a_column(self):
+        quiet, out = ("in", *[ALL] * 4), ("out", *[ALL] * 4)
+        self.assertEqual(self.labels(*[quiet] * 3, *[out] * 3), ["1–3", "4–6"])
+        self.assertEqual(self.labels(*[quiet] * 7, run="cast none\nplay 3\nloss 1 to all\nplay 4"), ["1–3", "4", "5–7"])
+
+    def test_a_part_of_the_run(self):
+        quiet, gone = ("in", *[ALL] * 4), ("in", *[GONE] * 4)
+        self.assertEqual(self.labels(*[quiet] * 5, *[gone] * 6, first=3, last=8), ["3–5", "6", "7", "8"])
+
+
+class Marks(unittest.TestCase):
+    def test_states(self):
+        states = {(True, True, True): "healthy", (True, True, False): "charged", (True, False, False): "leaves",
+                  (False, False, True): "outside", (False, False, False): "outside, judged 0",
+                  (True, True, None): "healths differ", (True, None, None): "views differ", (None, False, False): "leaves"}
+        for cell, name in states.items():
+            self.assertEqual(marks.state(Cell(*cell)), name)
+
+    def test_every_state_but_healthy_has_its_own_shape(self):
+        drawn = [re.sub(r"#[0-9A-Fa-f]{3,6}", "colour", marks.judged(name, 0, 0, 26)) for name in
+                 ("charged", "leaves", "outside", "outside, judged 0", "healths differ", "views differ")]
+        self.assertEqual(len(set(drawn)), len(drawn))
+
+
+class Picture(unittest.TestCase):
+    def check_drawing(self, drawn):
+        """Well-formed, self-contained, and no text outside the picture (by the estimate of its width)."""
+        tree = xml.fromstring(drawn)
+        width, height = float(tree.get("width")), float(tree.get("height"))
+        for text in tree.iter(SVG + "text"):
+            x, y, size = float(text.get("x")), float(text.get("y")), float(text.get("font-size"))
+            across = 0 if text.get("transform") else svg.text_width(text.text, size * 0.9)
+            start = {"end": x - across, "middle": x - across / 2}.get(text.get("text-anchor"), x)
+            self.assertGreaterEqual(start, 0, text.text)
+            self.assertLessEqual(start + across, width, text.text)
+            self.assertLessEqual(y, height, text.text)
+            self.assertGreaterEqual(size, 10)
+        self.assertFalse(re.search(r"<script|<image|href|@import", drawn))
+
+    def test_stored_runs(self):
+        for name, data, output in stored("vectors"):
+            if check.refusal(data) is None:
+                with self.subTest(name):
+                    loaded = script.load(data, name)
+                    made = Account(read_run(output.splitlines(True)), loaded)
+                    drawn = picture(made, name)
+                    self.check_drawing(drawn)
+                    self.assertEqual(drawn, picture(made, name))
+
+    def test_the_sheet_shows_loss_and_charge(self):
+        drawn = picture(account(read(root("harness/data/vectors/001-star-sheet.out")).decode(), SHEET), "sheet")
+        self.assertIn("<title>round 1, module 2: healthy\nloss to all</title>", drawn)
+        self.assertIn("<title>round 2, module 2: charged</title>", drawn)
+        self.assertIn("Left the view: nobody.", drawn)
+
+    def test_long_names_and_signs_are_safe(self):
+        text = SETUP.replace("module 3", "module 3 a-very-long-name-of-a-card-in-the-rack") + "cast 3\nplay 1"
+        drawn = picture(account(printed(("in", *[ALL] * 4)), text), "<title> & \"more\"")
+        self.check_drawing(drawn)
+        self.assertIn("3 a-very-long-nam…", drawn)
+
+    def test_a_fault_has_a_banner(self):
+        drawn = picture(account(printed(("in", ALL, GONE, ALL, ALL)), SETUP + "cast none\nplay 1"), "fault")
+        self.assertIn("FAULT: rule-followers differ while the limit was kept, in round 1.", drawn)
+        self.check_drawing(drawn)
+
+    def test_without_a_script(self):
+        drawn = picture(account(printed(("in", ALL, GONE, ALL, ALL))), "no script")
+        self.assertIn("The upper bands are empty because no script was given.", drawn)
+        self.assertIn("modules differ about the view", drawn)
+
+    def test_a_hundred_thousand_quiet_rounds_are_one_column(self):
+        lines = "".join(f"{k} 1 11 11 in\n{k} 2 11 11 in\n" for k in range(1, 100_001))
+        started = time.time()
+        drawn = picture(account(lines), "long")
+        self.assertIn("1–100000", drawn)
+        self.assertLess(len(drawn), 20_000)
+        self.assertLess(time.time() - started, 5)
+
+    def test_too_many_columns(self):
+        lines = "".join(f"{k} 1 {h} 11 in\n{k} 2 {h} 11 in\n" for k in range(1, 4_002) for h in ["11" if k % 2 else "01"])
+        ran = tool("runpicture", given=lines.encode())
+        self.assertEqual((ran.returncode, ran.stderr.count(b"\n")), (1, 1))
+        self.assertIn(b"--rounds", ran.stderr)
+        ran = tool("runpicture", "--rounds", "100-140", given=lines.encode())
+        self.assertEqual(ran.returncode, 0)
+        self.check_drawing(ran.stdout.decode())
+
+
+if __name__ == "__main__":
+    unittest.main()

@@ -1,0 +1,142 @@
+import unittest
+
+from common import SHEET, bench, needs_bench, read, root, stored, tool
+
+from runtools import check
+from runtools.assemble import ScriptError, assemble
+from runtools.disassemble import disassemble
+
+
+class RoundTrip(unittest.TestCase):
+    def test_stored_scripts_come_back_byte_for_byte(self):
+        accepted = 0
+        for name, data, _ in stored():
+            refused = check.refusal(data)
+            text = disassemble(data)
+            with self.subTest(name):
+                self.assertEqual(assemble(text, unchecked=refused is not None).data(), data)
+                if refused is None:
+                    accepted += 1
+                    self.assertNotIn("refused", text)
+                else:
+                    self.assertTrue(text.startswith(f"# refused {refused.number} at {refused.index}: "))
+                    with self.assertRaises(ScriptError):
+                        assemble(text)
+        self.assertGreater(accepted, 250)
+
+    def test_the_sheet(self):
+        data = read(root("harness/data/vectors/001-star-sheet.bin"))
+        self.assertEqual(assemble(SHEET).data(), data)
+        self.assertEqual(disassemble(data), SHEET)
+
+
+class Language(unittest.TestCase):
+    def words(self, run, setup=SHEET.split("cast")[0], **options):
+        data = assemble(setup + run, **options).data()
+        return [data[at:at + 4].hex().upper() for at in range(28, len(data), 4)]
+
+    def test_names_stand_for_numbers(self):
+        setup = SHEET.split("cast")[0].replace("module 3", "module 3 joystick")
+        self.assertEqual(self.words("cast joystick 1\nloss joystick to 1 joystick\nplay 1\n", setup),
+                         ["60000005", "71800005", "90000001"])
+
+    def test_masks(self):
+        run = "cast all\nloss 1 to all but 1 4\nloss 1 to 3 3\nplay 7"
+        self.assertEqual(self.words(run), ["6000000F", "70800006", "70800004", "90000007"])
+
+    def test_told_words(self):
+        run = "cast 2\nlie 2 to all says 1011 # module 2 left out\nlie 2 to 4 word 0x8123abcd\nplay 1"
+        self.assertEqual(self.words(run), ["60000002", "8100000F", "5000000D", "81000008", "8123ABCD", "90000001"])
+
+    def test_send_mark_and_read_place(self):
+        setup = SHEET.split("cast")[0].replace("module 4 place 4 criticality 1", "module 4 place 3 criticality 100000 mark")
+        self.assertEqual(assemble(setup + "cast none\nplay 1").data()[24:28].hex(), "424786a0")
+
+    def test_unchecked_words_outside_the_limits(self):
+        self.assertEqual(self.words("play 0\ncast none\nword 0x90000BB8\nloss 31 to none\nbytes 0x9000", unchecked=True),
+                         ["90000000", "60000000", "90000BB8", "7F800000", "9000"])
+
+
+class Errors(unittest.TestCase):
+    CASES = [
+        # what stands in the sheet, what is written instead, the line named, a part of the sentence
+        ("modules 4", "modules 17", 1, "the number of modules is 17, not within 2 to 16"),
+        ("modules 4\n", "", 3, "must stand before this"),
+        ("penalty limit 1", "penalty limit 0", 2, "the penalty limit is 0, not within 1 to 1,000,000"),
+        ("penalty limit 1", "penalty 1", 2, "the form is: penalty limit P"),
+        ("penalty limit 1\n", "", 2, "here the penalty limit is due (refused 4 at 1)"),
+        ("reward limit 3", "reward limit 8000001", 3, "not within 1 to 8,000,000"),
+        ("module 2 place 4", "module 2 place 5", 5, "the read place is 5, not within 0 to 4"),
+        ("module 2 place", "module 3 place", 5, "module 3 stands where module 2 is due (refused 5 at 4)"),
+        ("module 2 place", "module 2 all place", 5, "'all' cannot be a name"),
+        ("module 4 place 4 criticality 1\n", "", 7, "here module 4 is due (refused 5 at 6)"),
+        ("module 1 place 4 criticality 1", "module 1 place 0 criticality 1 mark", 4, "module 1 cannot have the send mark (refused 6 at 3)"),
+        ("module 2 place 4 criticality 1", "module 2 place 4 criticality 1 mark", 5, "must be below 2, not 4 (refused 6 at 4)"),
+        ("criticality 1\ncast", "criticality 100001\ncast", 7, "not within 1 to 100,000"),
+        ("cast none", "cast 5", 8, "the module is 5, not within 1 to 4"),
+        ("cast none\n", "", 9, "here the cast is due (refused 12 at 7)"),
+        ("loss 2 to all", "loss 2 to none", 10, "no receiver is named (refused 12 at 8)"),
+        ("loss 2 to all", "loss 2 all", 10, "the form is: loss SENDER to RECEIVERS"),
+        ("loss 2 to all", "loss joystick to all", 10, "no module has the name 'joystick'"),
+        ("loss 2 to all", "lie 2 to all says 1111", 10, "module 2 lies but is not in the cast (refused 13 at 8)"),
+        ("loss 2 to all", "lie 2 to all says 111", 10, "one digit 0 or 1 for each of 4 modules"),
+        ("loss 2 to all", "lie 2 to all word 0x5", 10, "eight hexadecimal digits"),
+        ("loss 2 to all", "cast none", 10, "here a loss, a lie or a play is due (refused 12 at 8)"),
+        ("loss 2 to all", "word 0x7100000F", 10, "a line 'word' needs --unchecked"),
+        ("loss 2 to all", "jump 3", 10, "'jump' begins no statement"),
+        ("play 2", "play 1001", 11, "the play count is 1001, not within 1 to 1,000"),
+        ("play 2", "play two", 11, "'two' is no play count"),
+        ("play 2", "play 2\nloss 1 to all", 12, "never played (refused 14 at 11)"),
+        ("loss 2 to all\nplay 2  # rounds 1 to 2\n", "", 8, "nothing is played (refused 14 at 8)"),
+        ("play 2", "play 1000\n" * 101, 111, "over 100,000 (refused 15 at 109)"),
+        ("play 2", "loss 1 to all\n" * 16380 + "play 1", 16386, "over 65,536 (refused 16 at 0)"),
+        (SHEET, "# nothing\n", 1, "the script is empty (refused 1 at 0)"),
+        (SHEET, "modules 4\npenalty limit 1\n", 2, "the setup of 4 modules has 7 words"),
+    ]
+
+    def test_errors_name_the_line_and_what_is_wrong(self):
+        for old, new, line, part in self.CASES:
+            with self.subTest(part):
+                self.assertIn(old, SHEET)
+                with self.assertRaises(ScriptError) as caught:
+                    assemble(SHEET.replace(old, new))
+                self.assertIn(part, str(caught.exception))
+                self.assertEqual(caught.exception.line, line)
+                self.assertNotIn("\n", str(caught.exception))
+
+    def test_unchecked_still_wants_numbers_that_fit(self):
+        for text, part in [("play 268435456", "28 bits"), ("modules 4\nloss 32 to all", "0 to 31"), ("modules 32", "5 bits")]:
+            with self.subTest(text), self.assertRaises(ScriptError) as caught:
+                assemble(text, unchecked=True)
+            self.assertIn(part, str(caught.exception))
+
+
+class Command(unittest.TestCase):
+    def test_errors_are_one_line_with_file_and_line(self):
+        ran = tool("runscript", "assemble", given=SHEET.replace("play 2", "play 0").encode())
+        self.assertEqual((ran.returncode, ran.stdout), (1, b""))
+        self.assertEqual(ran.stderr, b"standard input:11: the play count is 0, not within 1 to 1,000\n")
+
+    def test_bytes_are_no_text(self):
+        ran = tool("runscript", "assemble", given=b"\x10\0\0\x04\xff")
+        self.assertEqual(ran.returncode, 1)
+        self.assertEqual(ran.stderr.count(b"\n"), 1)
+
+    def test_help(self):
+        ran = tool("runscript", "--help")
+        self.assertEqual(ran.returncode, 0)
+        self.assertIn(b"penalty limit 1", ran.stdout)
+
+    @needs_bench
+    def test_the_bench_plays_what_is_assembled(self):
+        ran = tool("runscript", "assemble", given=SHEET.encode())
+        self.assertEqual(bench(ran.stdout), read(root("harness/data/vectors/001-star-sheet.out")).decode())
+
+    @needs_bench
+    def test_the_bench_refuses_what_is_assembled_unchecked(self):
+        ran = tool("runscript", "assemble", "--unchecked", given=SHEET.replace("play 2", "play 0").encode())
+        self.assertEqual(bench(ran.stdout), "refused 12 at 9\n")
+
+
+if __name__ == "__main__":
+    unittest.main()

@@ -1,0 +1,95 @@
+import tempfile
+import unittest
+
+from common import SHEET, printed, read, root, stored, tool
+
+from runtools import check, script
+from runtools.account import Account, ranges_text
+from runtools.lines import read_run
+from runtools.summary import summary
+
+
+def told(output, text=None):
+    loaded = script.load(text.encode(), "text") if text else None
+    return summary(Account(read_run(output.splitlines(True)), loaded))
+
+
+SETUP = SHEET.split("cast")[0]
+ALL = ("1111", "1111")
+
+
+class Summary(unittest.TestCase):
+    def test_the_sheet(self):
+        self.assertEqual(told(read(root("harness/data/vectors/001-star-sheet.out")).decode(), SHEET), """\
+4 modules, 2 rounds
+limits:    penalty 1, reward 3
+cast:      nobody
+limit:     kept in every round
+agreement: all rule-followers gave the same health and view in every round
+
+Charged (health 0 while in the view):
+  module 2: 1 charge in round 2
+
+Left the view:
+  nobody
+""")
+
+    def test_leaving_and_names(self):
+        charged, gone = ("1101", "1111"), ("1101", "1101")
+        output = printed(("in", *[charged] * 4), ("in", *[gone] * 4), ("out", *[gone] * 4))
+        text = told(output, SETUP.replace("module 3", "module 3 joystick") + "cast 1\nplay 3")
+        self.assertIn("cast:      1\nlimit:     broken first in round 3\n", text)
+        self.assertIn("  module 3 joystick: 2 charges in rounds 1 to 2\n", text)
+        self.assertIn("Left the view:\n  module 3 joystick: in round 2\n", text)
+
+    def test_views_that_differ_after_the_limit_was_broken(self):
+        gone = ("0111", "0111")
+        output = printed(("out", ALL, gone, ALL, ALL), ("out", ALL, gone, gone, ALL))
+        text = told(output, SETUP + "cast none\nplay 2")
+        self.assertIn("agreement: rule-followers differ in rounds 1 to 2, all after the limit was broken\n", text)
+        self.assertIn("  module 1: in round 1, only by 2\n  module 1: in round 2, only by 3\n  module 1: still in the view of 1, 4\n", text)
+
+    def test_a_fault_is_said_loudly(self):
+        output = printed(("in", *[ALL] * 4), ("in", ALL, ("1101", "1111"), ALL, ALL))
+        text = told(output, SETUP + "cast none\nplay 2")
+        self.assertIn("*** FAULT: rule-followers differ in round 2 while the limit was kept.\n", text)
+        self.assertIn("    round 2, module 2: health 1101, view 1111\n", text)
+        with tempfile.NamedTemporaryFile("w", suffix=".txt") as file:
+            file.write(SETUP + "cast none\nplay 2")
+            file.flush()
+            ran = tool("runsummary", "--script", file.name, given=output.encode())
+        self.assertEqual((ran.returncode, ran.stdout.decode()), (3, text))
+
+    def test_a_rule_breaker_may_differ(self):
+        output = printed(("in", ALL, ("1101", "1111"), ALL, ALL))
+        self.assertIn("all rule-followers gave the same", told(output, SETUP + "cast 2\nplay 1"))
+        self.assertIn("modules differ in round 1 (rule-breakers may; give --script to tell)", told(output))
+        self.assertIn("all modules, so there is no rule-follower", told(output, SETUP + "cast all\nplay 1"))
+
+    def test_no_stored_run_has_a_fault(self):
+        for name, data, output in stored("vectors"):
+            if check.refusal(data) is None:
+                with self.subTest(name):
+                    account = Account(read_run(output.splitlines(True)), script.load(data, name))
+                    self.assertEqual(account.faults(), [])
+                    self.assertIn("agreement: ", summary(account))
+
+    def test_ranges(self):
+        self.assertEqual(ranges_text([2, 5, 6, 7, 9]), "2, 5 to 7, 9")
+        self.assertEqual(ranges_text([1, 3, 5, 7], 2), "1, 3, and 2 more up to 7")
+
+
+class Events(unittest.TestCase):
+    def test_events_count_for_the_next_round_and_the_later_one_wins(self):
+        text = SETUP + "cast 2\nloss 1 to all\nplay 3\nloss 2 to 1 3\nlie 2 to 1 4 says 1111\nloss 2 to 4\nplay 2"
+        loaded = script.load(text.encode(), "text")
+        self.assertEqual(loaded.rounds, 5)
+        self.assertEqual(loaded.events, {1: {1: ([1, 2, 3, 4], [])}, 4: {2: ([3, 4], [(1, 0x5000000F)])}})
+
+    def test_u(self):
+        self.assertEqual(script.load(SHEET.encode(), "text").u, 0)
+        self.assertEqual(script.load(SHEET.replace("module 3 place 4", "module 3 place 2").encode(), "text").u, 1)
+
+
+if __name__ == "__main__":
+    unittest.main()
