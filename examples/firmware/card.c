@@ -20,6 +20,7 @@
 /* ================= firmware of a card ================= */
 
 #define N 4u
+#define EVERYBODY ((1u << N) - 1u) /* the vector of all cards */
 
 #define WORD(w) \
     (uint8_t)((w) >> 24), (uint8_t)((w) >> 16), (uint8_t)((w) >> 8), (uint8_t)(w)
@@ -81,13 +82,12 @@ static void act_on_view(struct card *c)
     uint32_t view = card_view(c);
     uint32_t me = 1u << (c->own - 1);
     uint32_t lowest = view & (~view + 1u);
-    uint32_t everybody = (1u << N) - 1u;
 
     c->outputs = 0;
     if (view & me)
         c->outputs |= me;
     if (lowest == me)
-        c->outputs |= everybody & ~view;
+        c->outputs |= EVERYBODY & ~view;
 }
 
 /* Power on.  Goes on from the saved state if it is accepted and is of this
@@ -215,69 +215,110 @@ static void restart(struct card *c)
     card_start(c, kept.own);
 }
 
-int main(void)
+/* What was printed last, so that only changes are printed. */
+static uint32_t printed_health, printed_view, printed_outputs[N];
+
+static void open_cards(void)
 {
-    static const uint8_t all_ones[4] = { WORD(0x50000000u | ((1u << N) - 1u)) };
-    uint32_t driven[N], health = 0, view = 0, outputs, round, slot, i, j;
-    int agreed = 1;
+    static const uint8_t all_ones[4] = { WORD(0x50000000u | EVERYBODY) };
+    uint32_t i, j;
 
     for (i = 0; i < N; i++) {
         memset(&cards[i], 0, sizeof cards[i]); /* nothing saved yet */
         for (j = 0; j < N; j++)
             memcpy(cards[i].received + 4u * j, all_ones, 4);
-        cards[i].valid = (1u << N) - 1u;
+        cards[i].valid = EVERYBODY;
         card_start(&cards[i], i + 1);
-        driven[i] = cards[i].outputs;
+        printed_outputs[i] = cards[i].outputs;
     }
     printf("%u cards opened, each drives its own outputs\n", N);
+}
 
-    for (round = 1; round <= ROUNDS; round++) {
-        if (silent(3, round) != silent(3, round - 1))
-            printf("round %2u: card 3 %s\n", (unsigned)round,
-                   silent(3, round) ? "goes silent" : "sends again");
-        if (round == 13) {
-            restart(&cards[1]);
-            printf("round %2u: card 2 restarts from its saved state\n",
-                   (unsigned)round);
-        }
-
-        for (i = 0; i < N; i++)
-            card_begin_round(&cards[i]);
-        for (slot = 0; slot <= N; slot++) {
-            if (slot > 0)
-                send(slot, round);
-            for (i = 0; i < N; i++)
-                if (read_place(i + 1) == slot)
-                    card_step(&cards[i]);
-        }
-
-        for (i = 1; i < N; i++)
-            if (cards[i].health != cards[0].health ||
-                card_view(&cards[i]) != card_view(&cards[0]))
-                agreed = 0;
-        if (cards[0].health != health || card_view(&cards[0]) != view) {
-            health = cards[0].health;
-            view = card_view(&cards[0]);
-            printf("round %2u: health %s, view %s\n", (unsigned)round,
-                   printed(health), printed(view));
-        }
-        for (i = 0; i < N; i++)
-            if (cards[i].outputs != driven[i]) {
-                driven[i] = cards[i].outputs;
-                printf("round %2u: card %u drives outputs %s\n",
-                       (unsigned)round, (unsigned)i + 1, printed(driven[i]));
-            }
+/* What happens to cards 2 and 3 before a round. */
+static void disturb(uint32_t round)
+{
+    if (silent(3, round) != silent(3, round - 1))
+        printf("round %2u: card 3 %s\n", (unsigned)round,
+               silent(3, round) ? "goes silent" : "sends again");
+    if (round == 13) {
+        restart(&cards[1]);
+        printf("round %2u: card 2 restarts from its saved state\n",
+               (unsigned)round);
     }
+}
 
-    /* Each output is driven by one card and no more. */
-    outputs = 0;
+/* The cards send in turn; each steps at its read place. */
+static void play(uint32_t round)
+{
+    uint32_t slot, i;
+
+    for (i = 0; i < N; i++)
+        card_begin_round(&cards[i]);
+    for (slot = 0; slot <= N; slot++) {
+        if (slot > 0)
+            send(slot, round);
+        for (i = 0; i < N; i++)
+            if (read_place(i + 1) == slot)
+                card_step(&cards[i]);
+    }
+}
+
+static void print_changes(uint32_t round)
+{
+    uint32_t view = card_view(&cards[0]), i;
+
+    if (cards[0].health != printed_health || view != printed_view) {
+        printed_health = cards[0].health;
+        printed_view = view;
+        printf("round %2u: health %s, view %s\n", (unsigned)round,
+               printed(printed_health), printed(view));
+    }
+    for (i = 0; i < N; i++)
+        if (cards[i].outputs != printed_outputs[i]) {
+            printed_outputs[i] = cards[i].outputs;
+            printf("round %2u: card %u drives outputs %s\n", (unsigned)round,
+                   (unsigned)i + 1, printed(cards[i].outputs));
+        }
+}
+
+/* All cards have the same health vector and view. */
+static int all_agree(void)
+{
+    uint32_t i;
+
+    for (i = 1; i < N; i++)
+        if (cards[i].health != cards[0].health ||
+            card_view(&cards[i]) != card_view(&cards[0]))
+            return 0;
+    return 1;
+}
+
+/* No call was refused, and each output is driven by one card and no more. */
+static int all_driven(void)
+{
+    uint32_t outputs = 0, i;
+
     for (i = 0; i < N; i++) {
         if (cards[i].refused != 0 || (outputs & cards[i].outputs) != 0)
-            agreed = 0;
+            return 0;
         outputs |= cards[i].outputs;
     }
-    if (outputs != (1u << N) - 1u)
-        agreed = 0;
+    return outputs == EVERYBODY;
+}
+
+int main(void)
+{
+    uint32_t round;
+    int agreed = 1;
+
+    open_cards();
+    for (round = 1; round <= ROUNDS; round++) {
+        disturb(round);
+        play(round);
+        agreed = all_agree() && agreed;
+        print_changes(round);
+    }
+    agreed = all_driven() && agreed;
     printf("%u rounds, %s\n", ROUNDS,
            agreed ? "all cards agreed, no call refused" : "FAILED");
     return agreed ? 0 : 1;

@@ -25,6 +25,7 @@
 #define IMAGE_MAX PRESENCE_MAX_IMAGE_BYTES
 #define OUT_MAX 1024 /* longest output that a test lends */
 #define GUARD 16     /* bytes watched on each side of the output */
+#define COUNT(array) (sizeof (array) / sizeof (array)[0])
 
 /* ---- counting and reporting ---- */
 
@@ -144,6 +145,87 @@ static struct block block(const uint8_t *from, size_t len, size_t off)
     return b;
 }
 
+/* The functions of presence.h, of the library or of plain.c. */
+struct functions {
+    presence_answer (*check_setup)(const uint8_t *, size_t);
+    presence_answer (*open)(const uint8_t *, size_t, uint32_t, uint8_t *,
+                            size_t);
+    presence_answer (*step)(const uint8_t *, size_t, const uint8_t *, size_t,
+                            uint32_t, uint8_t *, size_t);
+    presence_answer (*save)(const uint8_t *, size_t, uint8_t *, size_t);
+    presence_word (*outgoing)(const uint8_t *, size_t);
+};
+
+static const struct functions of_library = {
+    presence_check_setup, presence_open, presence_step, presence_save,
+    presence_outgoing
+};
+
+static const struct functions of_plain = {
+    plain_check_setup, plain_open, plain_step, plain_save, plain_outgoing
+};
+
+/* Makes the call; an outgoing word is answered in the place of health. */
+static presence_answer make(const struct functions *f, const struct call *c,
+                            uint8_t *out)
+{
+    presence_answer a = {0, 0, 0};
+    presence_word w;
+
+    switch (c->op) {
+    case SETUP:
+        return f->check_setup(c->in, c->in_len);
+    case OPEN:
+        return f->open(c->in, c->in_len, c->argument, out, c->out_len);
+    case STEP:
+        return f->step(c->in, c->in_len, c->read, c->read_len, c->argument, out,
+                       c->out_len);
+    case SAVE:
+        return f->save(c->in, c->in_len, out, c->out_len);
+    case OUTGOING:
+        w = f->outgoing(c->in, c->in_len);
+        a.number = w.number;
+        a.index = w.index;
+        a.health = w.word;
+        break;
+    }
+    return a;
+}
+
+/* Number, index, and health or word. */
+static void set_answer(struct result *r, presence_answer a)
+{
+    r->number = a.number;
+    r->index = a.index;
+    r->value = a.health;
+}
+
+/* Inputs as before the call. */
+static void same_inputs(const struct call *given, const struct call *placed)
+{
+    if (given->in_len > 0 && memcmp(placed->in, given->in, given->in_len) != 0)
+        differ("input changed", 1, 0);
+    if (given->read_len > 0 &&
+        memcmp(placed->read, given->read, given->read_len) != 0)
+        differ("read changed", 1, 0);
+}
+
+/* Only an accepted call writes, and only into the output. */
+static void same_outside(const uint8_t *bytes, size_t out_len, uint8_t pattern,
+                         int accepted)
+{
+    size_t i;
+
+    for (i = 0; i < out_len + 2 * GUARD; i++) {
+        if (accepted && i >= GUARD && i < GUARD + out_len)
+            continue;
+        if (bytes[i] != pattern) {
+            differ("byte written outside or by a refused call", i, 0);
+            break;
+        }
+    }
+}
+
 static void place_call(const struct call *c, size_t in_off, size_t read_off,
                        size_t out_off, struct result *r)
 {
@@ -151,58 +233,24 @@ static void place_call(const struct call *c, size_t in_off, size_t read_off,
     struct block in = block(c->in, c->in_len, in_off);
     struct block read = block(c->read, c->read_len, read_off);
     struct block out = block(NULL, c->out_len + 2 * GUARD, out_off);
-    uint8_t *lent = out.bytes + GUARD;
-    presence_answer a = {0, 0, 0};
-    presence_word w;
-    size_t i;
+    struct call placed = *c;
+    presence_answer a;
 
     pattern = (uint8_t)(pattern * 5 + 1);
     memset(out.bytes, pattern, c->out_len + 2 * GUARD);
+    placed.in = in.bytes;
+    placed.read = read.bytes;
     calls++;
-
-    switch (c->op) {
-    case SETUP:
-        a = presence_check_setup(in.bytes, c->in_len);
-        break;
-    case OPEN:
-        a = presence_open(in.bytes, c->in_len, c->argument, lent, c->out_len);
-        break;
-    case STEP:
-        a = presence_step(in.bytes, c->in_len, read.bytes, c->read_len,
-                          c->argument, lent, c->out_len);
-        break;
-    case SAVE:
-        a = presence_save(in.bytes, c->in_len, lent, c->out_len);
-        break;
-    case OUTGOING:
-        w = presence_outgoing(in.bytes, c->in_len);
-        a.number = w.number;
-        a.index = w.index;
-        a.health = w.word;
-        break;
-    }
-
+    a = make(&of_library, &placed, out.bytes + GUARD);
     if (a.number < 12)
         answered[a.number]++;
-    if (c->in_len > 0 && memcmp(in.bytes, c->in, c->in_len) != 0)
-        differ("input changed", 1, 0);
-    if (c->read_len > 0 && memcmp(read.bytes, c->read, c->read_len) != 0)
-        differ("read changed", 1, 0);
-    for (i = 0; i < c->out_len + 2 * GUARD; i++) {
-        if (a.number == 0 && i >= GUARD && i < GUARD + c->out_len)
-            continue;
-        if (out.bytes[i] != pattern) {
-            differ("byte written outside or by a refused call", i, 0);
-            break;
-        }
-    }
+    same_inputs(c, &placed);
+    same_outside(out.bytes, c->out_len, pattern, a.number == 0);
     if (a.number != 0)
         same("health or word of a refused call", a.health, 0);
 
-    r->number = a.number;
-    r->index = a.index;
-    r->value = a.health;
-    memcpy(r->out, lent, c->out_len);
+    set_answer(r, a);
+    memcpy(r->out, out.bytes + GUARD, c->out_len);
     free(in.memory);
     free(read.memory);
     free(out.memory);
@@ -219,33 +267,7 @@ static void library(const struct call *c, struct result *r)
 
 static void plain(const struct call *c, struct result *r)
 {
-    presence_answer a = {0, 0, 0};
-    presence_word w;
-
-    switch (c->op) {
-    case SETUP:
-        a = plain_check_setup(c->in, c->in_len);
-        break;
-    case OPEN:
-        a = plain_open(c->in, c->in_len, c->argument, r->out, c->out_len);
-        break;
-    case STEP:
-        a = plain_step(c->in, c->in_len, c->read, c->read_len, c->argument,
-                       r->out, c->out_len);
-        break;
-    case SAVE:
-        a = plain_save(c->in, c->in_len, r->out, c->out_len);
-        break;
-    case OUTGOING:
-        w = plain_outgoing(c->in, c->in_len);
-        a.number = w.number;
-        a.index = w.index;
-        a.health = w.word;
-        break;
-    }
-    r->number = a.number;
-    r->index = a.index;
-    r->value = a.health;
+    set_answer(r, make(&of_plain, c, r->out));
 }
 
 /* The library and plain.c; both must agree.  The result is the library's. */
@@ -276,11 +298,9 @@ static void expect(const struct call *c, uint32_t number, uint32_t index,
 static void check_setup(const uint8_t *in, size_t in_len, uint32_t number,
                         uint32_t index)
 {
-    struct call c = {SETUP, NULL, 0, NULL, 0, 0, 0};
+    struct call c = {SETUP, in, in_len, NULL, 0, 0, 0};
     struct result r;
 
-    c.in = in;
-    c.in_len = in_len;
     expect(&c, number, index, &r);
     same("health of a setup check", r.value, 0);
 }
@@ -289,13 +309,9 @@ static void open_module(const uint8_t *in, size_t in_len, uint32_t own,
                         size_t out_len, uint32_t number, uint32_t index,
                         uint8_t *image)
 {
-    struct call c = {OPEN, NULL, 0, NULL, 0, 0, 0};
+    struct call c = {OPEN, in, in_len, NULL, 0, own, out_len};
     struct result r;
 
-    c.in = in;
-    c.in_len = in_len;
-    c.argument = own;
-    c.out_len = out_len;
     expect(&c, number, index, &r);
     same("health of an opening", r.value, 0);
     if (r.number == 0 && image != NULL)
@@ -305,12 +321,9 @@ static void open_module(const uint8_t *in, size_t in_len, uint32_t own,
 static void save(const uint8_t *in, size_t in_len, size_t out_len,
                  uint32_t number, uint32_t index)
 {
-    struct call c = {SAVE, NULL, 0, NULL, 0, 0, 0};
+    struct call c = {SAVE, in, in_len, NULL, 0, 0, out_len};
     struct result r;
 
-    c.in = in;
-    c.in_len = in_len;
-    c.out_len = out_len;
     expect(&c, number, index, &r);
     same("health of a saving", r.value, 0);
     if (r.number == 0 && memcmp(r.out, in, in_len) != 0)
@@ -321,11 +334,9 @@ static void save(const uint8_t *in, size_t in_len, size_t out_len,
 static uint32_t outgoing(const uint8_t *in, size_t in_len, uint32_t number,
                          uint32_t index)
 {
-    struct call c = {OUTGOING, NULL, 0, NULL, 0, 0, 0};
+    struct call c = {OUTGOING, in, in_len, NULL, 0, 0, 0};
     struct result r;
 
-    c.in = in;
-    c.in_len = in_len;
     expect(&c, number, index, &r);
     return r.value;
 }
@@ -335,15 +346,9 @@ static uint32_t step(const uint8_t *in, size_t in_len, const uint8_t *read,
                      size_t read_len, uint32_t controller, size_t out_len,
                      uint32_t number, uint32_t index, uint8_t *image)
 {
-    struct call c = {STEP, NULL, 0, NULL, 0, 0, 0};
+    struct call c = {STEP, in, in_len, read, read_len, controller, out_len};
     struct result r;
 
-    c.in = in;
-    c.in_len = in_len;
-    c.read = read;
-    c.read_len = read_len;
-    c.argument = controller;
-    c.out_len = out_len;
     expect(&c, number, index, &r);
     if (r.number == 0 && image != NULL)
         memcpy(image, r.out, out_len);
@@ -369,6 +374,12 @@ static void make_setup(uint8_t *setup, uint32_t n, uint32_t p, uint32_t r,
     put(setup, 2, 0x30000000 | r);
     for (j = 1; j <= n; j++)
         put(setup, 2 + j, module_word(j, 0, n, criticality));
+}
+
+/* P = 5, R = 3, criticality 1. */
+static void usual_setup(uint8_t *setup, uint32_t n)
+{
+    make_setup(setup, n, 5, 3, 1);
 }
 
 /* Any accepted setup; with u = 0 all l are N. */
@@ -405,7 +416,7 @@ static void group_setups_accepted(void)
         check_setup(setup, len, 0, 0);
         for (j = 1; j <= n; j++)
             for (l = 0; l <= n; l++) {
-                make_setup(setup, n, 5, 3, 1);
+                usual_setup(setup, n);
                 put(setup, 2 + j, module_word(j, 0, l, 100000));
                 check_setup(setup, len, 0, 0);
                 if (j > 1 && l < j) {
@@ -440,7 +451,7 @@ static void refused_setup(const uint8_t *setup, uint32_t n, uint32_t number,
     /* Own number and output wrong too: the lower number counts. */
     open_module(setup, setup_len, 0, 7, number, index, NULL);
 
-    make_setup(good, n, 5, 3, 1);
+    usual_setup(good, n);
     open_module(good, setup_len, 1, image_len, 0, 0, image);
     memcpy(image, setup, setup_len);
     memset(read, 0, sizeof read);
@@ -453,12 +464,32 @@ static void refused_setup(const uint8_t *setup, uint32_t n, uint32_t number,
     save(image, image_len, 0, number, index);
 }
 
-static void group_setups_refused(void)
+/* The usual setup with one word replaced, which is named. */
+static void refused_setup_word(uint8_t *setup, uint32_t n, uint32_t at,
+                               uint32_t word, uint32_t number)
+{
+    usual_setup(setup, n);
+    put(setup, at, word);
+    refused_setup(setup, n, number, at);
+}
+
+/* 2 */
+static void heads_refused(uint32_t n)
 {
     static const uint32_t heads[] = {
         0x10000000, 0x10000001, 0x10000011, 0x1000001F, 0x10000024, 0x18000004,
         0x00000004, 0x20000004, 0x90000004, 0xF0000004, 0xFFFFFFFF, 0x10010004
     };
+    uint8_t s[PRESENCE_MAX_SETUP_BYTES];
+    uint32_t i;
+
+    for (i = 0; i < COUNT(heads); i++)
+        refused_setup_word(s, n, 0, heads[i], 2);
+}
+
+/* 4 at word 1, at word 2, at both */
+static void limits_refused(uint32_t n)
+{
     static const uint32_t penalty_limits[] = {
         0x20000000, 0x200F4241, 0x2FFFFFFF, 0x28000001, 0x30000005, 0x00000005,
         0xA0000005
@@ -467,66 +498,76 @@ static void group_setups_refused(void)
         0x30000000, 0x307A1201, 0x3FFFFFFF, 0x38000001, 0x20000005, 0x40000005,
         0xB0000005
     };
-    uint8_t s[PRESENCE_MAX_SETUP_BYTES + 8];
-    uint32_t n, i, j, w;
+    uint8_t s[PRESENCE_MAX_SETUP_BYTES];
+    uint32_t i;
+
+    for (i = 0; i < COUNT(penalty_limits); i++) {
+        refused_setup_word(s, n, 1, penalty_limits[i], 4);
+        put(s, 2, 0x30000000);
+        put(s, 3, 0);
+        refused_setup(s, n, 4, 1);
+    }
+    for (i = 0; i < COUNT(reward_limits); i++) {
+        refused_setup_word(s, n, 2, reward_limits[i], 4);
+        put(s, 3, module_word(1, 1, n, 1));
+        refused_setup(s, n, 4, 2);
+    }
+}
+
+/* 5 at module j */
+static void module_words_refused(uint32_t n, uint32_t j)
+{
+    const uint32_t wrong[] = {
+        module_word(j, 0, n + 1, 1), /* l over N */
+        module_word(j, 0, n, 0),     /* criticality */
+        module_word(j, 0, n, 100001),
+        module_word(j - 1, 0, n, 1), /* out of turn */
+        module_word(j + 1, 0, n, 1),
+        0x50000000 | (module_word(j, 0, n, 1) & 0x0FFFFFFF),
+        module_word(j, 1, 31, 131071),
+        0
+    };
+    uint8_t s[PRESENCE_MAX_SETUP_BYTES];
+    uint32_t i;
+
+    for (i = 0; i < COUNT(wrong); i++) {
+        refused_setup_word(s, n, 2 + j, wrong[i], 5);
+        /* A second one further on: the first is named. */
+        put(s, 2 + n, 0);
+        refused_setup(s, n, 5, 2 + j);
+        /* A wrong mark before it: 5 goes before 6. */
+        if (j > 1) {
+            put(s, 3, module_word(1, 1, 0, 1));
+            refused_setup(s, n, 5, 2 + j);
+        }
+    }
+}
+
+/* 6 at module j */
+static void marks_refused(uint32_t n, uint32_t j)
+{
+    uint8_t s[PRESENCE_MAX_SETUP_BYTES];
+    uint32_t l;
+
+    /* Every l that is the own number or more; every l at module 1. */
+    for (l = j == 1 ? 0 : j; l <= n; l++)
+        refused_setup_word(s, n, 2 + j, module_word(j, 1, l, 1), 6);
+    /* Two wrong marks: the first is named. */
+    put(s, 2 + n, module_word(n, 1, n, 1));
+    refused_setup(s, n, 6, 2 + j);
+}
+
+static void group_setups_refused(void)
+{
+    uint32_t n, j;
 
     begin("setups refused");
     for (n = 2; n <= MAX_N; n++) {
-        /* 2 */
-        for (i = 0; i < sizeof heads / sizeof heads[0]; i++) {
-            make_setup(s, n, 5, 3, 1);
-            put(s, 0, heads[i]);
-            refused_setup(s, n, 2, 0);
-        }
-        /* 4 at word 1, at word 2, at both */
-        for (i = 0; i < sizeof penalty_limits / sizeof penalty_limits[0]; i++) {
-            make_setup(s, n, 5, 3, 1);
-            put(s, 1, penalty_limits[i]);
-            refused_setup(s, n, 4, 1);
-            put(s, 2, 0x30000000);
-            put(s, 3, 0);
-            refused_setup(s, n, 4, 1);
-        }
-        for (i = 0; i < sizeof reward_limits / sizeof reward_limits[0]; i++) {
-            make_setup(s, n, 5, 3, 1);
-            put(s, 2, reward_limits[i]);
-            refused_setup(s, n, 4, 2);
-            put(s, 3, module_word(1, 1, n, 1));
-            refused_setup(s, n, 4, 2);
-        }
+        heads_refused(n);
+        limits_refused(n);
         for (j = 1; j <= n; j++) {
-            uint32_t wrong[8];
-
-            wrong[0] = module_word(j, 0, n + 1, 1);           /* l over N */
-            wrong[1] = module_word(j, 0, n, 0);               /* criticality */
-            wrong[2] = module_word(j, 0, n, 100001);
-            wrong[3] = module_word(j - 1, 0, n, 1);           /* out of turn */
-            wrong[4] = module_word(j + 1, 0, n, 1);
-            wrong[5] = 0x50000000 | (module_word(j, 0, n, 1) & 0x0FFFFFFF);
-            wrong[6] = module_word(j, 1, 31, 131071);
-            wrong[7] = 0;
-            for (i = 0; i < 8; i++) {
-                make_setup(s, n, 5, 3, 1);
-                put(s, 2 + j, wrong[i]);
-                refused_setup(s, n, 5, 2 + j);
-                /* A second one further on: the first is named. */
-                put(s, 2 + n, 0);
-                refused_setup(s, n, 5, 2 + j);
-                /* A wrong mark before it: 5 goes before 6. */
-                if (j > 1) {
-                    put(s, 3, module_word(1, 1, 0, 1));
-                    refused_setup(s, n, 5, 2 + j);
-                }
-            }
-            /* 6: every l that is the own number or more. */
-            for (w = j == 1 ? 0 : j; w <= n; w++) {
-                make_setup(s, n, 5, 3, 1);
-                put(s, 2 + j, module_word(j, 1, w, 1));
-                refused_setup(s, n, 6, 2 + j);
-            }
-            /* Two wrong marks: the first is named. */
-            put(s, 2 + n, module_word(n, 1, n, 1));
-            refused_setup(s, n, 6, 2 + j);
+            module_words_refused(n, j);
+            marks_refused(n, j);
         }
     }
     end();
@@ -540,7 +581,7 @@ static void group_setup_lengths(void)
     begin("setup lengths");
     for (n = 2; n <= MAX_N; n++) {
         memset(s, 0xEE, sizeof s);
-        make_setup(s, n, 5, 3, 1);
+        usual_setup(s, n);
         for (len = 0; len <= PRESENCE_SETUP_BYTES(n) + 12; len++) {
             uint32_t number = len == 0 || len % 4 != 0 ? 1
                               : len != PRESENCE_SETUP_BYTES(n) ? 3 : 0;
@@ -562,6 +603,57 @@ static void group_setup_lengths(void)
 
 /* ---- opening ---- */
 
+/* Places of the words of an image; those of module j where there are N. */
+static uint32_t own_at(uint32_t n)
+{
+    return n + 3;
+}
+
+static uint32_t previous_at(uint32_t n, uint32_t j)
+{
+    return n + 3 + j;
+}
+
+static uint32_t latest_at(uint32_t n)
+{
+    return 2 * n + 4;
+}
+
+static uint32_t before_at(uint32_t n)
+{
+    return 2 * n + 5;
+}
+
+static uint32_t penalty_at(uint32_t n, uint32_t j)
+{
+    return 2 * n + 5 + j;
+}
+
+static uint32_t reward_at(uint32_t n, uint32_t j)
+{
+    return 3 * n + 5 + j;
+}
+
+static uint32_t own_word(uint32_t own, uint32_t view)
+{
+    return 0xA0000000 | own << 16 | view;
+}
+
+static uint32_t previous_word(uint32_t j, uint32_t heard, uint32_t row)
+{
+    return 0xB0000000 | j << 23 | heard << 22 | row;
+}
+
+static uint32_t penalty_word(uint32_t j, uint32_t penalty)
+{
+    return 0xD0000000 | j << 23 | penalty;
+}
+
+static uint32_t reward_word(uint32_t j, uint32_t reward)
+{
+    return 0xE0000000 | j << 23 | reward;
+}
+
 /* A fresh image, as document 01 describes it. */
 static void fresh_image(uint8_t *image, const uint8_t *setup, uint32_t n,
                         uint32_t own)
@@ -569,62 +661,82 @@ static void fresh_image(uint8_t *image, const uint8_t *setup, uint32_t n,
     uint32_t j;
 
     memcpy(image, setup, PRESENCE_SETUP_BYTES(n));
-    put(image, n + 3, 0xA0000000 | own << 16 | ones(n));
+    put(image, own_at(n), own_word(own, ones(n)));
     for (j = 1; j <= n; j++) {
-        put(image, n + 3 + j, 0xB0000000 | j << 23 | 1u << 22 | ones(n));
-        put(image, 2 * n + 5 + j, 0xD0000000 | j << 23);
-        put(image, 3 * n + 5 + j, 0xE0000000 | j << 23);
+        put(image, previous_at(n, j), previous_word(j, 1, ones(n)));
+        put(image, penalty_at(n, j), penalty_word(j, 0));
+        put(image, reward_at(n, j), reward_word(j, 0));
     }
-    put(image, 2 * n + 4, 0xC0000000 | ones(n));
-    put(image, 2 * n + 5, 0xC0000000 | ones(n));
+    put(image, latest_at(n), 0xC0000000 | ones(n));
+    put(image, before_at(n), 0xC0000000 | ones(n));
 }
 
-static void group_opening(void)
+/* The lowest limits, the highest, then any. */
+static void opening_setup(uint8_t *setup, uint32_t n, uint32_t i)
+{
+    if (i == 0)
+        make_setup(setup, n, 1, 1, 1);
+    else if (i == 1)
+        make_setup(setup, n, 1000000, 8000000, 100000);
+    else
+        random_setup(setup, n, i % 2, 1 + below(1000000), 1 + below(8000000));
+}
+
+static void opening_accepted(const uint8_t *setup, uint32_t n, uint32_t own)
+{
+    uint8_t image[IMAGE_MAX], wanted[IMAGE_MAX];
+    size_t len = PRESENCE_IMAGE_BYTES(n);
+
+    memset(image, 0, sizeof image);
+    open_module(setup, PRESENCE_SETUP_BYTES(n), own, len, 0, 0, image);
+    fresh_image(wanted, setup, n, own);
+    if (memcmp(image, wanted, len) != 0)
+        differ("fresh image", 1, 0);
+    save(image, len, len, 0, 0);
+    same("word of a fresh image", outgoing(image, len, 0, 0),
+         0x50000000 | ones(n));
+    same("view by PRESENCE_VIEW", PRESENCE_VIEW(image, n), ones(n));
+}
+
+/* 7 for wrong own numbers; 9 for every other output length, whole words or
+   not. */
+static void openings_refused(const uint8_t *setup, uint32_t n)
 {
     static const uint32_t wrong_own[] = {
         0, 17, 32, 33, 0x00010001, 0x80000001, 0xFFFFFFFF
     };
-    uint8_t s[PRESENCE_MAX_SETUP_BYTES], image[IMAGE_MAX], wanted[IMAGE_MAX];
+    size_t setup_len = PRESENCE_SETUP_BYTES(n);
+    size_t image_len = PRESENCE_IMAGE_BYTES(n), len;
+    uint32_t i;
+
+    for (i = 0; i < COUNT(wrong_own); i++) {
+        open_module(setup, setup_len, wrong_own[i], image_len, 7, 0, NULL);
+        open_module(setup, setup_len, wrong_own[i], 1, 7, 0, NULL);
+    }
+    for (len = 0; len <= image_len + 12; len++)
+        if (len != image_len)
+            open_module(setup, setup_len, n, len, 9, 0, NULL);
+}
+
+static void group_opening(void)
+{
+    uint8_t s[PRESENCE_MAX_SETUP_BYTES];
     uint32_t n, own, i;
-    size_t setup_len, image_len, len;
 
     begin("opening");
     same("setup bytes", PRESENCE_SETUP_BYTES(16), PRESENCE_MAX_SETUP_BYTES);
     same("image bytes", PRESENCE_IMAGE_BYTES(16), PRESENCE_MAX_IMAGE_BYTES);
     same("read bytes", PRESENCE_READ_BYTES(16), PRESENCE_MAX_READ_BYTES);
     for (n = 2; n <= MAX_N; n++) {
-        setup_len = PRESENCE_SETUP_BYTES(n);
-        image_len = PRESENCE_IMAGE_BYTES(n);
         for (i = 0; i < 6; i++) {
-            if (i == 0)
-                make_setup(s, n, 1, 1, 1);
-            else if (i == 1)
-                make_setup(s, n, 1000000, 8000000, 100000);
-            else
-                random_setup(s, n, i % 2, 1 + below(1000000),
-                             1 + below(8000000));
-            for (own = 1; own <= n; own++) {
-                memset(image, 0, sizeof image);
-                open_module(s, setup_len, own, image_len, 0, 0, image);
-                fresh_image(wanted, s, n, own);
-                if (memcmp(image, wanted, image_len) != 0)
-                    differ("fresh image", 1, 0);
-                save(image, image_len, image_len, 0, 0);
-                same("word of a fresh image",
-                     outgoing(image, image_len, 0, 0), 0x50000000 | ones(n));
-                same("view by PRESENCE_VIEW", PRESENCE_VIEW(image, n), ones(n));
-            }
-            open_module(s, setup_len, n + 1, image_len, 7, 0, NULL);
-            open_module(s, setup_len, n + 1, 0, 7, 0, NULL);
+            opening_setup(s, n, i);
+            for (own = 1; own <= n; own++)
+                opening_accepted(s, n, own);
+            open_module(s, PRESENCE_SETUP_BYTES(n), n + 1,
+                        PRESENCE_IMAGE_BYTES(n), 7, 0, NULL);
+            open_module(s, PRESENCE_SETUP_BYTES(n), n + 1, 0, 7, 0, NULL);
         }
-        for (i = 0; i < sizeof wrong_own / sizeof wrong_own[0]; i++) {
-            open_module(s, setup_len, wrong_own[i], image_len, 7, 0, NULL);
-            open_module(s, setup_len, wrong_own[i], 1, 7, 0, NULL);
-        }
-        /* 9: every other output length, whole words or not. */
-        for (len = 0; len <= image_len + 12; len++)
-            if (len != image_len)
-                open_module(s, setup_len, n, len, 9, 0, NULL);
+        openings_refused(s, n);
     }
     end();
 }
@@ -720,105 +832,151 @@ static void refused_word(const uint8_t *image, uint32_t n, uint32_t at,
     }
 }
 
+static void accepted_image(const uint8_t *image, uint32_t n)
+{
+    save(image, PRESENCE_IMAGE_BYTES(n), PRESENCE_IMAGE_BYTES(n), 0, 0);
+}
+
+/* Limits and criticality of the images that are made wrong. */
+enum { P = 7, R = 4, CRITICALITY = 3 };
+
+static void own_words_refused(const uint8_t *image, uint32_t n)
+{
+    uint32_t at = own_at(n), b;
+
+    /* 7: own number 0, N+1, 31; spare bits and view wrong too. */
+    refused_word(image, n, at, own_word(0, ones(n)), 7);
+    refused_word(image, n, at, own_word(n + 1, ones(n)), 7);
+    refused_word(image, n, at, own_word(31, ones(n)), 7);
+    refused_word(image, n, at, 0xAFE0FFFF, 7);
+    /* 8 at the same word: another kind, own number right or wrong. */
+    refused_word(image, n, at, 0xB0010000 | ones(n), 8);
+    refused_word(image, n, at, 0x00000000, 8);
+    refused_word(image, n, at, 0x20000000 | ones(n), 8);
+    for (b = 21; b < 28; b++)
+        refused_word(image, n, at, own_word(1, ones(n)) | 1u << b, 8);
+    for (b = n; b < 16; b++)
+        refused_word(image, n, at, own_word(1, ones(n)) | 1u << b, 8);
+}
+
+static void previous_words_refused(const uint8_t *image, uint32_t n, uint32_t j)
+{
+    uint32_t at = previous_at(n, j), b;
+
+    refused_word(image, n, at, previous_word(j, 0, 1), 8);
+    refused_word(image, n, at, previous_word(j - 1, 1, 0), 8);
+    refused_word(image, n, at, previous_word(j + 1, 1, 0), 8);
+    refused_word(image, n, at, 0xC0400000 | j << 23, 8);
+    for (b = 16; b < 22; b++)
+        refused_word(image, n, at, previous_word(j, 1, 0) | 1u << b, 8);
+    for (b = n; b < 16; b++)
+        refused_word(image, n, at, previous_word(j, 1, 1u << b), 8);
+}
+
+static void syndromes_refused(const uint8_t *image, uint32_t n, uint32_t at)
+{
+    uint32_t b;
+
+    refused_word(image, n, at, 0xB0000000, 8);
+    refused_word(image, n, at, 0xD0000000, 8);
+    for (b = n; b < 28; b++)
+        refused_word(image, n, at, 0xC0000000 | 1u << b, 8);
+}
+
+/* Penalty words of a module in the view. */
+static void penalties_refused(const uint8_t *image, uint32_t n, uint32_t j)
+{
+    uint32_t at = penalty_at(n, j);
+
+    refused_word(image, n, at, reward_word(j, 0), 8);
+    refused_word(image, n, at, penalty_word(j - 1, 0), 8);
+    refused_word(image, n, at, penalty_word(j + 1, 0), 8);
+    refused_word(image, n, at, penalty_word(j, 0) | 1u << 21, 8);
+    refused_word(image, n, at, penalty_word(j, 0) | 1u << 22, 8);
+    /* In the view with a penalty over P. */
+    refused_word(image, n, at, penalty_word(j, P + 1), 8);
+    refused_word(image, n, at, penalty_word(j, P + CRITICALITY), 8);
+    refused_word(image, n, at, penalty_word(j, 0x1FFFFF), 8);
+}
+
+/* Penalty and reward words of a module out of the view. */
+static void counters_out_of_view(const uint8_t *image, uint32_t n, uint32_t j)
+{
+    uint8_t out[IMAGE_MAX];
+    uint32_t at = penalty_at(n, j);
+
+    memcpy(out, image, sizeof out);
+    put(out, own_at(n), own_word(1, ones(n) & ~(1u << (j - 1))));
+    refused_image(out, n, 8, at); /* out of it with penalty 0 */
+    refused_word(out, n, at, penalty_word(j, P), 8);
+    put(out, at, penalty_word(j, P + 1));
+    accepted_image(out, n);
+    put(out, at, penalty_word(j, P + CRITICALITY));
+    accepted_image(out, n);
+    refused_word(out, n, at, penalty_word(j, P + CRITICALITY + 1), 8);
+    /* A reward below R is accepted. */
+    put(out, reward_at(n, j), reward_word(j, R - 1));
+    accepted_image(out, n);
+    refused_word(out, n, reward_at(n, j), reward_word(j, R), 8);
+}
+
+static void rewards_refused(const uint8_t *image, uint32_t n, uint32_t j)
+{
+    uint8_t charged[IMAGE_MAX];
+    uint32_t at = reward_at(n, j);
+
+    /* A reward over 0 with penalty 0. */
+    refused_word(image, n, at, reward_word(j, 1), 8);
+    memcpy(charged, image, sizeof charged);
+    put(charged, penalty_at(n, j), penalty_word(j, 1));
+    put(charged, at, reward_word(j, R - 1));
+    accepted_image(charged, n);
+    refused_word(charged, n, at, reward_word(j, R), 8);
+    refused_word(charged, n, at, reward_word(j, 0x7FFFFF), 8);
+    refused_word(charged, n, at, penalty_word(j, 0), 8);
+    refused_word(charged, n, at, 0xF0000000 | j << 23, 8);
+    refused_word(charged, n, at, reward_word(j - 1, 0), 8);
+    refused_word(charged, n, at, reward_word(j + 1, 0), 8);
+}
+
+/* Module 1 is out of the view, 2 in it. */
+static void largest_counters(uint32_t n)
+{
+    uint8_t s[PRESENCE_MAX_SETUP_BYTES], image[IMAGE_MAX];
+
+    make_setup(s, n, 1000000, 8000000, 100000);
+    fresh_image(image, s, n, 1);
+    put(image, own_at(n), own_word(1, ones(n) & ~1u));
+    put(image, penalty_at(n, 1), penalty_word(1, 1100000));
+    put(image, penalty_at(n, 2), penalty_word(2, 1000000));
+    put(image, reward_at(n, 1), reward_word(1, 7999999));
+    put(image, reward_at(n, 2), reward_word(2, 7999999));
+    accepted_image(image, n);
+    refused_word(image, n, penalty_at(n, 1), penalty_word(1, 1100001), 8);
+    refused_word(image, n, penalty_at(n, 2), penalty_word(2, 1000001), 8);
+    refused_word(image, n, reward_at(n, 2), reward_word(2, 8000000), 8);
+}
+
 static void group_images_refused(void)
 {
     uint8_t s[PRESENCE_MAX_SETUP_BYTES], image[IMAGE_MAX];
-    uint32_t n, j, at, b, p = 7, r = 4, crit = 3;
+    uint32_t n, j;
 
     begin("images refused");
     for (n = 2; n <= MAX_N; n++) {
-        make_setup(s, n, p, r, crit);
+        make_setup(s, n, P, R, CRITICALITY);
         fresh_image(image, s, n, n);
-
-        at = n + 3;
-        /* 7: own number 0, N+1, 31; spare bits and view wrong too. */
-        refused_word(image, n, at, 0xA0000000 | ones(n), 7);
-        refused_word(image, n, at, 0xA0000000 | (n + 1) << 16 | ones(n), 7);
-        refused_word(image, n, at, 0xA01F0000 | ones(n), 7);
-        refused_word(image, n, at, 0xAFE0FFFF, 7);
-        /* 8 at the same word: another kind, own number right or wrong. */
-        refused_word(image, n, at, 0xB0010000 | ones(n), 8);
-        refused_word(image, n, at, 0x00000000, 8);
-        refused_word(image, n, at, 0x20000000 | ones(n), 8);
-        for (b = 21; b < 28; b++)
-            refused_word(image, n, at, 0xA0010000 | 1u << b | ones(n), 8);
-        for (b = n; b < 16; b++)
-            refused_word(image, n, at, 0xA0010000 | 1u << b | ones(n), 8);
-
+        own_words_refused(image, n);
+        for (j = 1; j <= n; j++)
+            previous_words_refused(image, n, j);
+        syndromes_refused(image, n, latest_at(n));
+        syndromes_refused(image, n, before_at(n));
         for (j = 1; j <= n; j++) {
-            at = n + 3 + j;
-            refused_word(image, n, at, 0xB0000001 | j << 23, 8);
-            refused_word(image, n, at, 0xB0400000 | (j - 1) << 23, 8);
-            refused_word(image, n, at, 0xB0400000 | (j + 1) << 23, 8);
-            refused_word(image, n, at, 0xC0400000 | j << 23, 8);
-            for (b = 16; b < 22; b++)
-                refused_word(image, n, at, 0xB0400000 | j << 23 | 1u << b, 8);
-            for (b = n; b < 16; b++)
-                refused_word(image, n, at, 0xB0400000 | j << 23 | 1u << b, 8);
+            penalties_refused(image, n, j);
+            counters_out_of_view(image, n, j);
+            rewards_refused(image, n, j);
         }
-
-        for (at = 2 * n + 4; at <= 2 * n + 5; at++) {
-            refused_word(image, n, at, 0xB0000000, 8);
-            refused_word(image, n, at, 0xD0000000, 8);
-            for (b = n; b < 28; b++)
-                refused_word(image, n, at, 0xC0000000 | 1u << b, 8);
-        }
-
-        for (j = 1; j <= n; j++) {
-            uint8_t out[IMAGE_MAX]; /* module j out of the view */
-
-            at = 2 * n + 5 + j;
-            refused_word(image, n, at, 0xE0000000 | j << 23, 8);
-            refused_word(image, n, at, 0xD0000000 | (j - 1) << 23, 8);
-            refused_word(image, n, at, 0xD0000000 | (j + 1) << 23, 8);
-            refused_word(image, n, at, 0xD0200000 | j << 23, 8);
-            refused_word(image, n, at, 0xD0400000 | j << 23, 8);
-            /* In the view with a penalty over P. */
-            refused_word(image, n, at, 0xD0000000 | j << 23 | (p + 1), 8);
-            refused_word(image, n, at, 0xD0000000 | j << 23 | (p + crit), 8);
-            refused_word(image, n, at, 0xD01FFFFF | j << 23, 8);
-
-            memcpy(out, image, sizeof out);
-            put(out, n + 3, 0xA0010000 | (ones(n) & ~(1u << (j - 1))));
-            refused_image(out, n, 8, at); /* out of it with penalty 0 */
-            refused_word(out, n, at, 0xD0000000 | j << 23 | p, 8);
-            put(out, at, 0xD0000000 | j << 23 | (p + 1));
-            save(out, PRESENCE_IMAGE_BYTES(n), PRESENCE_IMAGE_BYTES(n), 0, 0);
-            put(out, at, 0xD0000000 | j << 23 | (p + crit));
-            save(out, PRESENCE_IMAGE_BYTES(n), PRESENCE_IMAGE_BYTES(n), 0, 0);
-            refused_word(out, n, at, 0xD0000000 | j << 23 | (p + crit + 1), 8);
-            /* Out of the view with a reward below R is accepted. */
-            put(out, 3 * n + 5 + j, 0xE0000000 | j << 23 | (r - 1));
-            save(out, PRESENCE_IMAGE_BYTES(n), PRESENCE_IMAGE_BYTES(n), 0, 0);
-            refused_word(out, n, 3 * n + 5 + j, 0xE0000000 | j << 23 | r, 8);
-
-            at = 3 * n + 5 + j;
-            /* A reward over 0 with penalty 0. */
-            refused_word(image, n, at, 0xE0000001 | j << 23, 8);
-            memcpy(out, image, sizeof out);
-            put(out, 2 * n + 5 + j, 0xD0000001 | j << 23);
-            put(out, at, 0xE0000000 | j << 23 | (r - 1));
-            save(out, PRESENCE_IMAGE_BYTES(n), PRESENCE_IMAGE_BYTES(n), 0, 0);
-            refused_word(out, n, at, 0xE0000000 | j << 23 | r, 8);
-            refused_word(out, n, at, 0xE07FFFFF | j << 23, 8);
-            refused_word(out, n, at, 0xD0000000 | j << 23, 8);
-            refused_word(out, n, at, 0xF0000000 | j << 23, 8);
-            refused_word(out, n, at, 0xE0000000 | (j - 1) << 23, 8);
-            refused_word(out, n, at, 0xE0000000 | (j + 1) << 23, 8);
-        }
-
-        /* The largest counters. */
-        make_setup(s, n, 1000000, 8000000, 100000);
-        fresh_image(image, s, n, 1);
-        put(image, n + 3, 0xA0010000 | (ones(n) & ~1u));
-        put(image, 2 * n + 6, 0xD0800000 | 1100000);
-        put(image, 2 * n + 7, 0xD1000000 | 1000000);
-        put(image, 3 * n + 6, 0xE0800000 | 7999999);
-        put(image, 3 * n + 7, 0xE1000000 | 7999999);
-        save(image, PRESENCE_IMAGE_BYTES(n), PRESENCE_IMAGE_BYTES(n), 0, 0);
-        refused_word(image, n, 2 * n + 6, 0xD0800000 | 1100001, 8);
-        refused_word(image, n, 2 * n + 7, 0xD1000000 | 1000001, 8);
-        refused_word(image, n, 3 * n + 7, 0xE1000000 | 8000000, 8);
+        largest_counters(n);
     }
     end();
 }
@@ -893,43 +1051,54 @@ static void group_image_lengths(void)
 
 /* ---- step: 9 and 10 ---- */
 
+/* 9: read and output, one byte and one word off, and others. */
+static void steps_of_wrong_length(const uint8_t *image, const uint8_t *read,
+                                  uint32_t n, uint32_t controller)
+{
+    size_t image_len = PRESENCE_IMAGE_BYTES(n), len;
+
+    for (len = 0; len <= 4 * n + 12; len++)
+        step(image, image_len, read, len, controller, image_len,
+             len == 4 * n ? 0 : 9, 0, NULL);
+    for (len = 0; len <= image_len + 12; len++)
+        step(image, image_len, read, 4 * n, controller, len,
+             len == image_len ? 0 : 9, 0, NULL);
+    step(image, image_len, read, image_len < 128 ? image_len : 128, controller,
+         4 * n, 9, 0, NULL);
+}
+
+/* 10: controller bits at N and above; 9 goes before 10. */
+static void steps_of_wrong_controller(const uint8_t *image,
+                                      const uint8_t *read, uint32_t n,
+                                      uint32_t controller)
+{
+    size_t len = PRESENCE_IMAGE_BYTES(n);
+    uint32_t b;
+
+    for (b = n; b < 32; b++) {
+        step(image, len, read, 4 * n, controller | 1u << b, len, 10, 0, NULL);
+        step(image, len, read, 4 * n, 1u << b, len, 10, 0, NULL);
+        step(image, len, read, 4 * n - 1, 1u << b, len, 9, 0, NULL);
+        step(image, len, read, 4 * n, 1u << b, len + 4, 9, 0, NULL);
+    }
+    step(image, len, read, 4 * n, 0xFFFFFFFF, len, 10, 0, NULL);
+}
+
 static void group_step_refused(void)
 {
     uint8_t s[PRESENCE_MAX_SETUP_BYTES], image[IMAGE_MAX];
     uint8_t read[2 * PRESENCE_MAX_READ_BYTES];
-    uint32_t n, u, b, controller;
-    size_t image_len, len;
+    uint32_t n, u, controller;
 
     begin("steps refused");
     for (n = 2; n <= MAX_N; n++)
         for (u = 0; u < 2; u++) {
-            image_len = PRESENCE_IMAGE_BYTES(n);
             memset(read, 0x55, sizeof read);
             random_setup(s, n, u, 5, 3);
             lived_image(image, s, n, n, 10);
             controller = random_read(read, n, 4);
-            /* Read and output, one byte and one word off, and others. */
-            for (len = 0; len <= 4 * n + 12; len++)
-                step(image, image_len, read, len, controller, image_len,
-                     len == 4 * n ? 0 : 9, 0, NULL);
-            for (len = 0; len <= image_len + 12; len++)
-                step(image, image_len, read, 4 * n, controller, len,
-                     len == image_len ? 0 : 9, 0, NULL);
-            step(image, image_len, read, image_len < 128 ? image_len : 128,
-                 controller, 4 * n, 9, 0, NULL);
-            /* Controller bits; 9 goes before 10. */
-            for (b = n; b < 32; b++) {
-                step(image, image_len, read, 4 * n, controller | 1u << b,
-                     image_len, 10, 0, NULL);
-                step(image, image_len, read, 4 * n, 1u << b, image_len, 10, 0,
-                     NULL);
-                step(image, image_len, read, 4 * n - 1, 1u << b, image_len, 9,
-                     0, NULL);
-                step(image, image_len, read, 4 * n, 1u << b, image_len + 4, 9,
-                     0, NULL);
-            }
-            step(image, image_len, read, 4 * n, 0xFFFFFFFF, image_len, 10, 0,
-                 NULL);
+            steps_of_wrong_length(image, read, n, controller);
+            steps_of_wrong_controller(image, read, n, controller);
         }
     end();
 }
@@ -999,6 +1168,15 @@ static void health_is(const struct backplane *b, uint32_t k,
         same("starred health", b->health[k][i], wanted);
 }
 
+/* Health of all modules in rounds 1, 2, ... in turn, with a space between. */
+static void healths_are(const struct backplane *b, const char *printed)
+{
+    uint32_t k, rounds = (uint32_t)(strlen(printed) + 1) / (b->n + 1);
+
+    for (k = 1; k <= rounds; k++)
+        health_is(b, k, printed + (k - 1) * (b->n + 1));
+}
+
 static void views_are(const struct backplane *b, uint32_t k, uint32_t wanted)
 {
     uint32_t i;
@@ -1007,122 +1185,193 @@ static void views_are(const struct backplane *b, uint32_t k, uint32_t wanted)
         same("starred view", b->view[k][i], wanted);
 }
 
-static void group_starred(void)
+/* A backplane of four where everything is heard. */
+static void four_modules(struct backplane *b, const uint8_t *setup)
 {
-    static struct backplane b;
-    static const struct backplane empty;
-    uint8_t sheet[PRESENCE_MAX_SETUP_BYTES], marks[PRESENCE_MAX_SETUP_BYTES];
-    uint8_t image[IMAGE_MAX], read[PRESENCE_MAX_READ_BYTES];
-    uint32_t j, k, health;
-    size_t len = PRESENCE_IMAGE_BYTES(4);
+    memset(b, 0, sizeof *b);
+    b->n = 4;
+    b->setup = setup;
+}
 
-    begin("starred cases");
-    make_setup(sheet, 4, 1, 3, 1);
+/* Module 2 unheard by all in round 1: one charge.  Three good rounds clear
+   both counters, two do not. */
+static void starred_one_charge(struct backplane *b, const uint8_t *sheet)
+{
+    four_modules(b, sheet);
+    b->silent[1][1] = 0xF;
+    play(b, 6);
+    healths_are(b, "1111 1011 1111");
+    views_are(b, 6, 0xF);
+    same("penalty, one charge, three good", get(b->image[0], 15), 0xD1000000);
+    same("reward, one charge, three good", get(b->image[0], 19), 0xE1000000);
+
+    four_modules(b, sheet);
+    b->silent[1][1] = 0xF;
+    play(b, 4);
+    same("penalty, one charge, two good", get(b->image[0], 15), 0xD1000001);
+    same("reward, one charge, two good", get(b->image[0], 19), 0xE1000002);
+}
+
+/* A second charge: module 2 leaves. */
+static void starred_two_charges(struct backplane *b, const uint8_t *sheet)
+{
+    four_modules(b, sheet);
+    b->silent[1][1] = 0xF;
+    b->silent[2][1] = 0xF;
+    play(b, 5);
+    views_are(b, 2, 0xF);
+    views_are(b, 3, 0xD);
+    health_is(b, 5, "1111");
+    same("penalty of one that left", get(b->image[0], 15), 0xD1000002);
+}
+
+/* Send marks on 2, 3 and 4, so u = 1. */
+static void starred_marks(struct backplane *b)
+{
+    uint8_t marks[PRESENCE_MAX_SETUP_BYTES];
+
     make_setup(marks, 4, 1, 3, 1);
     put(marks, 3, module_word(1, 0, 0, 1));
     put(marks, 4, module_word(2, 1, 0, 1));
     put(marks, 5, module_word(3, 1, 1, 1));
     put(marks, 6, module_word(4, 1, 2, 1));
+    four_modules(b, marks);
+    b->silent[1][1] = 0xF;
+    play(b, 5);
+    healths_are(b, "1111 1111 1111 1011 1111");
+}
 
-    /* The sheet: module 2 unheard by all in round 1. */
-    b = empty;
-    b.n = 4;
-    b.setup = sheet;
-    b.silent[1][1] = 0xF;
-    play(&b, 6);
-    health_is(&b, 1, "1111");
-    health_is(&b, 2, "1011");
-    health_is(&b, 3, "1111");
-    views_are(&b, 6, 0xF);
-    /* One charge and three good rounds clear both counters. */
-    same("penalty, one charge, three good", get(b.image[0], 15), 0xD1000000);
-    same("reward, one charge, three good", get(b.image[0], 19), 0xE1000000);
-    b = empty;
-    b.n = 4;
-    b.setup = sheet;
-    b.silent[1][1] = 0xF;
-    play(&b, 4);
-    same("penalty, one charge, two good", get(b.image[0], 15), 0xD1000001);
-    same("reward, one charge, two good", get(b.image[0], 19), 0xE1000002);
+/* Module 3 alone misses 1 in round 1. */
+static void starred_one_misses(struct backplane *b, const uint8_t *sheet)
+{
+    four_modules(b, sheet);
+    b->silent[1][0] = 0x4;
+    play(b, 4);
+    healths_are(b, "1111 1111 1101 1111");
+}
 
-    /* A second charge: module 2 leaves. */
-    b = empty;
-    b.n = 4;
-    b.setup = sheet;
-    b.silent[1][1] = 0xF;
-    b.silent[2][1] = 0xF;
-    play(&b, 5);
-    views_are(&b, 2, 0xF);
-    views_are(&b, 3, 0xD);
-    health_is(&b, 5, "1111");
-    same("penalty of one that left", get(b.image[0], 15), 0xD1000002);
+/* Nobody heard in rounds 1 and 2. */
+static void starred_nobody_heard(struct backplane *b, const uint8_t *sheet)
+{
+    uint32_t j;
 
-    /* Send marks, u = 1. */
-    b = empty;
-    b.n = 4;
-    b.setup = marks;
-    b.silent[1][1] = 0xF;
-    play(&b, 5);
-    for (k = 1; k <= 3; k++)
-        health_is(&b, k, "1111");
-    health_is(&b, 4, "1011");
-    health_is(&b, 5, "1111");
-
-    /* Module 3 alone misses 1 in round 1. */
-    b = empty;
-    b.n = 4;
-    b.setup = sheet;
-    b.silent[1][0] = 0x4;
-    play(&b, 4);
-    health_is(&b, 1, "1111");
-    health_is(&b, 2, "1111");
-    health_is(&b, 3, "1101");
-    health_is(&b, 4, "1111");
-
-    /* Nobody heard in rounds 1 and 2. */
-    b = empty;
-    b.n = 4;
-    b.setup = sheet;
+    four_modules(b, sheet);
     for (j = 0; j < 4; j++) {
-        b.silent[1][j] = 0xF;
-        b.silent[2][j] = 0xF;
+        b->silent[1][j] = 0xF;
+        b->silent[2][j] = 0xF;
     }
-    play(&b, 3);
-    health_is(&b, 1, "1111");
-    health_is(&b, 2, "0000");
-    health_is(&b, 3, "0000");
-    views_are(&b, 2, 0xF);
-    views_are(&b, 3, 0x0);
+    play(b, 3);
+    healths_are(b, "1111 0000 0000");
+    views_are(b, 2, 0xF);
+    views_are(b, 3, 0x0);
+}
 
-    /* Votes on module 1 by 2, 3, 4: 1,0,1 gives 1; 1,0 gives 1; 0,0 gives 0. */
-    open_module(sheet, PRESENCE_SETUP_BYTES(4), 1, len, 0, 0, image);
-    put(read, 0, 0x50000000); /* 1's own row does not count */
-    put(read, 1, 0x5000000F);
-    put(read, 2, 0x5000000E);
-    put(read, 3, 0x5000000F);
+static void put_four(uint8_t *read, uint32_t word_1, uint32_t word_2,
+                     uint32_t word_3, uint32_t word_4)
+{
+    put(read, 0, word_1);
+    put(read, 1, word_2);
+    put(read, 2, word_3);
+    put(read, 3, word_4);
+}
+
+/* Votes on module 1 by 2, 3, 4: 1,0,1 gives 1; 1,0 gives 1; 0,0 gives 0.  1's
+   own row does not count. */
+static void starred_votes(const uint8_t *image)
+{
+    uint8_t read[PRESENCE_MAX_READ_BYTES];
+    size_t len = PRESENCE_IMAGE_BYTES(4);
+    uint32_t health;
+
+    put_four(read, 0x50000000, 0x5000000F, 0x5000000E, 0x5000000F);
     health = step(image, len, read, 16, 0xF, len, 0, 0, NULL);
     same("votes 1,0,1", health & 1, 1);
     health = step(image, len, read, 16, 0x7, len, 0, 0, NULL);
     same("votes 1,0", health & 1, 1);
-    put(read, 1, 0x5000000E);
-    put(read, 3, 0x5000000E);
+    put_four(read, 0x50000000, 0x5000000E, 0x5000000E, 0x5000000E);
     health = step(image, len, read, 16, 0xB, len, 0, 0, NULL);
     same("votes 0,missing,0", health & 1, 0);
+}
 
-    /* 5000000F is heard, 5000001F and 4000000F are not, nor bit 27. */
-    put(read, 0, 0x5000000F);
-    put(read, 1, 0x5000001F);
-    put(read, 2, 0x4000000F);
-    put(read, 3, 0x5800000F);
+/* 5000000F is heard, 5000001F and 4000000F are not, nor bit 27. */
+static void starred_heard(uint8_t *image)
+{
+    uint8_t read[PRESENCE_MAX_READ_BYTES];
+    size_t len = PRESENCE_IMAGE_BYTES(4);
+
+    put_four(read, 0x5000000F, 0x5000001F, 0x4000000F, 0x5800000F);
     step(image, len, read, 16, 0xF, len, 0, 0, image);
     same("heard 5000000F", get(image, 8), 0xB0C0000F);
     same("heard 5000001F", get(image, 9), 0xB1000000);
     same("heard 4000000F", get(image, 10), 0xB1800000);
     same("heard 5800000F", get(image, 11), 0xB2000000);
+}
+
+static void group_starred(void)
+{
+    static struct backplane b;
+    uint8_t sheet[PRESENCE_MAX_SETUP_BYTES], image[IMAGE_MAX];
+
+    begin("starred cases");
+    make_setup(sheet, 4, 1, 3, 1);
+    starred_one_charge(&b, sheet);
+    starred_two_charges(&b, sheet);
+    starred_marks(&b);
+    starred_one_misses(&b, sheet);
+    starred_nobody_heard(&b, sheet);
+    open_module(sheet, PRESENCE_SETUP_BYTES(4), 1, PRESENCE_IMAGE_BYTES(4), 0,
+                0, image);
+    starred_votes(image);
+    starred_heard(image);
     end();
 }
 
 /* ---- lives ---- */
+
+/* What follows from document 01 without plain.c, for the images before and
+   after a step. */
+static void step_follows(const uint8_t *setup, uint32_t n, uint32_t own,
+                         const uint8_t *old, const uint8_t *image,
+                         uint32_t health)
+{
+    uint32_t j;
+
+    same("health bits at N or above", health & ~ones(n), 0);
+    if (memcmp(image, setup, PRESENCE_SETUP_BYTES(n)) != 0)
+        differ("setup in the image", 1, 0);
+    same("own number in the image", get(image, own_at(n)) >> 16, 0xA000 | own);
+    same("syndrome before", get(image, before_at(n)), get(old, latest_at(n)));
+    same("back in the view", PRESENCE_VIEW(image, n) & ~PRESENCE_VIEW(old, n),
+         0);
+    for (j = 1; j <= n; j++)
+        if (!(PRESENCE_VIEW(old, n) >> (j - 1) & 1)) {
+            same("penalty of one out", get(image, penalty_at(n, j)),
+                 get(old, penalty_at(n, j)));
+            same("reward of one out", get(image, reward_at(n, j)),
+                 get(old, reward_at(n, j)));
+        }
+}
+
+/* Rule 7: the latest syndrome, with the mark the one before. */
+static void word_follows(const uint8_t *setup, uint32_t n, uint32_t own,
+                         const uint8_t *image, uint32_t word)
+{
+    uint32_t mark = get(setup, 2 + own) >> 22 & 1;
+    uint32_t at = mark ? before_at(n) : latest_at(n);
+
+    same("word handed out", word, 0x50000000 | (get(image, at) & 0xFFFF));
+}
+
+/* The image is saved, lost and taken from what was saved. */
+static void restart(uint8_t *image, size_t len)
+{
+    struct call c = {SAVE, image, len, NULL, 0, 0, len};
+    struct result r;
+
+    expect(&c, 0, 0, &r);
+    memset(image, 0, len);
+    memcpy(image, r.out, len);
+}
 
 static void life(uint32_t n, uint32_t u, uint32_t style, uint32_t steps)
 {
@@ -1131,8 +1380,7 @@ static void life(uint32_t n, uint32_t u, uint32_t style, uint32_t steps)
     uint8_t s[PRESENCE_MAX_SETUP_BYTES], read[PRESENCE_MAX_READ_BYTES];
     uint8_t image[IMAGE_MAX], old[IMAGE_MAX];
     size_t len = PRESENCE_IMAGE_BYTES(n);
-    uint32_t own = 1 + below(n), k, before, controller, health, word, j;
-    uint32_t loudness = 0;
+    uint32_t own = 1 + below(n), k, controller, health, word, loudness = 0;
 
     random_setup(s, n, u, p_of[style % 4], r_of[below(4)]);
     open_module(s, PRESENCE_SETUP_BYTES(n), own, len, 0, 0, image);
@@ -1147,40 +1395,12 @@ static void life(uint32_t n, uint32_t u, uint32_t style, uint32_t steps)
             put(read, own - 1, word); /* the module's own word */
         memcpy(old, image, len);
         health = step(image, len, read, 4 * n, controller, len, 0, 0, image);
-
-        /* What follows from document 01 without plain.c. */
-        same("health bits at N or above", health & ~ones(n), 0);
-        if (memcmp(image, s, PRESENCE_SETUP_BYTES(n)) != 0)
-            differ("setup in the image", 1, 0);
-        same("own number in the image", get(image, n + 3) >> 16, 0xA000 | own);
-        same("syndrome before", get(image, 2 * n + 5), get(old, 2 * n + 4));
-        same("back in the view", PRESENCE_VIEW(image, n) &
-             ~PRESENCE_VIEW(old, n), 0);
-        for (j = 1; j <= n; j++)
-            if (!(PRESENCE_VIEW(old, n) >> (j - 1) & 1)) {
-                same("penalty of one out", get(image, 2 * n + 5 + j),
-                     get(old, 2 * n + 5 + j));
-                same("reward of one out", get(image, 3 * n + 5 + j),
-                     get(old, 3 * n + 5 + j));
-            }
+        step_follows(s, n, own, old, image, health);
         word = outgoing(image, len, 0, 0);
-        before = get(s, 2 + own) >> 22 & 1; /* rule 7 */
-        same("word handed out", word,
-             0x50000000 | (get(image, 2 * n + 4 + before) & 0xFFFF));
+        word_follows(s, n, own, image, word);
 
-        if (below(8) == 0) { /* over a restart */
-            uint8_t saved[OUT_MAX];
-            struct call c = {SAVE, NULL, 0, NULL, 0, 0, 0};
-            struct result r;
-
-            c.in = image;
-            c.in_len = len;
-            c.out_len = len;
-            expect(&c, 0, 0, &r);
-            memcpy(saved, r.out, len);
-            memset(image, 0, sizeof image);
-            memcpy(image, saved, len);
-        }
+        if (below(8) == 0)
+            restart(image, len);
         if (below(8) == 0) /* a refused step between */
             step(image, len, read, 4 * n, controller | 1u << n, len, 10, 0,
                  image);
@@ -1312,88 +1532,138 @@ static int parse_number(const char *text, int base, uint32_t *value)
     return *text != 0 && *stop == 0 && v <= 0xFFFFFFFFul;
 }
 
-/* One line, already split.  Returns 0 if the line is malformed. */
-static int do_line(char **f, int fields)
+/* A call of a file: how many fields stand before and after "=". */
+struct form {
+    const char *name;
+    enum op op; /* a state is read by OUTGOING and by SAVE */
+    int arguments, answers;
+};
+
+static const struct form forms[] = {
+    {"setup", SETUP, 1, 2},
+    {"state", OUTGOING, 1, 2},
+    {"open", OPEN, 3, 4},
+    {"step", STEP, 4, 4},
+    {"save", SAVE, 2, 4}
+};
+
+/* The form of a line that is split into its fields, NULL if it has none. */
+static const struct form *form_of(char **field, int fields)
+{
+    size_t i;
+
+    for (i = 0; i < COUNT(forms); i++)
+        if (strcmp(field[0], forms[i].name) == 0 &&
+            fields == forms[i].arguments + forms[i].answers + 2 &&
+            strcmp(field[forms[i].arguments + 1], "=") == 0)
+            return &forms[i];
+    return NULL;
+}
+
+/* The arguments of a call; field 0 is its name.  Returns 0 if malformed. */
+static int parse_call(char **field, const struct form *form, struct call *c)
 {
     static uint8_t in[LINE_MAX_CHARS], read[LINE_MAX_CHARS];
-    static uint8_t image[LINE_MAX_CHARS];
-    struct call c = {SETUP, NULL, 0, NULL, 0, 0, 0};
-    struct result r, p;
-    uint32_t number, index, health, out_len = 0;
-    long in_len, read_len = 0, image_len = 0;
-    int arguments, answers;
+    long in_len = parse_bytes(field[1], in, sizeof in), read_len = 0;
+    uint32_t out_len = 0;
 
-    if (strcmp(f[0], "setup") == 0 || strcmp(f[0], "state") == 0) {
-        arguments = 1;
-        answers = 2;
-    } else if (strcmp(f[0], "open") == 0) {
-        c.op = OPEN;
-        arguments = 3;
-        answers = 4;
-    } else if (strcmp(f[0], "step") == 0) {
-        c.op = STEP;
-        arguments = 4;
-        answers = 4;
-    } else if (strcmp(f[0], "save") == 0) {
-        c.op = SAVE;
-        arguments = 2;
-        answers = 4;
-    } else {
+    memset(c, 0, sizeof *c);
+    if (form->op == OPEN && !parse_number(field[2], 10, &c->argument))
         return 0;
-    }
-    if (fields != arguments + answers + 2 || strcmp(f[arguments + 1], "=") != 0)
-        return 0;
-
-    in_len = parse_bytes(f[1], in, sizeof in);
-    if (c.op == OPEN && !parse_number(f[2], 10, &c.argument))
-        return 0;
-    if (c.op == STEP) {
-        read_len = parse_bytes(f[2], read, sizeof read);
-        if (!parse_number(f[3], 16, &c.argument))
+    if (form->op == STEP) {
+        read_len = parse_bytes(field[2], read, sizeof read);
+        if (!parse_number(field[3], 16, &c->argument))
             return 0;
     }
-    if (c.op != SETUP && !parse_number(f[arguments], 10, &out_len))
+    /* Whatever answers an image takes the output's length last. */
+    if (form->answers == 4 &&
+        !parse_number(field[form->arguments], 10, &out_len))
         return 0;
-    if (!parse_number(f[arguments + 2], 10, &number) ||
-        !parse_number(f[arguments + 3], 10, &index))
-        return 0;
-    if (answers == 4) {
-        if (!parse_number(f[arguments + 4], 16, &health))
-            return 0;
-        image_len = parse_bytes(f[arguments + 5], image, sizeof image);
-    } else {
-        health = 0;
-    }
-    if (in_len < 0 || read_len < 0 || image_len < 0 || out_len > OUT_MAX)
-        return 0;
-    if (answers == 4 && (number == 0 ? (long)out_len : 0) != image_len)
-        return 0;
+    c->op = form->op;
+    c->in = in;
+    c->in_len = (size_t)in_len;
+    c->read = read;
+    c->read_len = (size_t)read_len;
+    c->out_len = out_len;
+    return in_len >= 0 && read_len >= 0 && out_len <= OUT_MAX;
+}
 
-    c.in = in;
-    c.in_len = (size_t)in_len;
-    c.read = read;
-    c.read_len = (size_t)read_len;
-    c.out_len = out_len;
-    if (strcmp(f[0], "state") == 0) {
-        /* Reading a state: by the outgoing word and by saving. */
-        outgoing(in, c.in_len, number, index);
-        if (in_len <= OUT_MAX)
-            save(in, c.in_len, c.in_len, number, index);
+/* What comes out of a call: an image of image_len bytes if it is accepted. */
+struct answer {
+    uint32_t number, index, health;
+    uint8_t image[LINE_MAX_CHARS];
+    long image_len;
+};
+
+/* The fields after "=".  Returns 0 if malformed. */
+static int parse_answer(char **field, const struct form *form, size_t out_len,
+                        struct answer *a)
+{
+    a->health = 0;
+    a->image_len = 0;
+    if (!parse_number(field[0], 10, &a->number) ||
+        !parse_number(field[1], 10, &a->index))
+        return 0;
+    if (form->answers == 2)
+        return 1;
+    if (!parse_number(field[2], 16, &a->health))
+        return 0;
+    a->image_len = parse_bytes(field[3], a->image, sizeof a->image);
+    return a->image_len == (a->number == 0 ? (long)out_len : 0);
+}
+
+/* Compares with what a line says; names are those of number, index, health and
+   image in a report. */
+static void same_answer(const struct result *r, const struct answer *a,
+                        const char *const names[4])
+{
+    same(names[0], r->number, a->number);
+    same(names[1], r->index, a->index);
+    same(names[2], r->value, a->health);
+    if (a->image_len > 0 && memcmp(r->out, a->image, (size_t)a->image_len) != 0)
+        differ(names[3], 1, 0);
+}
+
+/* One line, already split.  Returns 0 if the line is malformed. */
+static int do_line(char **field, int fields)
+{
+    static const char *const library_names[] = {
+        "number, library", "index, library", "health, library", "image, library"
+    };
+    static const char *const plain_names[] = {
+        "number, plain.c", "index, plain.c", "health, plain.c", "image, plain.c"
+    };
+    static struct answer a;
+    const struct form *form = form_of(field, fields);
+    struct call c;
+    struct result r, r_plain;
+
+    if (form == NULL || !parse_call(field, form, &c) ||
+        !parse_answer(field + form->arguments + 2, form, c.out_len, &a))
+        return 0;
+    if (form->op == OUTGOING) {
+        outgoing(c.in, c.in_len, a.number, a.index);
+        if (c.in_len <= OUT_MAX)
+            save(c.in, c.in_len, c.in_len, a.number, a.index);
         return 1;
     }
     library(&c, &r);
-    same("number, library", r.number, number);
-    same("index, library", r.index, index);
-    same("health, library", r.value, health);
-    if (image_len > 0 && memcmp(r.out, image, (size_t)image_len) != 0)
-        differ("image, library", 1, 0);
-    plain(&c, &p);
-    same("number, plain.c", p.number, number);
-    same("index, plain.c", p.index, index);
-    same("health, plain.c", p.value, health);
-    if (image_len > 0 && memcmp(p.out, image, (size_t)image_len) != 0)
-        differ("image, plain.c", 1, 0);
+    same_answer(&r, &a, library_names);
+    plain(&c, &r_plain);
+    same_answer(&r_plain, &a, plain_names);
     return 1;
+}
+
+/* Splits a line at its spaces.  Returns how many fields, at most FIELDS. */
+static int split(char *line, char **field)
+{
+    char *at;
+    int fields = 0;
+
+    for (at = strtok(line, " \t\r\n"); at != NULL && fields < FIELDS;
+         at = strtok(NULL, " \t\r\n"))
+        field[fields++] = at;
+    return fields;
 }
 
 static void group_calls_file(const char *name)
@@ -1401,7 +1671,7 @@ static void group_calls_file(const char *name)
     static char line[LINE_MAX_CHARS];
     FILE *file = fopen(name, "r");
     unsigned long line_number = 0, lines = 0;
-    char title[64], *field[FIELDS], *at;
+    char title[64], *field[FIELDS];
     int fields;
 
     begin("calls file");
@@ -1419,10 +1689,7 @@ static void group_calls_file(const char *name)
             differ("line too long", line_number, 0);
             break;
         }
-        fields = 0;
-        for (at = strtok(line, " \t\r\n"); at != NULL && fields < FIELDS;
-             at = strtok(NULL, " \t\r\n"))
-            field[fields++] = at;
+        fields = split(line, field);
         if (fields == 0 || field[0][0] == '#')
             continue;
         lines++;

@@ -4,6 +4,10 @@
  * Rule numbers are those of "One step, round k", refusal numbers those of
  * "Answers and their order" in document 01.  Module j stands at place j-1 of
  * the arrays and is bit j-1 of the vectors.
+ *
+ * load_setup, load_state and plain_step are longer than 40 lines.  They stay
+ * so because `make measure` counts their instructions, and gcc -O2 makes other
+ * code of them when parts move into functions, static inline ones too.
  */
 #include <stdbool.h>
 

@@ -210,12 +210,14 @@ def buses(*syndromes):
 # ---- setup ----
 
 
-def setups():
+def setups_accepted():
     note("Setups that are accepted: the sheet; N = 2 and 16 with u = 0 (every l is N);",
          "N = 2, 4 and 16 with u = 1, the send mark on all modules but 1; the highest limits.")
     for words in [SHEET, TWO, SIXTEEN, TWO_MARKED, MARKED, SIXTEEN_MARKED, LARGE]:
         setup(words, 0, 0)
 
+
+def setups_of_no_whole_words():
     note("1: empty, 5 bytes, the sheet one byte over.")
     setup(b"", 1, 0)
     setup(raw(SHEET)[:5], 1, 0)
@@ -223,6 +225,8 @@ def setups():
     also("1 before 2: no head, and two bytes over.")
     setup(raw(put(SHEET, {0: head(17)})) + b"\x00\x00", 1, 0)
 
+
+def setups_with_wrong_head():
     note("2: N = 1 and N = 17 with N+3 words, N = 0. (N = 2 and N = 16 are accepted above.)")
     setup([head(1), limit_p(1), limit_r(3), module(1, 1)], 2, 0)
     setup([head(17), limit_p(1), limit_r(3)] + [module(j, 16) for j in range(1, 18)], 2, 0)
@@ -232,6 +236,8 @@ def setups():
     setup(put(SHEET, {0: head(4) | 1 << 5}), 2, 0)
     setup(put(SHEET, {0: head(4) | 1 << 27}), 2, 0)
 
+
+def setups_of_wrong_length():
     note("3: the sheet one word short and one word over, the head alone, a saved state.")
     setup(SHEET[:6], 3, 0)
     setup(SHEET + [module(5, 4)], 3, 0)
@@ -245,6 +251,8 @@ def setups():
     also("3 before 4: P = 0, and one word short.")
     setup(put(SHEET, {1: limit_p(0)})[:6], 3, 0)
 
+
+def setups_with_wrong_limits():
     note("4: P 0, 1,000,000 (accepted), 1,000,001; P = 1 is accepted above.")
     setup(put(SHEET, {1: limit_p(0)}), 4, 1)
     setup(put(SHEET, {1: limit_p(1000000)}), 0, 0)
@@ -263,6 +271,8 @@ def setups():
     setup(put(SHEET, {1: limit_p(0), 2: limit_r(0)}), 4, 1)
     setup(put(SHEET, {2: limit_r(0), 3: module(1, 5)}), 4, 2)
 
+
+def setups_with_wrong_modules():
     note("5: l = N+1 at module 1 and at module 4; l = 0 everywhere is accepted.")
     setup(put(SHEET, {3: module(1, 5)}), 5, 3)
     setup(put(SHEET, {6: module(4, 5)}), 5, 6)
@@ -283,6 +293,8 @@ def setups():
     setup(put(SHEET, {4: kind(module(2, 4), 5)}), 5, 4)
     setup(put(SHEET, {4: module(2, 5), 6: module(4, 4, crit=0)}), 5, 4)
 
+
+def setups_with_wrong_marks():
     note("6: send mark on module 1 with l = 0 and with l = N.")
     setup(put(SHEET, {3: module(1, 0, mark=1)}), 6, 3)
     setup(put(SHEET, {3: module(1, 4, mark=1)}), 6, 3)
@@ -307,6 +319,7 @@ def setups():
 # The sheet's module 2, fresh: 22 words. Words 0 to 6 are the setup, 7 own number and view,
 # 8 to 11 the previous read, 12 and 13 the syndromes, 14 to 17 penalties, 18 to 21 rewards.
 FRESH = State(SHEET, 2)
+FRESH_WORDS = FRESH.words()
 
 # One in the middle of its life: 2 is out of the view with a reward, 3 has a charge.
 MIDDLE = State(SHEET, 3).but(
@@ -314,80 +327,91 @@ MIDDLE = State(SHEET, 3).but(
     penalty={2: 2, 3: 1}, reward={2: 1, 3: 2})
 
 
-def states():
-    fresh = FRESH.words()
+def states_accepted():
     note("States that are accepted: fresh ones with N = 2, 4 and 16; one where 1 is unheard, 2 is heard",
          "with row 0, the syndromes differ, and 2 is out of the view with a reward below R.")
     for image in [State(TWO, 1), FRESH, State(SIXTEEN, 16), MIDDLE]:
         state(image, 0, 0)
 
+
+def states_with_wrong_setup():
     note("Numbers 1 to 6 in a state: empty, one byte over.")
     state(b"", 1, 0)
-    state(raw(fresh) + b"\x00", 1, 0)
+    state(raw(FRESH_WORDS) + b"\x00", 1, 0)
     also("2: N = 17. 3: one word short, one over, the setup alone.")
-    state(put(fresh, {0: head(17)}), 2, 0)
-    state(fresh[:21], 3, 0)
-    state(fresh + [0], 3, 0)
+    state(put(FRESH_WORDS, {0: head(17)}), 2, 0)
+    state(FRESH_WORDS[:21], 3, 0)
+    state(FRESH_WORDS + [0], 3, 0)
     state(SHEET, 3, 0)
     also("3: N = 2 one word over, N = 16 one word short.")
     state(State(TWO, 1).words() + [0], 3, 0)
     state(State(SIXTEEN, 1).words()[:69], 3, 0)
     also("4: P = 0, R = 8,000,001. 5: l = 5 at module 4. 6: mark on 1.")
-    state(put(fresh, {1: limit_p(0)}), 4, 1)
-    state(put(fresh, {2: limit_r(8000001)}), 4, 2)
-    state(put(fresh, {6: module(4, 5)}), 5, 6)
-    state(put(fresh, {3: module(1, 0, mark=1)}), 6, 3)
+    state(put(FRESH_WORDS, {1: limit_p(0)}), 4, 1)
+    state(put(FRESH_WORDS, {2: limit_r(8000001)}), 4, 2)
+    state(put(FRESH_WORDS, {6: module(4, 5)}), 5, 6)
+    state(put(FRESH_WORDS, {3: module(1, 0, mark=1)}), 6, 3)
     also("5 before 6 though it lies later; 6 before 7.")
-    state(put(fresh, {3: module(1, 0, mark=1), 6: module(4, 4, crit=0)}), 5, 6)
-    state(put(fresh, {4: module(2, 2, mark=1), 7: own_view(0, 0xF)}), 6, 4)
+    state(put(FRESH_WORDS, {3: module(1, 0, mark=1), 6: module(4, 4, crit=0)}), 5, 6)
+    state(put(FRESH_WORDS, {4: module(2, 2, mark=1), 7: own_view(0, 0xF)}), 6, 4)
 
+
+def states_with_wrong_own_number():
     note("7: own number 0, N+1 and 31; 1 and N are accepted.")
-    state(put(fresh, {7: own_view(0, 0xF)}), 7, 7)
-    state(put(fresh, {7: own_view(5, 0xF)}), 7, 7)
-    state(put(fresh, {7: own_view(31, 0xF)}), 7, 7)
-    state(put(fresh, {7: own_view(1, 0xF)}), 0, 0)
-    state(put(fresh, {7: own_view(4, 0xF)}), 0, 0)
+    state(put(FRESH_WORDS, {7: own_view(0, 0xF)}), 7, 7)
+    state(put(FRESH_WORDS, {7: own_view(5, 0xF)}), 7, 7)
+    state(put(FRESH_WORDS, {7: own_view(31, 0xF)}), 7, 7)
+    state(put(FRESH_WORDS, {7: own_view(1, 0xF)}), 0, 0)
+    state(put(FRESH_WORDS, {7: own_view(4, 0xF)}), 0, 0)
     also("7: N = 2 with 3, N = 16 with 17.")
     state(put(State(TWO, 1).words(), {5: own_view(3, 0x3)}), 7, 5)
     state(put(State(SIXTEEN, 1).words(), {19: own_view(17, 0xFFFF)}), 7, 19)
     also("Own number 0, 1, N, N+1 and 31 where the word is not of kind 10: 8, as 7 is not tested.")
-    state(put(fresh, {7: kind(own_view(0, 0xF), 11)}), 8, 7)
-    state(put(fresh, {7: kind(own_view(1, 0xF), 11)}), 8, 7)
-    state(put(fresh, {7: kind(own_view(4, 0xF), 8)}), 8, 7)
-    state(put(fresh, {7: kind(own_view(5, 0xF), 2)}), 8, 7)
-    state(put(fresh, {7: kind(own_view(31, 0xF), 12)}), 8, 7)
+    state(put(FRESH_WORDS, {7: kind(own_view(0, 0xF), 11)}), 8, 7)
+    state(put(FRESH_WORDS, {7: kind(own_view(1, 0xF), 11)}), 8, 7)
+    state(put(FRESH_WORDS, {7: kind(own_view(4, 0xF), 8)}), 8, 7)
+    state(put(FRESH_WORDS, {7: kind(own_view(5, 0xF), 2)}), 8, 7)
+    state(put(FRESH_WORDS, {7: kind(own_view(31, 0xF), 12)}), 8, 7)
     also("7 before 8 in one word: own 0 and a view bit at N; own 5 and bit 21. 7 and a later 8.")
-    state(put(fresh, {7: own_view(0, 0x1F)}), 7, 7)
-    state(put(fresh, {7: own_view(5, 0xF) | 1 << 21}), 7, 7)
-    state(put(fresh, {7: own_view(5, 0xF), 8: 0, 12: 0}), 7, 7)
+    state(put(FRESH_WORDS, {7: own_view(0, 0x1F)}), 7, 7)
+    state(put(FRESH_WORDS, {7: own_view(5, 0xF) | 1 << 21}), 7, 7)
+    state(put(FRESH_WORDS, {7: own_view(5, 0xF), 8: 0, 12: 0}), 7, 7)
 
+
+def states_with_wrong_view():
     note("8, own number and view: view bit at N with N = 4 and with N = 2, spare bits 21 and 27.")
-    state(put(fresh, {7: own_view(2, 0x1F)}), 8, 7)
+    state(put(FRESH_WORDS, {7: own_view(2, 0x1F)}), 8, 7)
     state(put(State(TWO, 1).words(), {5: own_view(1, 0x7)}), 8, 5)
-    state(put(fresh, {7: own_view(2, 0xF) | 1 << 21}), 8, 7)
-    state(put(fresh, {7: own_view(2, 0xF) | 1 << 27}), 8, 7)
+    state(put(FRESH_WORDS, {7: own_view(2, 0xF) | 1 << 21}), 8, 7)
+    state(put(FRESH_WORDS, {7: own_view(2, 0xF) | 1 << 27}), 8, 7)
 
+
+def states_with_wrong_previous_read():
     note("8, previous read: heard 0 with row 0 (accepted), with row 1, with row 15.")
     state(FRESH.but(row={2: None}), 0, 0)
-    state(put(fresh, {9: previous(2, 0, 0x1)}), 8, 9)
-    state(put(fresh, {8: previous(1, 0, 0xF)}), 8, 8)
+    state(put(FRESH_WORDS, {9: previous(2, 0, 0x1)}), 8, 9)
+    state(put(FRESH_WORDS, {8: previous(1, 0, 0xF)}), 8, 8)
     also("8: row bit at N; spare bits 16 and 21; number 0; 2 and 3 in the other order; kind 10.")
-    state(put(fresh, {8: previous(1, 1, 0x1F)}), 8, 8)
-    state(put(fresh, {10: previous(3, 1, 0xF) | 1 << 16}), 8, 10)
-    state(put(fresh, {11: previous(4, 1, 0xF) | 1 << 21}), 8, 11)
-    state(put(fresh, {8: previous(0, 1, 0xF)}), 8, 8)
-    state(put(fresh, {9: previous(3, 1, 0xF), 10: previous(2, 1, 0xF)}), 8, 9)
-    state(put(fresh, {11: kind(previous(4, 1, 0xF), 10)}), 8, 11)
+    state(put(FRESH_WORDS, {8: previous(1, 1, 0x1F)}), 8, 8)
+    state(put(FRESH_WORDS, {10: previous(3, 1, 0xF) | 1 << 16}), 8, 10)
+    state(put(FRESH_WORDS, {11: previous(4, 1, 0xF) | 1 << 21}), 8, 11)
+    state(put(FRESH_WORDS, {8: previous(0, 1, 0xF)}), 8, 8)
+    state(put(FRESH_WORDS, {9: previous(3, 1, 0xF), 10: previous(2, 1, 0xF)}), 8, 9)
+    state(put(FRESH_WORDS, {11: kind(previous(4, 1, 0xF), 10)}), 8, 11)
 
+
+def states_with_wrong_syndromes():
     note("8, syndromes: bit at N in the latest, in the one before, in both; kind 13 for the second.")
-    state(put(fresh, {12: syndrome(0x10)}), 8, 12)
-    state(put(fresh, {13: syndrome(0x1F)}), 8, 13)
-    state(put(fresh, {12: syndrome(0x10), 13: syndrome(0x10)}), 8, 12)
-    state(put(fresh, {13: kind(syndrome(0xF), 13)}), 8, 13)
+    state(put(FRESH_WORDS, {12: syndrome(0x10)}), 8, 12)
+    state(put(FRESH_WORDS, {13: syndrome(0x1F)}), 8, 13)
+    state(put(FRESH_WORDS, {12: syndrome(0x10), 13: syndrome(0x10)}), 8, 12)
+    state(put(FRESH_WORDS, {13: kind(syndrome(0xF), 13)}), 8, 13)
     also("8: N = 16, spare bit 16 in the latest, spare bit 27 in the one before.")
     state(put(State(SIXTEEN, 1).words(), {36: syndrome(0xFFFF) | 1 << 16}), 8, 36)
     state(put(State(SIXTEEN, 1).words(), {37: syndrome(0xFFFF) | 1 << 27}), 8, 37)
 
+
+def states_with_wrong_penalties():
     wide = State(WIDE, 1)
     note("8, view against penalty, P = 5 and criticality 3, module 3 (word 16). In the view: penalty P",
          "is accepted; P+1, P+criticality and one more are not.")
@@ -408,11 +432,13 @@ def states():
     state(State(LARGE, 1).but(view=0xE, penalty={1: 1100000}), 0, 0)
     state(State(LARGE, 1).but(view=0xE, penalty={1: 1100001}), 8, 14)
     also("8: spare bits 21 and 22 of a penalty word; 3 and 4 in the other order; kind 14.")
-    state(put(fresh, {14: penalty(1, 0) | 1 << 21}), 8, 14)
-    state(put(fresh, {17: penalty(4, 0) | 1 << 22}), 8, 17)
-    state(put(fresh, {16: penalty(4, 0), 17: penalty(3, 0)}), 8, 16)
-    state(put(fresh, {15: kind(penalty(2, 0), 14)}), 8, 15)
+    state(put(FRESH_WORDS, {14: penalty(1, 0) | 1 << 21}), 8, 14)
+    state(put(FRESH_WORDS, {17: penalty(4, 0) | 1 << 22}), 8, 17)
+    state(put(FRESH_WORDS, {16: penalty(4, 0), 17: penalty(3, 0)}), 8, 16)
+    state(put(FRESH_WORDS, {15: kind(penalty(2, 0), 14)}), 8, 15)
 
+
+def states_with_wrong_rewards():
     charged = FRESH.but(penalty={2: 1})
     note("8, reward, R = 3 and penalty 1 at module 2 (word 19): R-1 is accepted, R is not.")
     state(charged.but(reward={2: 2}), 0, 0)
@@ -425,14 +451,16 @@ def states():
     state(State(LARGE, 1).but(penalty={1: 1}, reward={1: 7999999}), 0, 0)
     state(State(LARGE, 1).but(penalty={1: 1}, reward={1: 8000000}), 8, 18)
     also("8: 1 and 2 in the other order; kind 13.")
-    state(put(fresh, {18: reward(2, 0), 19: reward(1, 0)}), 8, 18)
-    state(put(fresh, {20: kind(reward(3, 0), 13)}), 8, 20)
+    state(put(FRESH_WORDS, {18: reward(2, 0), 19: reward(1, 0)}), 8, 18)
+    state(put(FRESH_WORDS, {20: kind(reward(3, 0), 13)}), 8, 20)
 
+
+def states_in_wrong_order():
     note("8, groups of words in another order: own number after the previous read; rewards first.")
-    state(fresh[:7] + fresh[8:12] + fresh[7:8] + fresh[12:], 8, 7)
-    state(fresh[:14] + fresh[18:] + fresh[14:18], 8, 14)
+    state(FRESH_WORDS[:7] + FRESH_WORDS[8:12] + FRESH_WORDS[7:8] + FRESH_WORDS[12:], 8, 7)
+    state(FRESH_WORDS[:14] + FRESH_WORDS[18:] + FRESH_WORDS[14:18], 8, 14)
     also("8 at several words, the first counts: 18 and 17; 13 and the view's clash at 15; 14 and 16.")
-    state(put(fresh, {17: penalty(4, 3), 18: reward(1, 3)}), 8, 17)
+    state(put(FRESH_WORDS, {17: penalty(4, 3), 18: reward(1, 3)}), 8, 17)
     state(put(FRESH.but(view=0xD).words(), {13: syndrome(0x10)}), 8, 13)
     state(FRESH.but(view=0xA), 8, 14)
 
@@ -479,16 +507,15 @@ def savings():
     saved(MIDDLE)
     saved(State(SIXTEEN_MARKED, 16))
 
-    fresh = FRESH.words()
     note("Numbers 1 to 8 come before 9: no output in each call.")
-    save_refused(raw(fresh)[:5], 0, 1, 0)
-    save_refused(put(fresh, {0: head(1)}), 0, 2, 0)
-    save_refused(fresh[:21], 0, 3, 0)
-    save_refused(put(fresh, {1: limit_r(1)}), 0, 4, 1)
-    save_refused(put(fresh, {4: module(2, 4, crit=0)}), 0, 5, 4)
-    save_refused(put(fresh, {4: module(2, 2, mark=1)}), 0, 6, 4)
-    save_refused(put(fresh, {7: own_view(31, 0xF)}), 0, 7, 7)
-    save_refused(put(fresh, {20: reward(3, 1)}), 0, 8, 20)
+    save_refused(raw(FRESH_WORDS)[:5], 0, 1, 0)
+    save_refused(put(FRESH_WORDS, {0: head(1)}), 0, 2, 0)
+    save_refused(FRESH_WORDS[:21], 0, 3, 0)
+    save_refused(put(FRESH_WORDS, {1: limit_r(1)}), 0, 4, 1)
+    save_refused(put(FRESH_WORDS, {4: module(2, 4, crit=0)}), 0, 5, 4)
+    save_refused(put(FRESH_WORDS, {4: module(2, 2, mark=1)}), 0, 6, 4)
+    save_refused(put(FRESH_WORDS, {7: own_view(31, 0xF)}), 0, 7, 7)
+    save_refused(put(FRESH_WORDS, {20: reward(3, 1)}), 0, 8, 20)
 
     note("9: output empty, one word short, one byte over, one word over.")
     for out in [0, 84, 89, 92]:
@@ -499,16 +526,15 @@ def savings():
 
 
 def steps_refused():
-    fresh = FRESH.words()
     read = buses(0xF, 0xF, 0xF, 0xF)
     note("Numbers 1 to 8 come before 9 and 10: no read, no output and controller bit 31 in each call.")
     step_refused(b"", b"", 1 << 31, 0, 1, 0)
-    step_refused(put(fresh, {0: head(17)}), b"", 1 << 31, 0, 2, 0)
-    step_refused(fresh + [0], b"", 1 << 31, 0, 3, 0)
-    step_refused(put(fresh, {2: limit_r(0)}), b"", 1 << 31, 0, 4, 2)
-    step_refused(put(fresh, {5: module(3, 5)}), b"", 1 << 31, 0, 5, 5)
-    step_refused(put(fresh, {3: module(1, 0, mark=1)}), b"", 1 << 31, 0, 6, 3)
-    step_refused(put(fresh, {7: own_view(0, 0xF)}), b"", 1 << 31, 0, 7, 7)
+    step_refused(put(FRESH_WORDS, {0: head(17)}), b"", 1 << 31, 0, 2, 0)
+    step_refused(FRESH_WORDS + [0], b"", 1 << 31, 0, 3, 0)
+    step_refused(put(FRESH_WORDS, {2: limit_r(0)}), b"", 1 << 31, 0, 4, 2)
+    step_refused(put(FRESH_WORDS, {5: module(3, 5)}), b"", 1 << 31, 0, 5, 5)
+    step_refused(put(FRESH_WORDS, {3: module(1, 0, mark=1)}), b"", 1 << 31, 0, 6, 3)
+    step_refused(put(FRESH_WORDS, {7: own_view(0, 0xF)}), b"", 1 << 31, 0, 7, 7)
     step_refused(FRESH.but(view=0x7), b"", 1 << 31, 0, 8, 17)
 
     note("9, read: empty, one word short, one byte over, one word over.")
@@ -527,16 +553,18 @@ def steps_refused():
     step_refused(State(SIXTEEN, 1), buses(*[0xFFFF] * 16), 0x1FFFF, 280, 10, 0)
 
 
-def steps_of_the_sheet():
-    """All l = N, so u = 0 and every row comes from this read."""
-    read = buses(0xF, 0xF, 0xF, 0xF)
+# Steps of the sheet's module 1. All l = N, so u = 0 and every row comes from this read.
+SHEET_1 = State(SHEET, 1)
+ALL_ONES = buses(0xF, 0xF, 0xF, 0xF)
+
+
+def steps_of_one_unheard():
     seen = buses(0xD, 0xD, 0xD, 0xD)
-    fresh = State(SHEET, 1)
     note("The sheet, module 1 (u = 0). All heard with all ones: health 1111, nobody charged.")
-    stepped(fresh, read, 0xF, 0xF, [0xF] * 4, 0xF)
+    stepped(SHEET_1, ALL_ONES, 0xF, 0xF, [0xF] * 4, 0xF)
     also("Round 1, 2 is unheard: 1, 3 and 4 still vote 1 on it, health 1111, nobody charged. The")
     also("syndrome lacks 2.")
-    one = stepped(fresh, read, 0xD, 0xF, [0xF, None, 0xF, 0xF], 0xD)
+    one = stepped(SHEET_1, ALL_ONES, 0xD, 0xF, [0xF, None, 0xF, 0xF], 0xD)
     also("Round 2, all send that syndrome: 1, 3 and 4 vote 0 on 2, health 1011. 2 is charged 1, which is")
     also("P and not above: it stays. No row differs from the health vector, the syndrome is full.")
     two = stepped(one, seen, 0xF, 0xD, [0xD] * 4, 0xF, penalty={2: 1})
@@ -544,43 +572,49 @@ def steps_of_the_sheet():
     out = stepped(two, seen, 0xF, 0xD, [0xD] * 4, 0xF, penalty={2: 2}, view=0xD)
     also("2 is out of the view: with health 0 and with health 1 its counters stay.")
     stepped(out, seen, 0xF, 0xD, [0xD] * 4, 0xF)
-    stepped(out, read, 0xF, 0xF, [0xF] * 4, 0xF)
+    stepped(out, ALL_ONES, 0xF, 0xF, [0xF] * 4, 0xF)
     also("After one charge, three rounds of health 1: reward 1, reward 2, at R = 3 both counters 0.")
-    good = stepped(two, read, 0xF, 0xF, [0xF] * 4, 0xF, reward={2: 1})
-    good = stepped(good, read, 0xF, 0xF, [0xF] * 4, 0xF, reward={2: 2})
-    stepped(good, read, 0xF, 0xF, [0xF] * 4, 0xF, penalty={2: 0}, reward={2: 0})
+    good = stepped(two, ALL_ONES, 0xF, 0xF, [0xF] * 4, 0xF, reward={2: 1})
+    good = stepped(good, ALL_ONES, 0xF, 0xF, [0xF] * 4, 0xF, reward={2: 2})
+    stepped(good, ALL_ONES, 0xF, 0xF, [0xF] * 4, 0xF, penalty={2: 0}, reward={2: 0})
 
+
+def steps_of_accused():
     note("3 alone missed 1 in round 1. Round 2: the row of 3 lacks 1, but 2 and 4 vote 1 on it: health",
          "1111, nobody charged; row 3 differs at 1, so 3 is accused and not in the syndrome.")
-    round_2 = stepped(fresh, buses(0xF, 0xF, 0xE, 0xF), 0xF, 0xF, [0xF, 0xF, 0xE, 0xF], 0xB)
+    round_2 = stepped(SHEET_1, buses(0xF, 0xF, 0xE, 0xF), 0xF, 0xF, [0xF, 0xF, 0xE, 0xF], 0xB)
     also("Round 3, all rows lack 3: health 1101, 3 is charged.")
     stepped(round_2, buses(0xB, 0xB, 0xB, 0xB), 0xF, 0xB, [0xB] * 4, 0xF, penalty={3: 1})
     also("A row that differs at its own module alone is not accused: 3 calls itself bad, 1, 2 and 4 vote")
     also("1 on it. Nobody charged, full syndrome.")
-    stepped(fresh, buses(0xF, 0xF, 0xB, 0xF), 0xF, 0xF, [0xF, 0xF, 0xB, 0xF], 0xF)
+    stepped(SHEET_1, buses(0xF, 0xF, 0xB, 0xF), 0xF, 0xF, [0xF, 0xF, 0xB, 0xF], 0xF)
 
+
+def steps_of_empty_votes():
     note("Nobody is heard, latest syndrome 1011: every vote is empty, health is that syndrome (u = 0).",
          "2 is charged; the syndrome before it, 1111, is not asked. New syndrome 0000.")
     none = [None] * 4
-    empty = stepped(one.but(row=[0xF] * 4), read, 0x0, 0xD, none, 0x0, penalty={2: 1})
+    empty = stepped(SHEET_1.but(latest=0xD), ALL_ONES, 0x0, 0xD, none, 0x0, penalty={2: 1})
     also("Again: health 0000, all are charged; 2 had 1 and leaves.")
-    stepped(empty, read, 0x0, 0x0, none, 0x0, penalty={1: 1, 2: 2, 3: 1, 4: 1}, view=0xD)
+    stepped(empty, ALL_ONES, 0x0, 0x0, none, 0x0, penalty={1: 1, 2: 2, 3: 1, 4: 1}, view=0xD)
 
     note("What is not heard: 5000001F (bit at N), 4000000F (kind 4), 5001000F (bit 16). Only 1 is heard.",
          "The vote on 1 is empty: bit 1 of the latest syndrome 0111, so 0; on 2, 3 and 4 row 1 votes 1.",
          "1 is charged. The syndrome holds 1 alone.")
-    late = fresh.but(latest=0xE)
+    late = SHEET_1.but(latest=0xE)
     only_1 = [0xF, None, None, None]
     words = [bus(0xF), 0x5000001F, 0x4000000F, 0x5001000F]
     stepped(late, words, 0xF, 0xE, only_1, 0x1, penalty={1: 1})
     also("The same by controller bits: 2, 3 and 4 send 5000000F.")
-    stepped(late, read, 0x1, 0xE, only_1, 0x1, penalty={1: 1})
+    stepped(late, ALL_ONES, 0x1, 0xE, only_1, 0x1, penalty={1: 1})
 
+
+def steps_of_other_votes():
     note("Votes 0, missing, 0 on 1: rows 2 and 4 lack 1, 3 is unheard. Health 0111, 1 is charged.")
-    stepped(fresh, buses(0xF, 0xE, 0xF, 0xE), 0xB, 0xE, [0xF, 0xE, None, 0xE], 0xB, penalty={1: 1})
+    stepped(SHEET_1, buses(0xF, 0xE, 0xF, 0xE), 0xB, 0xE, [0xF, 0xE, None, 0xE], 0xB, penalty={1: 1})
     also("4 is out of the view and still votes: on 1 rows 2 and 4 vote 0, row 3 votes 1. Health 0111, 1 is")
     also("charged, row 3 accused. The counters of 4 stay, a reward below R too.")
-    without_4 = fresh.but(view=0x7, penalty={4: 2}, reward={4: 1})
+    without_4 = SHEET_1.but(view=0x7, penalty={4: 2}, reward={4: 1})
     rows = [0xF, 0xE, 0xF, 0xE]
     stepped(without_4, buses(*rows), 0xF, 0xE, rows, 0xB, penalty={1: 1})
 
@@ -690,12 +724,29 @@ def steps_with_u_1():
 print("# Calls and their answers after document 01, in the format of calls.txt.")
 print("# A number before a colon or a comma at the start of a comment is the answer's number.")
 print("# Vectors in the comments are as printed: module 1 stands leftmost.")
-setups()
-states()
+setups_accepted()
+setups_of_no_whole_words()
+setups_with_wrong_head()
+setups_of_wrong_length()
+setups_with_wrong_limits()
+setups_with_wrong_modules()
+setups_with_wrong_marks()
+states_accepted()
+states_with_wrong_setup()
+states_with_wrong_own_number()
+states_with_wrong_view()
+states_with_wrong_previous_read()
+states_with_wrong_syndromes()
+states_with_wrong_penalties()
+states_with_wrong_rewards()
+states_in_wrong_order()
 openings()
 savings()
 steps_refused()
-steps_of_the_sheet()
+steps_of_one_unheard()
+steps_of_accused()
+steps_of_empty_votes()
+steps_of_other_votes()
 steps_of_the_counters()
 steps_of_other_n()
 steps_with_u_1()

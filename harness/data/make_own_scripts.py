@@ -643,7 +643,7 @@ def limit_over_two_rounds():
                "4 half heard and unheard in turn: a = 1, not b too", limit="in in in in in")
 
 
-def limit_of_breakers():
+def limit_of_unheard_breakers():
     everybody, lost_1, none = unheard(4, 4), [loss(1, ALL)], []
     u0, u1 = (setup + [cast(1)] for _, setup in setups_of(4))
     played("limit-breaker-unheard-twice-u0", u0 + by_round(lost_1, everybody, none, none),
@@ -658,10 +658,12 @@ def limit_of_breakers():
            setup_words(5) + [cast(1, 2)] + by_round([loss(1, of(3, 4, 5)), loss(2, of(3, 4, 5))]),
            "s = 2 by the rounds before 1, though only the cast hears them now", limit="out")
 
+
+def limit_by_receivers():
     at = SHEET + [cast(4)]
-    played("limit-cast-misses", at + by_round([loss(1, of(4))], none),
+    played("limit-cast-misses", at + by_round([loss(1, of(4))], []),
            "a loss at a rule-breaker halves nothing: s = 1", limit="in in")
-    played("limit-follower-misses", at + by_round([loss(1, of(3))], none), "a = 1, s = 1, 4 > 5 fails",
+    played("limit-follower-misses", at + by_round([loss(1, of(3))], []), "a = 1, s = 1, 4 > 5 fails",
            limit="out out")
     played("limit-sender-misses-itself", THREE + [cast()] + by_round([loss(2, of(2))]),
            "2 hears not itself, the others do: a = 1", limit="out")
@@ -670,6 +672,8 @@ def limit_of_breakers():
     played("limit-sender-unheard", THREE + [cast()] + by_round([loss(2, of(1, 2, 3))]),
            "nobody hears 2: a = s = 0", limit="in")
 
+
+def limit_of_told_words():
     six, seven = setup_words(6), setup_words(7)
     f = bus(full(6))
     played("limit-words-not-heard-differ", six + [cast(1, 2), lie(1, of(3)), 0, lie(1, of(4, 5, 6)),
@@ -801,7 +805,8 @@ def main():
         sys.exit(__doc__)
     for part in (lengths, heads, short, limits, modules, marks, casts, kinds, senders_and_masks, plays, outside_the_cast, missing,
                  many_rounds, two_numbers, quiet_runs, event_runs, told_runs, counter_runs, differing_runs, late_runs, limit_edges,
-                 limit_over_two_rounds, limit_of_breakers, replaced_runs, every_n, marked_runs, leaving_runs, back_in):
+                 limit_over_two_rounds, limit_of_unheard_breakers, limit_by_receivers, limit_of_told_words, replaced_runs, every_n,
+                 marked_runs, leaving_runs, back_in):
         part()
     write(sys.argv[1])
 

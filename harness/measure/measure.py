@@ -67,43 +67,49 @@ def text_bytes(path):
     return sum(int(line.split()[0]) for line in run(["size", path]).splitlines()[1:])
 
 
-def main():
+def parse_options():
     options = argparse.ArgumentParser(description=__doc__.splitlines()[0])
     options.add_argument("--lib", required=True, help="folder of libpresence.a")
     options.add_argument("--libs", default="", help="further linker arguments")
     options.add_argument("--n", default="2,4,8,16", help="values of N")
     options.add_argument("--build", default=os.path.join(ROOT, "build", "measure"))
-    options = options.parse_args()
-    sizes = [int(n) for n in options.n.split(",")]
-    os.makedirs(options.build, exist_ok=True)
+    return options.parse_args()
 
-    archive = os.path.join(options.lib, "libpresence.a")
-    plain_object = os.path.join(options.build, "plain.o")
+
+def compile_plain(build):
+    plain_object = os.path.join(build, "plain.o")
     run(["gcc", "-std=c99", "-O2", "-Wall", "-Wextra", "-I" + ROOT + "/include", "-c",
          ROOT + "/harness/c/plain.c", "-o", plain_object])
-    plain = Implementation("plain", ["-DPLAIN"], [plain_object], options.build)
-    presence = Implementation("presence", [], [archive, *options.libs.split()], options.build)
-    both = (plain, presence)
-    for one in both:
-        one.driver = one.compile("driver.c")
+    return plain_object
 
+
+def print_instructions(plain, presence, n, u, kind):
+    """One line of the table.  Answers whether both printed the same."""
+    plain_total, plain_step, plain_says = plain.per_step(n, u, kind)
+    total, step, says = presence.per_step(n, u, kind)
+    words = plain_says.split()
+    differ = "%d%%" % round(100 * int(words[9]) / int(words[7]))
+    print("%2d %d %-6s %11s | %11.1f %13.1f %5.2f | %11.1f %14.1f %5.2f"
+          % (n, u, kind, differ, plain_step, step, step / plain_step,
+             plain_total, total, total / plain_total), flush=True)
+    if says != plain_says:
+        print("   RESULTS DIFFER: plain %s   presence %s" % (plain_says.strip(), says.strip()))
+    return says == plain_says
+
+
+def print_all_instructions(plain, presence, sizes):
+    """Answers whether the results were equal everywhere."""
     print("Instructions a step (callgrind, gcc -O2; ratio is presence / plain)")
     print(" N u rounds rows differ |  plain step presence step ratio | plain total presence total ratio")
     equal = True
     for n in sizes:
         for u in (0, 1):
             for kind in KINDS:
-                plain_total, plain_step, plain_says = plain.per_step(n, u, kind)
-                total, step, says = presence.per_step(n, u, kind)
-                words = plain_says.split()
-                differ = "%d%%" % round(100 * int(words[9]) / int(words[7]))
-                print("%2d %d %-6s %11s | %11.1f %13.1f %5.2f | %11.1f %14.1f %5.2f"
-                      % (n, u, kind, differ, plain_step, step, step / plain_step,
-                         plain_total, total, total / plain_total), flush=True)
-                if says != plain_says:
-                    equal = False
-                    print("   RESULTS DIFFER: plain %s   presence %s" % (plain_says.strip(), says.strip()))
+                equal = print_instructions(plain, presence, n, u, kind) and equal
+    return equal
 
+
+def print_stacks(both, sizes):
     print("\nStack of a step in bytes (painted, return address included)")
     for one in both:
         program = one.compile("stack.c")
@@ -111,13 +117,30 @@ def main():
                                       for u in (0, 1) for kind in KINDS)) for n in sizes]
         print("  %-8s %s" % (one.name, ", ".join(depths)))
 
+
+def print_code_sizes(both):
     print("\nCode size in bytes (text of size: code, constants, unwind tables)")
-    for one, path in ((plain, plain_object), (presence, archive)):
+    for one in both:
+        path = one.link[0]
         linked = text_bytes(one.compile("use.c"))
         rest = text_bytes(one.compile("use.c", [os.path.join(HERE, "none.c")]))
         print("  %-8s %7d in %s, %d of it linked when all five functions are used"
               % (one.name, text_bytes(path), os.path.basename(path), linked - rest))
 
+
+def main():
+    options = parse_options()
+    sizes = [int(n) for n in options.n.split(",")]
+    os.makedirs(options.build, exist_ok=True)
+    archive = os.path.join(options.lib, "libpresence.a")
+    plain = Implementation("plain", ["-DPLAIN"], [compile_plain(options.build)], options.build)
+    presence = Implementation("presence", [], [archive, *options.libs.split()], options.build)
+    both = (plain, presence)
+    for one in both:
+        one.driver = one.compile("driver.c")
+    equal = print_all_instructions(plain, presence, sizes)
+    print_stacks(both, sizes)
+    print_code_sizes(both)
     print("\nresults %s" % ("equal" if equal else "DIFFERENT"))
     return 0 if equal else 1
 

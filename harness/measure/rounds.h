@@ -114,40 +114,45 @@ static void rounds_loud(struct rounds *r, uint32_t t)
     }
 }
 
-static void rounds_make(struct rounds *r, uint32_t n, uint32_t u,
-                        enum rounds_kind kind)
+/* P = 1,000,000; R is highest for late rounds, so that no penalty is cleared. */
+static void rounds_setup(struct rounds *r)
 {
-    uint32_t all = (1u << n) - 1, t, j, i, present, different, best;
-    struct rounds trial;
+    uint32_t j;
 
-    memset(r, 0, sizeof *r);
-    r->n = n;
-    r->u = u;
-    r->kind = kind;
-    r->own = n;
-    r->place = u == 1 ? n / 2 : n;
-    rounds_put(r->setup, 0, 0x10000000 | n);
+    rounds_put(r->setup, 0, 0x10000000 | r->n);
     rounds_put(r->setup, 1, 0x20000000 | 1000000);
-    rounds_put(r->setup, 2, 0x30000000 | (kind == LATE ? 8000000u : 3u));
-    for (j = 1; j <= n; j++)
+    rounds_put(r->setup, 2, 0x30000000 | (r->kind == LATE ? 8000000u : 3u));
+    for (j = 1; j <= r->n; j++)
         rounds_put(r->setup, 2 + j,
                    0x40000000 | j << 23 |
-                   (u == 1 && r->place < j ? 1u << 22 : 0) | r->place << 17 | 1);
+                   (r->u == 1 && r->place < j ? 1u << 22 : 0) |
+                   r->place << 17 | 1);
+}
+
+/* All heard with all ones; for late rounds bit N or bit N-1 is 0. */
+static void rounds_all_heard(struct rounds *r)
+{
+    uint32_t n = r->n, all = (1u << n) - 1, t, j;
 
     for (t = 0; t < PERIOD; t++) {
         r->controller[t] = all;
         for (j = 0; j < n; j++) {
             r->word[t][j] = 0x50000000 | all;
-            if (kind == LATE) /* bit N or bit N-1 is 0 */
+            if (r->kind == LATE)
                 r->word[t][j] &= j == n - 1 || (j != n - 2 && j % 2 == 0)
                                      ? ~(1u << (n - 1)) : ~(1u << (n - 2));
         }
     }
+}
 
-    /* Loud: of some random rounds the one in which most rows differ. */
-    rounds_random_state = 12345 + 2 * n + u;
-    trial = *r;
-    for (t = 0; kind == LOUD && t < PERIOD; t++) {
+/* Loud: of some random rounds the one in which most rows differ. */
+static void rounds_loudest(struct rounds *r)
+{
+    uint32_t t, i, present, different, best;
+    struct rounds trial = *r;
+
+    rounds_random_state = 12345 + 2 * r->n + r->u;
+    for (t = 0; t < PERIOD; t++) {
         best = 0;
         for (i = 0; i < TRIES; i++) {
             rounds_loud(&trial, t);
@@ -161,15 +166,37 @@ static void rounds_make(struct rounds *r, uint32_t n, uint32_t u,
         memcpy(trial.word[t], r->word[t], sizeof r->word[t]);
         trial.controller[t] = r->controller[t];
     }
+}
+
+/* The reads of the table, and how many rows are present and different. */
+static void rounds_reads(struct rounds *r)
+{
+    uint32_t t, j, present, different;
 
     for (t = 0; t < PERIOD; t++) {
-        for (j = 0; j < n; j++)
+        for (j = 0; j < r->n; j++)
             rounds_put(r->read[t], j, r->word[t][j]);
         rounds_count(r, t, &present, &different);
-        r->rows += n;
+        r->rows += r->n;
         r->present += present;
         r->different += different;
     }
+}
+
+static void rounds_make(struct rounds *r, uint32_t n, uint32_t u,
+                        enum rounds_kind kind)
+{
+    memset(r, 0, sizeof *r);
+    r->n = n;
+    r->u = u;
+    r->kind = kind;
+    r->own = n;
+    r->place = u == 1 ? n / 2 : n;
+    rounds_setup(r);
+    rounds_all_heard(r);
+    if (kind == LOUD)
+        rounds_loudest(r);
+    rounds_reads(r);
 }
 
 /* Arguments N, u, kind.  Returns 0 if they are wrong. */

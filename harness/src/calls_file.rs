@@ -28,22 +28,17 @@ pub fn parse(text: &str) -> Result<Vec<Case>, String> {
     let (call, answer) = text.split_once(" = ").ok_or("no = in the line")?;
     let call: Vec<&str> = call.split_whitespace().collect();
     let answer: Vec<&str> = answer.split_whitespace().collect();
-    match (call.as_slice(), answer.as_slice()) {
+    cases(&call, &answer)
+}
+
+/// The cases of a line that is split at its spaces.
+fn cases(call: &[&str], answer: &[&str]) -> Result<Vec<Case>, String> {
+    match (call, answer) {
         (["setup", setup], [number, index]) => {
             let call = Call::CheckSetup { setup: bytes(setup)? };
             Ok(vec![case(call, number, index, Some("0"), "-")?])
         }
-        (["state", state], [number, index]) => {
-            let bytes = bytes(state)?;
-            let output = if *number == "0" { state } else { "-" };
-            let value = if *number == "0" { None } else { Some("0") };
-            let save = Call::Save { state: bytes.clone(), out_len: bytes.len() };
-            let outgoing = Call::Outgoing { state: bytes };
-            Ok(vec![
-                case(save, number, index, Some("0"), output)?,
-                case(outgoing, number, index, value, "-")?,
-            ])
-        }
+        (["state", state], [number, index]) => state_cases(state, number, index),
         (["outgoing", state], [number, index, word]) => {
             let call = Call::Outgoing { state: bytes(state)? };
             Ok(vec![case(call, number, index, Some(word), "-")?])
@@ -65,6 +60,18 @@ pub fn parse(text: &str) -> Result<Vec<Case>, String> {
         }
         _ => Err("unknown call, or arguments missing".to_string()),
     }
+}
+
+/// Reading a state, by saving and by the outgoing word. The line does not say the word of an
+/// accepted state.
+fn state_cases(state: &str, number: &str, index: &str) -> Result<Vec<Case>, String> {
+    let bytes = bytes(state)?;
+    let accepted = number == "0";
+    let output = if accepted { state } else { "-" };
+    let word = if accepted { None } else { Some("0") };
+    let save = Call::Save { state: bytes.clone(), out_len: bytes.len() };
+    let outgoing = Call::Outgoing { state: bytes };
+    Ok(vec![case(save, number, index, Some("0"), output)?, case(outgoing, number, index, word, "-")?])
 }
 
 fn case(call: Call, number: &str, index: &str, value: Option<&str>, output: &str) -> Result<Case, String> {

@@ -3,6 +3,7 @@
 pub mod damage;
 pub mod reached;
 pub mod reads;
+pub mod refused;
 pub mod scripts;
 pub mod setups;
 pub mod states;

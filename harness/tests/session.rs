@@ -1,8 +1,9 @@
 //! Demand 3 and lemma 3 on random runs of the model.
 
-use harness::model::words::has;
+use harness::model::words::{has, only};
 use harness::random::scripts::{careful_script, script};
 use harness::random::Random;
+use harness::script::backplane::Backplane;
 use harness::script::limit::Hearing;
 use harness::script::print::play_rounds;
 
@@ -14,60 +15,89 @@ struct Round {
 
 const NOTHING: Hearing = Hearing { half_heard: 0, unheard: 0 };
 
+/// What was heard in a round; before round 1 all were heard by all.
+fn hearing(rounds: &[Round], round: i64) -> Hearing {
+    if round < 1 {
+        NOTHING
+    } else {
+        rounds[round as usize - 1].hearing
+    }
+}
+
+/// How often demand 3 had something to say.
+#[derive(Default)]
+struct Due {
+    rounds: u32,
+    with_faults: u32,
+    unheard: u32,
+}
+
+/// All followers have the same health vector, counters and view.
+fn followers_agree(backplane: &Backplane, followers: &[usize]) {
+    let first = followers[0] - 1;
+    for &i in followers {
+        let state = &backplane.states[i - 1];
+        assert_eq!(backplane.outcomes[i - 1].health, backplane.outcomes[first].health);
+        assert_eq!(state.penalty, backplane.states[first].penalty);
+        assert_eq!(state.reward, backplane.states[first].reward);
+        assert_eq!(state.view, backplane.states[first].view);
+    }
+}
+
+/// Health 0 for a module unheard in the judged round; health 1 for a follower that all heard in it,
+/// if no other module was half heard in the earlier round. Answers how many were unheard.
+fn health_is_right(n: usize, health: u32, followers: &[usize], judged: Hearing, earlier: Hearing) -> u32 {
+    for j in 1..=n {
+        if has(judged.unheard, j) {
+            assert!(!has(health, j));
+        }
+        let heard_by_all = !has(judged.unheard, j) && !has(judged.half_heard, j);
+        let others_half_heard = earlier.half_heard & !only(j);
+        if followers.contains(&j) && heard_by_all && others_half_heard == 0 {
+            assert!(has(health, j));
+        }
+    }
+    judged.unheard.count_ones()
+}
+
+/// Demand 3 for the latest round, if the limit was kept for every round from 1 to k-u.
+fn demand_3_in_round(backplane: &Backplane, followers: &[usize], rounds: &[Round], due: &mut Due) {
+    let u = backplane.setup.u();
+    let k = rounds.len();
+    let deciding = k - u;
+    if followers.is_empty() || (deciding > 0 && !rounds[deciding - 1].kept_so_far) {
+        return;
+    }
+    let r = k as i64 - 2 * u as i64 - 1;
+    let judged = hearing(rounds, r);
+    let earlier = hearing(rounds, r - u as i64 - 1);
+    due.rounds += 1;
+    if judged != NOTHING || earlier != NOTHING {
+        due.with_faults += 1;
+    }
+    followers_agree(backplane, followers);
+    for &i in followers {
+        let health = backplane.outcomes[i - 1].health;
+        due.unheard += health_is_right(backplane.setup.n, health, followers, judged, earlier);
+    }
+}
+
 #[test]
 fn demand_3() {
     let mut random = Random::new(3);
-    let mut rounds_due = 0;
-    let mut with_faults = 0;
-    let mut unheard_due = 0;
+    let mut due = Due::default();
     for at in 0..3_000 {
         let script = if at % 2 == 0 { script(&mut random) } else { careful_script(&mut random) };
-        let n = script.setup.n;
-        let u = script.setup.u();
-        let followers: Vec<usize> = (1..=n).filter(|&j| !has(script.cast, j)).collect();
+        let followers: Vec<usize> = (1..=script.setup.n).filter(|&j| !has(script.cast, j)).collect();
         let mut rounds: Vec<Round> = Vec::new();
         play_rounds(&script, |backplane| {
             rounds.push(Round { kept_so_far: backplane.kept_so_far, hearing: backplane.hearings[0] });
-            let k = rounds.len();
-            // Kept for every round from 1 to k-u.
-            let deciding = k - u;
-            if followers.is_empty() || (deciding > 0 && !rounds[deciding - 1].kept_so_far) {
-                return Ok(());
-            }
-            rounds_due += 1;
-
-            let hearing = |round: i64| if round < 1 { NOTHING } else { rounds[round as usize - 1].hearing };
-            let r = k as i64 - 2 * u as i64 - 1;
-            let judged = hearing(r);
-            let earlier = hearing(r - u as i64 - 1);
-            if judged != NOTHING || earlier != NOTHING {
-                with_faults += 1;
-            }
-            let first = followers[0] - 1;
-            for &i in &followers {
-                let health = backplane.outcomes[i - 1].health;
-                let state = &backplane.states[i - 1];
-                assert_eq!(health, backplane.outcomes[first].health);
-                assert_eq!(state.penalty, backplane.states[first].penalty);
-                assert_eq!(state.reward, backplane.states[first].reward);
-                assert_eq!(state.view, backplane.states[first].view);
-                for j in 1..=n {
-                    if has(judged.unheard, j) {
-                        unheard_due += 1;
-                        assert!(!has(health, j));
-                    }
-                    let heard_by_all = !has(judged.unheard, j) && !has(judged.half_heard, j);
-                    let others_half_heard = earlier.half_heard & !(1 << (j - 1));
-                    if followers.contains(&j) && heard_by_all && others_half_heard == 0 {
-                        assert!(has(health, j));
-                    }
-                }
-            }
+            demand_3_in_round(backplane, &followers, &rounds, &mut due);
             Ok(())
         })
         .unwrap();
     }
-    assert!(rounds_due > 5_000 && with_faults > 1_000 && unheard_due > 1_000);
+    assert!(due.rounds > 5_000 && due.with_faults > 1_000 && due.unheard > 1_000);
 }
 
 /// All words on the bus in round k hold round k-1's syndromes; only told words differ.

@@ -71,45 +71,42 @@ pub fn image_words(setup: &Setup, state: &State) -> Vec<u32> {
 pub fn read_image(bytes: &[u8]) -> Result<(Setup, State), Refusal> {
     let (setup, words) = read_setup(bytes, Holds::State)?;
     let n = setup.n;
+    let (own, view) = read_own_and_view(&words, n)?;
+    let previous = read_each(&words, n + 4, n, |word, j| read_previous(word, j, n))?;
+    let latest = read_syndrome(&words, 2 * n + 4, n)?;
+    let before = read_syndrome(&words, 2 * n + 5, n)?;
+    let penalty = read_each(&words, 2 * n + 6, n, |word, j| read_penalty(word, j, &setup, has(view, j)))?;
+    let reward = read_each(&words, 3 * n + 6, n, |word, j| read_reward(word, j, &setup, penalty[j - 1]))?;
+    Ok((setup, State { own, view, previous, latest, before, penalty, reward }))
+}
 
-    // 7 is tested only where the word is kind 10.
-    let mut at = n + 3;
+/// Own number and view. 7 is tested only where the word is kind 10, and before 8.
+fn read_own_and_view(words: &[u32], n: usize) -> Result<(usize, u32), Refusal> {
+    let at = n + 3;
     let own = bits(words[at], 20, 16) as usize;
     if kind(words[at]) == 10 && !(1..=n).contains(&own) {
         return Err(refusal(7, at));
     }
-
     let own_word = OwnWord::split(words[at]).ok_or(refusal(8, at))?;
     if own_word.view > full(n) {
         return Err(refusal(8, at));
     }
-    let view = own_word.view;
-    at += 1;
+    Ok((own, own_word.view))
+}
 
-    let mut previous = [Entry::default(); MAX];
+/// One word for each module, that of module 1 at `first`; 8 at the first one that `read` does not take.
+fn read_each<T: Copy + Default>(
+    words: &[u32],
+    first: usize,
+    n: usize,
+    read: impl Fn(u32, usize) -> Option<T>,
+) -> Result<[T; MAX], Refusal> {
+    let mut fields = [T::default(); MAX];
     for j in 1..=n {
-        previous[j - 1] = read_previous(words[at], j, n).ok_or(refusal(8, at))?;
-        at += 1;
+        let at = first + j - 1;
+        fields[j - 1] = read(words[at], j).ok_or(refusal(8, at))?;
     }
-
-    let latest = read_syndrome(words[at], n).ok_or(refusal(8, at))?;
-    at += 1;
-    let before = read_syndrome(words[at], n).ok_or(refusal(8, at))?;
-    at += 1;
-
-    let mut penalty = [0; MAX];
-    for j in 1..=n {
-        penalty[j - 1] = read_penalty(words[at], j, &setup, has(view, j)).ok_or(refusal(8, at))?;
-        at += 1;
-    }
-
-    let mut reward = [0; MAX];
-    for j in 1..=n {
-        reward[j - 1] = read_reward(words[at], j, &setup, penalty[j - 1]).ok_or(refusal(8, at))?;
-        at += 1;
-    }
-
-    Ok((setup, State { own, view, previous, latest, before, penalty, reward }))
+    Ok(fields)
 }
 
 fn read_previous(word: u32, j: usize, n: usize) -> Option<Entry> {
@@ -118,9 +115,12 @@ fn read_previous(word: u32, j: usize, n: usize) -> Option<Entry> {
     right.then_some(Entry { heard: read.heard, row: read.row })
 }
 
-fn read_syndrome(word: u32, n: usize) -> Option<u32> {
-    let syndrome = Vector::split(12, word)?;
-    (syndrome.bits <= full(n)).then_some(syndrome.bits)
+fn read_syndrome(words: &[u32], at: usize, n: usize) -> Result<u32, Refusal> {
+    let syndrome = Vector::split(12, words[at]).ok_or(refusal(8, at))?;
+    if syndrome.bits > full(n) {
+        return Err(refusal(8, at));
+    }
+    Ok(syndrome.bits)
 }
 
 /// A penalty over P goes with a clear view bit, and any other with a set one.

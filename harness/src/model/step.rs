@@ -23,7 +23,7 @@ pub fn heard_word(n: usize, word: u32) -> Option<u32> {
     (bus.bits <= full(n)).then_some(bus.bits)
 }
 
-/// Rule 2 with the controller bit.
+/// Rule 2 with the controller bit, for one sender.
 pub fn hear(n: usize, controller_bit: bool, word: u32) -> Entry {
     if controller_bit {
         if let Some(row) = heard_word(n, word) {
@@ -31,6 +31,15 @@ pub fn hear(n: usize, controller_bit: bool, word: u32) -> Entry {
         }
     }
     Entry { heard: false, row: 0 }
+}
+
+/// Rule 2 for all senders of a read.
+fn hear_all(n: usize, controller: u32, read: &[u32]) -> [Entry; MAX] {
+    let mut this = [Entry::default(); MAX];
+    for j in 1..=n {
+        this[j - 1] = hear(n, has(controller, j), read[j - 1]);
+    }
+    this
 }
 
 /// Rule 3: entries j <= l come from the previous read if u = 1, all others from this read.
@@ -65,6 +74,11 @@ pub fn vote(n: usize, j: usize, rows: &[Entry; MAX], own_syndrome: u32) -> bool 
     }
 }
 
+/// Rule 4 for all modules: the health vector.
+fn health_vector(n: usize, rows: &[Entry; MAX], own_syndrome: u32) -> u32 {
+    (1..=n).filter(|&j| vote(n, j, rows, own_syndrome)).fold(0, |health, j| health | only(j))
+}
+
 /// Rule 5 for one module: the lowest h other than j at which a present row differs, or 0.
 pub fn accusation(n: usize, j: usize, entry: Entry, health: u32) -> u32 {
     if entry.heard {
@@ -75,6 +89,31 @@ pub fn accusation(n: usize, j: usize, entry: Entry, health: u32) -> u32 {
         }
     }
     0
+}
+
+/// Rule 5 for all modules.
+fn accusations(n: usize, rows: &[Entry; MAX], health: u32) -> [u32; MAX] {
+    let mut accused = [0; MAX];
+    for j in 1..=n {
+        accused[j - 1] = accusation(n, j, rows[j - 1], health);
+    }
+    accused
+}
+
+/// Rule 6: the modules whose row is present and that are not accused.
+fn new_syndrome(n: usize, rows: &[Entry; MAX], accused: &[u32; MAX]) -> u32 {
+    let right = |j: &usize| rows[j - 1].heard && accused[j - 1] == 0;
+    (1..=n).filter(right).fold(0, |syndrome, j| syndrome | only(j))
+}
+
+/// Rules 7 and 9: the outgoing word, 11 if it would not be heard.
+fn outgoing_word(n: usize, send_mark: bool, latest: u32, syndrome: u32) -> Result<u32, Refusal> {
+    let handed = if send_mark { latest } else { syndrome };
+    let word = Vector { kind: 5, bits: handed }.word();
+    if heard_word(n, word).is_none() {
+        return Err(refusal(11, 0));
+    }
+    Ok(word)
 }
 
 /// Rule 8 for one module.
@@ -110,37 +149,19 @@ pub fn step(setup: &Setup, state: &mut State, read: &[u32], controller: u32) -> 
     }
 
     // Rules 2 and 3.
-    let mut this = [Entry::default(); MAX];
-    for j in 1..=n {
-        this[j - 1] = hear(n, has(controller, j), read[j - 1]);
-    }
+    let this = hear_all(n, controller, read);
     let aligned = align(n, u, own.place as usize, &state.previous, &this);
 
     // Rule 4. The state holds the syndromes of rounds k-1 (latest) and k-2 (before).
     let own_syndrome = if u == 0 { state.latest } else { state.before };
-    let mut health = 0;
-    for j in 1..=n {
-        if vote(n, j, &aligned, own_syndrome) {
-            health |= only(j);
-        }
-    }
+    let health = health_vector(n, &aligned, own_syndrome);
 
     // Rules 5 and 6.
-    let mut accused = [0; MAX];
-    let mut syndrome = 0;
-    for j in 1..=n {
-        accused[j - 1] = accusation(n, j, aligned[j - 1], health);
-        if aligned[j - 1].heard && accused[j - 1] == 0 {
-            syndrome |= only(j);
-        }
-    }
+    let accused = accusations(n, &aligned, health);
+    let syndrome = new_syndrome(n, &aligned, &accused);
 
-    // Rules 7 and 9.
-    let handed = if own.send_mark { state.latest } else { syndrome };
-    let word = Vector { kind: 5, bits: handed }.word();
-    if heard_word(n, word).is_none() {
-        return Err(refusal(11, 0));
-    }
+    // Rules 7 and 9 come before 8: a refusal leaves the counters.
+    let word = outgoing_word(n, own.send_mark, state.latest, syndrome)?;
 
     // Rule 8.
     for j in 1..=n {

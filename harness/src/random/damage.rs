@@ -86,73 +86,108 @@ fn damage_once(random: &mut Random, words: &mut Vec<u32>) {
 /// Sets one field of a word to a value at or just beyond its limit.
 fn spoil_field(random: &mut Random, words: &mut [u32], at: usize) {
     let n = (words[0] & 31).clamp(2, 16);
-    let penalty_limit = words.get(1).map_or(1, |word| word & 0x0FFF_FFFF);
-    let reward_limit = words.get(2).map_or(1, |word| word & 0x0FFF_FFFF);
     let word = words[at];
     let bit_at_n = 1 << (n + random.below(2) as u32);
     words[at] = match kind(word) {
         1 => 1 << 28 | random.pick(&[0, 1, 2, 15, 16, 17, 31, 32 | n]),
         2 => 2 << 28 | random.pick(&[0, 1, 999_999, 1_000_000, 1_000_001, 0x0FFF_FFFF]),
         3 => 3 << 28 | random.pick(&[0, 1, 7_999_999, 8_000_000, 8_000_001, 0x0FFF_FFFF]),
-        4 => match random.below(5) {
-            0 => field(word, 27, 23, random.pick(&[0, 1, n, n + 1, 31])),
-            1 => word ^ 1 << 22,
-            2 => field(word, 21, 17, random.pick(&[0, n, n + 1, 31])),
-            3 => field(word, 21, 17, word >> 23 & 31) | 1 << 22,
-            _ => field(word, 16, 0, random.pick(&[0, 1, 99_999, 100_000, 100_001, 131_071])),
-        },
-        6 => match random.below(2) {
+        4 => spoil_module(random, word, n),
+        6 | 12 => match random.below(2) {
             0 => word | bit_at_n,
             _ => word | 1 << random.between(16, 27),
         },
-        7 | 8 => match random.below(5) {
-            0 => field(word, 27, 23, random.pick(&[0, 1, n, n + 1, 31])),
-            1 => word | 1 << random.between(16, 22),
-            2 => field(word, 15, 0, 0),
-            3 => word | bit_at_n,
-            _ => word ^ 1 << 28,
-        },
+        7 | 8 => spoil_event(random, word, n, bit_at_n),
         9 => 9 << 28 | random.pick(&[0, 1, 999, 1_000, 1_001, 0x0FFF_FFFF]),
-        10 => match random.below(5) {
-            0 => field(word, 20, 16, random.pick(&[0, 1, n, n + 1, 31])),
-            1 => word ^ 1 << random.below(n as usize),
-            2 => word | bit_at_n,
-            3 => field(word, 20, 16, 0) | 1 << random.between(21, 27),
-            _ => word | 1 << random.between(21, 27),
-        },
-        11 => match random.below(5) {
-            0 => field(word, 27, 23, random.pick(&[0, 1, n, n + 1, 31])),
-            1 => word ^ 1 << 22,
-            2 => word | bit_at_n,
-            3 => field(word, 22, 22, 0) | 1 << random.below(n as usize),
-            _ => word | 1 << random.between(16, 21),
-        },
-        12 => match random.below(2) {
-            0 => word | bit_at_n,
-            _ => word | 1 << random.between(16, 27),
-        },
-        13 => match random.below(5) {
-            0 => field(word, 27, 23, random.pick(&[0, 1, n, n + 1, 31])),
-            1 => word | 1 << random.between(21, 22),
-            2 => field(word, 20, 0, penalty_limit),
-            3 => field(word, 20, 0, penalty_limit + 1),
-            _ => {
-                let criticality = words.get((word >> 23 & 31) as usize + 2).map_or(1, |word| word & 0x1_FFFF);
-                let most = penalty_limit.wrapping_add(criticality);
-                field(word, 20, 0, random.pick(&[0, 1, most, most + 1, 0x1F_FFFF]))
-            }
-        },
-        14 => match random.below(3) {
-            0 => field(word, 27, 23, random.pick(&[0, 1, n, n + 1, 31])),
-            1 => field(word, 22, 0, 1),
-            _ => {
-                let value =
-                    random.pick(&[reward_limit, reward_limit.wrapping_sub(1), reward_limit + 1, 0x7F_FFFF]);
-                field(word, 22, 0, value)
-            }
-        },
+        10 => spoil_own_and_view(random, word, n, bit_at_n),
+        11 => spoil_previous(random, word, n, bit_at_n),
+        13 => {
+            let criticality = words.get(number(word) as usize + 2).map_or(1, |word| word & 0x1_FFFF);
+            spoil_penalty(random, word, n, amount(words, 1), criticality)
+        }
+        14 => spoil_reward(random, word, n, amount(words, 2)),
         _ => word ^ 1 << random.below(32),
     };
+}
+
+/// Kind 4.
+fn spoil_module(random: &mut Random, word: u32, n: u32) -> u32 {
+    match random.below(5) {
+        0 => with_other_number(random, word, n),
+        1 => word ^ 1 << 22,
+        2 => field(word, 21, 17, random.pick(&[0, n, n + 1, 31])),
+        3 => field(word, 21, 17, number(word)) | 1 << 22,
+        _ => field(word, 16, 0, random.pick(&[0, 1, 99_999, 100_000, 100_001, 131_071])),
+    }
+}
+
+/// Kinds 7 and 8.
+fn spoil_event(random: &mut Random, word: u32, n: u32, bit_at_n: u32) -> u32 {
+    match random.below(5) {
+        0 => with_other_number(random, word, n),
+        1 => word | 1 << random.between(16, 22),
+        2 => field(word, 15, 0, 0),
+        3 => word | bit_at_n,
+        _ => word ^ 1 << 28,
+    }
+}
+
+/// Kind 10.
+fn spoil_own_and_view(random: &mut Random, word: u32, n: u32, bit_at_n: u32) -> u32 {
+    match random.below(5) {
+        0 => field(word, 20, 16, random.pick(&[0, 1, n, n + 1, 31])),
+        1 => word ^ 1 << random.below(n as usize),
+        2 => word | bit_at_n,
+        3 => field(word, 20, 16, 0) | 1 << random.between(21, 27),
+        _ => word | 1 << random.between(21, 27),
+    }
+}
+
+/// Kind 11.
+fn spoil_previous(random: &mut Random, word: u32, n: u32, bit_at_n: u32) -> u32 {
+    match random.below(5) {
+        0 => with_other_number(random, word, n),
+        1 => word ^ 1 << 22,
+        2 => word | bit_at_n,
+        3 => field(word, 22, 22, 0) | 1 << random.below(n as usize),
+        _ => word | 1 << random.between(16, 21),
+    }
+}
+
+/// Kind 13; the highest penalty is P and the module's criticality.
+fn spoil_penalty(random: &mut Random, word: u32, n: u32, penalty_limit: u32, criticality: u32) -> u32 {
+    let most = penalty_limit.wrapping_add(criticality);
+    match random.below(5) {
+        0 => with_other_number(random, word, n),
+        1 => word | 1 << random.between(21, 22),
+        2 => field(word, 20, 0, penalty_limit),
+        3 => field(word, 20, 0, penalty_limit + 1),
+        _ => field(word, 20, 0, random.pick(&[0, 1, most, most + 1, 0x1F_FFFF])),
+    }
+}
+
+/// Kind 14; rewards are below R.
+fn spoil_reward(random: &mut Random, word: u32, n: u32, reward_limit: u32) -> u32 {
+    let near = [reward_limit, reward_limit.wrapping_sub(1), reward_limit + 1, 0x7F_FFFF];
+    match random.below(3) {
+        0 => with_other_number(random, word, n),
+        1 => field(word, 22, 0, 1),
+        _ => field(word, 22, 0, random.pick(&near)),
+    }
+}
+
+/// The number of a module or sender, bits 27..23.
+fn number(word: u32) -> u32 {
+    word >> 23 & 31
+}
+
+fn with_other_number(random: &mut Random, word: u32, n: u32) -> u32 {
+    field(word, 27, 23, random.pick(&[0, 1, n, n + 1, 31]))
+}
+
+/// The limit in a word of a setup, 1 if the word is not there.
+fn amount(words: &[u32], at: usize) -> u32 {
+    words.get(at).map_or(1, |word| word & 0x0FFF_FFFF)
 }
 
 /// The word with bits high..low replaced.

@@ -82,29 +82,39 @@ impl Reached {
     }
 
     fn add_played(&mut self, script: &Script, bytes: &[u8], output: &str) {
+        self.count_if(bytes.len() == MOST_BYTES, "played", "65,536 bytes");
+        self.count_setup(script);
+        self.count_rounds(script);
+        self.count_events(script);
+        self.count("limit", limit_name(script, output));
+        self.count_views(script.setup.n, output);
+    }
+
+    /// The setup and the cast.
+    fn count_setup(&mut self, script: &Script) {
         let n = script.setup.n;
         let modules = &script.setup.modules[..n];
         self.count("played", &format!("N {n}"));
         self.count("played", if script.setup.u() == 0 { "u 0" } else { "u 1" });
         self.count_if(modules.iter().any(|module| module.send_mark), "played", "marks");
-        self.count(
-            "cast of",
-            if script.cast == 0 {
-                "nobody"
-            } else if script.cast == full(n) {
-                "all"
-            } else {
-                "some"
-            },
-        );
-        self.count_if(bytes.len() == MOST_BYTES, "played", "65,536 bytes");
+        let cast = match script.cast {
+            0 => "nobody",
+            cast if cast == full(n) => "all",
+            _ => "some",
+        };
+        self.count("cast of", cast);
+    }
 
+    fn count_rounds(&mut self, script: &Script) {
         let rounds: Vec<u32> = script.items.iter().filter_map(rounds_of).collect();
         self.count_if(rounds.len() > 1, "played", "several plays");
         self.count_if(rounds.iter().sum::<u32>() == MOST_ROUNDS, "played", "100,000 rounds");
+    }
 
-        let told: Vec<u32> = script.items.iter().filter_map(told_of).collect();
-        let losses = script.items.iter().any(|item| matches!(item, Item::Loss { .. }));
+    fn count_events(&mut self, script: &Script) {
+        let n = script.setup.n;
+        let told = told_words(script);
+        let losses = has_losses(script);
         self.count_if(told.is_empty() && !losses, "events", "none");
         self.count_if(losses, "events", "losses");
         self.count_if(told.iter().any(|word| heard_word(n, *word).is_some()), "events", "lies heard");
@@ -112,24 +122,29 @@ impl Reached {
         for name in replaced(script) {
             self.count("replaced", name);
         }
+    }
 
-        let begins_in = output.split('\n').next().is_some_and(|line| line.ends_with(" in"));
-        let ends_in = output.ends_with(" in\n");
-        let name = match (begins_in, ends_in) {
-            (true, true) if script.cast == full(n) => "in, all are cast",
-            (true, true) if !told.is_empty() => "in, lies",
-            (true, true) if losses => "in, losses",
-            (true, true) => "in, no event",
-            (true, false) => "in then out",
-            (false, _) => "out from round 1",
-        };
-        self.count("limit", name);
-
+    /// The fourth field of a line is the view; a round is N lines.
+    fn count_views(&mut self, n: usize, output: &str) {
         let views: Vec<&str> = output.lines().filter_map(|line| line.split(' ').nth(3)).collect();
         let leaves = views.iter().any(|view| view.contains('0'));
         self.count("view", if leaves { "some leave" } else { "all stay" });
         let differ = views.chunks(n).any(|round| round.iter().any(|view| *view != round[0]));
         self.count_if(differ, "view", "modules differ");
+    }
+}
+
+/// Whether the run keeps within the fault limit, and with what. A run that has left it stays out.
+fn limit_name(script: &Script, output: &str) -> &'static str {
+    let begins_in = output.split('\n').next().is_some_and(|line| line.ends_with(" in"));
+    let ends_in = output.ends_with(" in\n");
+    match (begins_in, ends_in) {
+        (true, true) if script.cast == full(script.setup.n) => "in, all are cast",
+        (true, true) if !told_words(script).is_empty() => "in, lies",
+        (true, true) if has_losses(script) => "in, losses",
+        (true, true) => "in, no event",
+        (true, false) => "in then out",
+        (false, _) => "out from round 1",
     }
 }
 
@@ -173,11 +188,17 @@ fn rounds_of(item: &Item) -> Option<u32> {
     }
 }
 
-fn told_of(item: &Item) -> Option<u32> {
-    match item {
+/// The word of each lie.
+fn told_words(script: &Script) -> Vec<u32> {
+    let told_of = |item: &Item| match item {
         Item::Lie { told, .. } => Some(*told),
         _ => None,
-    }
+    };
+    script.items.iter().filter_map(told_of).collect()
+}
+
+fn has_losses(script: &Script) -> bool {
+    script.items.iter().any(|item| matches!(item, Item::Loss { .. }))
 }
 
 /// Which kinds of events replaced which, each once.

@@ -1,10 +1,11 @@
 //! Run scripts: accepted ones, and refused ones for every number.
 
 use super::damage::{any_bytes, damaged};
+use super::refused;
 use super::setups::{lively_setup, setup, setup_of};
 use super::Random;
 use crate::model::setup::Setup;
-use crate::model::words::{bytes_of, full};
+use crate::model::words::{bytes_of, full, has};
 use crate::script::check::words;
 use crate::script::{Item, Script};
 
@@ -14,178 +15,53 @@ pub const WAYS: usize = 33;
 /// A run script made in one of the ways 0..WAYS-1.
 pub fn script_bytes(random: &mut Random, way: usize) -> Vec<u8> {
     let script = script(random);
-    let n = script.setup.n;
-    let mut all = words(&script);
-    let cast_at = n + 3;
+    let all = words(&script);
+    let (setup, tail) = all.split_at(script.setup.n + 3);
     match way {
         // Accepted.
         0..=5 => bytes_of(&all),
         6 => long_script(random),
         7 => crowded_script(random, 16_384),
-        // Damaged in any way.
+        // Damaged in any way, or behind a sound setup.
         8..=10 => damaged(random, &all),
-        11 => {
-            let mut tail = damaged(random, &all[cast_at..]);
-            let mut bytes = bytes_of(&all[..cast_at]);
-            bytes.append(&mut tail);
-            bytes
-        }
+        11 => [bytes_of(setup), damaged(random, tail)].concat(),
         12 => any_bytes(random),
-        // 1 and 3: cut.
-        13 => {
-            let mut bytes = bytes_of(&all);
-            bytes.truncate(random.below(bytes.len()));
-            bytes
-        }
         // 2 to 6: a setup with something wrong, before a sound tail.
-        14 => {
-            let mut bytes = damaged(random, &all[..cast_at]);
-            bytes.append(&mut bytes_of(&all[cast_at..]));
-            bytes
-        }
-        // 12: a second cast, or a word of a kind that runs do not have.
-        15 => {
-            let at = cast_at + random.below(all.len() - cast_at);
-            let word = (random.pick(&[6, 6, 0, 1, 4, 5, 10, 12, 15]) as u32) << 28;
-            all.insert(at, word | random.vector(n));
-            bytes_of(&all)
-        }
-        // 12: a play of a wrong length.
-        16 => {
-            all.push(9 << 28 | random.pick(&[0, 1_001, 0x0FFF_FFFF]));
-            bytes_of(&all)
-        }
-        // 13: a lie by one outside the cast, at times as the last word.
-        17 => {
-            let sender = random.between(1, n as u32);
-            all[cast_at] &= !(1 << (sender - 1));
-            all.push(8 << 28 | sender << 23 | random.mask(n));
-            if random.chance(2, 3) {
-                all.push(random.word());
-                all.push(9 << 28 | 1);
-            }
-            bytes_of(&all)
-        }
-        // 14: the cast missing, the told word missing, events never played, no play.
-        18 => {
-            match random.below(4) {
-                0 => all.truncate(cast_at),
-                1 => {
-                    all[cast_at] |= 1;
-                    all.push(8 << 28 | 1 << 23 | random.mask(n));
-                }
-                2 => all.push(7 << 28 | random.between(1, n as u32) << 23 | random.mask(n)),
-                _ => all.truncate(cast_at + 1),
-            }
-            bytes_of(&all)
-        }
-        // 15: too many rounds.
-        19 => {
-            all.truncate(cast_at + 1);
-            let rounds = if random.chance(1, 2) { 1_000 } else { random.between(900, 1_000) };
-            let plays = 100_000 / rounds;
-            for _ in 0..plays {
-                all.push(9 << 28 | rounds);
-            }
-            all.push(9 << 28 | (100_000 - plays * rounds + 1));
-            for _ in 0..random.below(3) {
-                all.push(9 << 28 | 1);
-            }
-            bytes_of(&all)
-        }
-        // 16: too many bytes.
-        20 => {
-            let mut bytes = bytes_of(&all);
-            let length = random.pick(&[65_537, 65_538, 65_540, 65_600, 70_000]);
-            bytes.resize(length, 0);
-            if random.chance(1, 3) {
-                let at = random.below(12);
-                bytes[at] ^= 1 << random.below(8);
-            }
-            bytes
-        }
+        14 => [damaged(random, setup), bytes_of(tail)].concat(),
+        // 1, 3 and 16: too few or too many bytes.
+        13 => refused::cut(random, bytes_of(&all)),
+        20 => refused::too_many_bytes(random, bytes_of(&all)),
+        27 => refused::few_words(random, &all),
         // At the limits of numbers 15 and 16, refused by something behind.
         21 => {
             let mut bytes = crowded_script(random, 16_384);
             bytes.truncate(65_536 - random.below(9));
             bytes
         }
-        // Two wrong words in the tail.
-        22 => {
-            let first = all.len();
-            all.push(random.pick(&[9 << 28, 6 << 28, 7 << 28, 8 << 28 | 1 << 23]));
-            all.push(random.word());
-            let at = cast_at + random.below(first - cast_at);
-            all.swap(at, first);
-            bytes_of(&all)
-        }
-        // 4: a limit out of range, at times with a wrong module word behind it.
-        23 => {
-            let at = 1 + random.below(2);
-            let kind = at as u32 + 1;
-            let most = if at == 1 { 1_000_000 } else { 8_000_000 };
-            all[at] = random.pick(&[kind << 28, kind << 28 | (most + 1), 5 << 28 | 1, all[at] | 1 << 27]);
-            if random.chance(1, 2) {
-                all[3 + random.below(n)] = random.word();
-            }
-            bytes_of(&all)
-        }
-        // 6: a mark on module 1, or with l at or above the own number.
-        24 => {
-            let j = if random.chance(1, 3) { 1 } else { random.between(1, n as u32) };
-            let place = if j == 1 { random.between(0, n as u32) } else { random.between(j, n as u32) };
-            all[j as usize + 2] = 4 << 28 | j << 23 | 1 << 22 | place << 17 | 1;
-            bytes_of(&all)
-        }
-        // 5: one field of a module word just out of range.
-        26 => {
-            let j = random.between(1, n as u32);
-            let (number, place, criticality) = random.pick(&[
-                (j, n as u32 + 1, 1),
-                (j, n as u32, 0),
-                (j, n as u32, 100_001),
-                (j % 16 + 1, n as u32, 1),
-                (0, n as u32, 1),
-            ]);
-            all[j as usize + 2] = 4 << 28 | number << 23 | place << 17 | criticality;
-            bytes_of(&all)
-        }
-        // 2: a wrong head, before a sound rest.
-        31 => {
-            let spare = 1 << random.between(5, 27);
-            let kind = random.pick(&[0, 2, 3, 5, 9, 15]) << 28;
-            all[0] = random.pick(&[
-                1 << 28,
-                1 << 28 | 1,
-                1 << 28 | 17,
-                1 << 28 | 31,
-                all[0] | spare,
-                kind | n as u32,
-            ]);
-            bytes_of(&all)
-        }
-        // 3: whole words, fewer than N+3.
-        27 => bytes_of(&all[..1 + random.below(n + 2)]),
+        15..=19 | 22..=24 | 26 | 31 => refused::wrong_words(random, all, way),
         // Accepted, and within the fault limit or just over it.
         28..=30 => bytes_of(&words(&careful_script(random))),
-        // Accepted: 100,000 rounds, no more.
-        25 if random.chance(1, 6) => {
-            let mut script = script;
-            script.setup = setup_of(random, 2, 1);
-            script.cast &= 3;
-            script.items = vec![Item::Loss { sender: 1, receivers: 2 }];
-            script.items.resize(101, Item::Play { rounds: 1_000 });
-            bytes_of(&words(&script))
-        }
-        // Nobody or everybody in the cast, limits at their ends.
-        _ => {
-            let n = random.between(2, 16) as usize;
-            let u = random.below(2);
-            let setup = setup_of(random, n, u);
-            let cast = if random.chance(1, 2) { 0 } else { full(n) };
-            bytes_of(&words(&script_of(random, setup, cast)))
-        }
+        25 if random.chance(1, 6) => most_rounds(random, script),
+        _ => cast_of_all_or_nobody(random),
     }
+}
+
+/// Accepted: 100,000 rounds, no more.
+fn most_rounds(random: &mut Random, mut script: Script) -> Vec<u8> {
+    script.setup = setup_of(random, 2, 1);
+    script.cast &= 3;
+    script.items = vec![Item::Loss { sender: 1, receivers: 2 }];
+    script.items.resize(101, Item::Play { rounds: 1_000 });
+    bytes_of(&words(&script))
+}
+
+/// Accepted: nobody or everybody in the cast, limits at their ends.
+fn cast_of_all_or_nobody(random: &mut Random) -> Vec<u8> {
+    let n = random.between(2, 16) as usize;
+    let u = random.below(2);
+    let setup = setup_of(random, n, u);
+    let cast = if random.chance(1, 2) { 0 } else { full(n) };
+    bytes_of(&words(&script_of(random, setup, cast)))
 }
 
 /// An accepted script of some rounds.
@@ -229,48 +105,52 @@ pub fn careful_script(random: &mut Random) -> Script {
     }
     let mut items = Vec::new();
     for _ in 0..1 + random.below(8) {
-        // The limit is N > 2a + 2s + b + 1; every rule-breaker counts two, half heard or not.
-        let mut spare = n - 2 - 2 * cast.count_ones() as usize;
-        let half = random.between(1, n as u32) as usize;
-        if cast >> (half - 1) & 1 == 1 {
-            for _ in 0..1 + random.below(4) {
-                items.push(event_by(random, n, cast, half));
-            }
-        } else if spare >= 2 && random.chance(2, 3) {
-            spare -= 2;
-            items.push(Item::Loss { sender: half, receivers: random.mask(n) });
-        }
-        let mut unheard = match random.below(8) {
-            0..=2 => spare,
-            3..=6 => random.below(spare + 1),
-            _ => spare + random.below(2),
-        };
-        for sender in 1..=n {
-            if sender == half {
-                continue;
-            }
-            if cast >> (sender - 1) & 1 == 1 {
-                match random.below(4) {
-                    0 | 1 => {}
-                    2 => items.push(Item::Lie { sender, receivers: full(n), told: told(random, n) }),
-                    // Unheard by all, by some for the word they are told.
-                    _ => {
-                        items.push(Item::Loss { sender, receivers: full(n) });
-                        items.push(Item::Lie {
-                            sender,
-                            receivers: random.mask(n),
-                            told: random.pick(&[0, 6 << 28]),
-                        });
-                    }
-                }
-            } else if unheard > 0 {
-                unheard -= 1;
-                items.push(Item::Loss { sender, receivers: full(n) });
-            }
-        }
+        careful_events(random, n, cast, &mut items);
         items.push(Item::Play { rounds: random.pick(&[3, 3, 4, 6]) });
     }
     Script { setup, cast, items }
+}
+
+/// Events of one round. The limit is N > 2a + 2s + b + 1; every rule-breaker counts two, half heard
+/// or not. At most one sender is half heard, the others are heard by all alike or by nobody.
+fn careful_events(random: &mut Random, n: usize, cast: u32, items: &mut Vec<Item>) {
+    let mut spare = n - 2 - 2 * cast.count_ones() as usize;
+    let half = random.between(1, n as u32) as usize;
+    if has(cast, half) {
+        for _ in 0..1 + random.below(4) {
+            items.push(event_by(random, n, cast, half));
+        }
+    } else if spare >= 2 && random.chance(2, 3) {
+        spare -= 2;
+        items.push(Item::Loss { sender: half, receivers: random.mask(n) });
+    }
+    let mut unheard = match random.below(8) {
+        0..=2 => spare,
+        3..=6 => random.below(spare + 1),
+        _ => spare + random.below(2),
+    };
+    for sender in (1..=n).filter(|&sender| sender != half) {
+        if has(cast, sender) {
+            break_alike(random, n, sender, items);
+        } else if unheard > 0 {
+            unheard -= 1;
+            items.push(Item::Loss { sender, receivers: full(n) });
+        }
+    }
+}
+
+/// A rule-breaker that is heard by all with the same word, or by nobody.
+fn break_alike(random: &mut Random, n: usize, sender: usize, items: &mut Vec<Item>) {
+    match random.below(4) {
+        0 | 1 => {}
+        2 => items.push(Item::Lie { sender, receivers: full(n), told: told(random, n) }),
+        // Unheard by all, by some for the word they are told.
+        _ => {
+            items.push(Item::Loss { sender, receivers: full(n) });
+            let receivers = random.mask(n);
+            items.push(Item::Lie { sender, receivers, told: random.pick(&[0, 6 << 28]) });
+        }
+    }
 }
 
 fn event(random: &mut Random, n: usize, cast: u32) -> Item {

@@ -32,56 +32,60 @@ pub fn check(bytes: &[u8]) -> Result<Script, Refusal> {
     let count = words.len();
 
     // The cast stands first and nowhere else.
-    let mut at = n + 3;
+    let at = n + 3;
     if at == count {
         return Err(refusal(14, count));
     }
     let cast = read_cast(words[at], n).ok_or(refusal(12, at))?;
-    at += 1;
+    let items = read_items(&words, n, cast)?;
 
+    // A play stands last: without it there is none, or events wait for one.
+    match items.last() {
+        Some(Item::Play { .. }) => Ok(Script { setup, cast, items }),
+        _ => Err(refusal(14, count)),
+    }
+}
+
+/// The events and plays behind the cast.
+fn read_items(words: &[u32], n: usize, cast: u32) -> Result<Vec<Item>, Refusal> {
     let mut items = Vec::new();
     let mut rounds_in_all = 0;
-    let mut events_wait = false;
-    let mut told_word_missing = false;
-    while at < count {
-        match kind(words[at]) {
-            7 => {
-                let (sender, receivers) = read_event(7, words[at], n).ok_or(refusal(12, at))?;
-                items.push(Item::Loss { sender, receivers });
-                events_wait = true;
+    let mut at = n + 4;
+    while at < words.len() {
+        let item = read_item(words, at, n, cast)?;
+        if let Item::Play { rounds } = item {
+            rounds_in_all += rounds;
+            if rounds_in_all > MOST_ROUNDS {
+                return Err(refusal(15, at));
             }
-            8 => {
-                let (sender, receivers) = read_event(8, words[at], n).ok_or(refusal(12, at))?;
-                if !has(cast, sender) {
-                    return Err(refusal(13, at));
-                }
-                // The next word is taken as it is.
-                at += 1;
-                if at < count {
-                    items.push(Item::Lie { sender, receivers, told: words[at] });
-                    events_wait = true;
-                } else {
-                    told_word_missing = true;
-                }
-            }
-            9 => {
-                let rounds = read_play(words[at]).ok_or(refusal(12, at))?;
-                rounds_in_all += rounds;
-                if rounds_in_all > MOST_ROUNDS {
-                    return Err(refusal(15, at));
-                }
-                items.push(Item::Play { rounds });
-                events_wait = false;
-            }
-            _ => return Err(refusal(12, at)),
         }
-        at += 1;
+        at += if matches!(item, Item::Lie { .. }) { 2 } else { 1 };
+        items.push(item);
     }
+    Ok(items)
+}
 
-    if told_word_missing || events_wait || rounds_in_all == 0 {
-        return Err(refusal(14, count));
+fn read_item(words: &[u32], at: usize, n: usize, cast: u32) -> Result<Item, Refusal> {
+    match kind(words[at]) {
+        7 => {
+            let (sender, receivers) = read_event(7, words[at], n).ok_or(refusal(12, at))?;
+            Ok(Item::Loss { sender, receivers })
+        }
+        8 => {
+            let (sender, receivers) = read_event(8, words[at], n).ok_or(refusal(12, at))?;
+            if !has(cast, sender) {
+                return Err(refusal(13, at));
+            }
+            // The next word is taken as it is; where it is missing, the script ends here.
+            let told = *words.get(at + 1).ok_or(refusal(14, words.len()))?;
+            Ok(Item::Lie { sender, receivers, told })
+        }
+        9 => {
+            let rounds = read_play(words[at]).ok_or(refusal(12, at))?;
+            Ok(Item::Play { rounds })
+        }
+        _ => Err(refusal(12, at)),
     }
-    Ok(Script { setup, cast, items })
 }
 
 fn read_cast(word: u32, n: usize) -> Option<u32> {
