@@ -16,27 +16,9 @@ import os
 import subprocess
 import sys
 
+from setup_words import bus, head, limit_p, limit_r, module
+
 # ---- words ----
-
-
-def head(n):
-    return 1 << 28 | n
-
-
-def limit_p(value):
-    return 2 << 28 | value
-
-
-def limit_r(value):
-    return 3 << 28 | value
-
-
-def module(number, l, crit=1, mark=0):
-    return 4 << 28 | number << 23 | mark << 22 | l << 17 | crit
-
-
-def bus(syndrome):
-    return 5 << 28 | syndrome
 
 
 def cast(*modules):
