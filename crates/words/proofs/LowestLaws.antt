@@ -10,6 +10,7 @@ use native.Mathlib.Decide.{le-ind}
 use lib.Dec.{eqb, eqb·suc-zero}
 use borrow.Author.Tests.{ne-eqb}
 use Rattle.words.specs.Count.{lowest}
+use Rattle.words.proofs.Truth.{cond-false}
 
 module _ (p : ℕ → Bool) where
   -- a turn of the search
@@ -25,7 +26,7 @@ module _ (p : ℕ → Bool) where
   unfolding lowest
   lowest-stays k n m e l =
       le-ind (λ (x : ℕ). lowest x p ≡ k + 1) e
-      (λ x h (i : lowest x p ≡ k + 1). rw (i, ne-eqb (k + 1) 0 (omega arith))) m l
+      (λ x h (i : lowest x p ≡ k + 1). cond-false _ _ (ap (λ (y : ℕ). eqb y 0) i ∙ ne-eqb (k + 1) 0 (omega arith)) ∙ i) m l
 
   pick-le : (b : Bool) (k n : ℕ) → k ≤ n → cond (eqb k 0) (cond b (n + 1) 0) k ≤ suc n
   pick-le b k n h = go (eqb k 0) b
