@@ -5,3 +5,4 @@ pub mod StartLaws
 pub mod RunLaws
 pub mod SoundLaws
 pub mod Session
+pub mod OutputLaws

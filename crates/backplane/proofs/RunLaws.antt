@@ -1,6 +1,6 @@
 -- A run put together from its cursor and its backplane, and its lines.
 use Prim.Native.Nat.{ℕ, _≤_}
-use mathlib.Core.Path.{_≡_, sym, ap, ap₂, _∙_, subst}
+use mathlib.Core.Path.{_≡_, refl, sym, ap, ap₂, _∙_, subst}
 use mathlib.Core.Bool.{true, false, cond}
 use mathlib.Core.Logic.{_≢_}
 use mathlib.Core.List.{List}
@@ -37,6 +37,19 @@ pub start-begun : (s : List ℕ) {v : Verdict} {r : Run} → v ≡ checkScript s
 unfolding startOf
 start-begun s {v} {r} e f q =
     ap₂ started e (q ∙ sym (cond-true (begun s) idle (ap isAccepted (sym e) ∙ eq-eqb (v .number) 0 f)))
+
+-- what starting answers
+pub start-number : (s : List ℕ) → startOf s .number ≡ checkScript s .number
+unfolding startOf
+start-number s = refl
+
+pub start-index : (s : List ℕ) → startOf s .index ≡ checkScript s .index
+unfolding startOf
+start-index s = refl
+
+pub start-run : (s : List ℕ) → checkScript s .number ≡ 0 → startOf s .run ≡ begun s
+unfolding startOf
+start-run s e = cond-true (begun s) idle (eq-eqb (checkScript s .number) 0 e)
 
 abbrev run : Cursor → Backplane → Run
 run c b = record { cursor = c; backplane = b }

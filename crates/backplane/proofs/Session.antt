@@ -41,7 +41,7 @@ use Rattle.agreement.proofs.Existence.{existence}
 use Rattle.backplane.specs.Bus.{faultless, arrived}
 use Rattle.backplane.specs.Limit.{hearingOf, keptOver}
 use Rattle.backplane.specs.Play.{stateAt, openedStates, opened, sentWords, steppedStates, answeredHealth, earlier, played}
-use Rattle.backplane.specs.Run.{begun, goesOn, nextOf, runAt}
+use Rattle.backplane.specs.Run.{begun, goesOn, nextOf, later, runAt}
 use Rattle.backplane.specs.Session.{fateIn, toldIn, PlayedBy, HasSession, Holds, PlaysSession, InAgrees}
 use Rattle.backplane.specs.declared.Backplane.{Backplane}
 use Rattle.backplane.proofs.StartLaws.{accepts, setup-read}
@@ -183,8 +183,8 @@ has-session s e =
 
 -- ---- the run is the session, round by round
 
-run-cursor : (s : List ℕ) (k : ℕ) → runAt s k .cursor ≡ cursorAt s k
-unfolding runAt begun nextOf cursorAt
+pub run-cursor : (s : List ℕ) (k : ℕ) → runAt s k .cursor ≡ cursorAt s k
+unfolding later begun nextOf cursorAt
 run-cursor s zero = refl
 run-cursor s (suc k) = ap (advanced s) (run-cursor s k)
 
@@ -212,13 +212,13 @@ module _ (s : List ℕ) (e : checkScript s .number ≡ 0) (S : Session) (P : Pla
 
   next-is : (k : ℕ) → suc k ≤ roundsOf s → Shows S (P .accepted) k (runAt s k .backplane)
       → runAt s (suc k) .backplane ≡ played (runAt s k .backplane) (cursorAt s (suc k) .events)
-  unfolding runAt nextOf
+  unfolding later nextOf
   next-is k hk h =
       let b = runAt s k .backplane in
       ap (λ (x : Cursor). cond (goesOn x b) (played b (x .events)) b) (cursor-next s k) ∙ cond-true _ _ (goes-on k hk b (h .holds))
 
   shows : (k : ℕ) → k ≤ roundsOf s → Shows S (P .accepted) k (runAt s k .backplane)
-  unfolding runAt begun
+  unfolding later begun
   shows zero hk = shows-first S (P .accepted) _ (ap₂ opened (setup-read s e ∙ sym (P .setup)) (sym (P .cast)))
   shows (suc k) hk =
       let h = shows k (omega arith) in

@@ -55,7 +55,7 @@ played-sound b e h = record {
       subst Valid (sym (updated-at (b .setup .n) _ (b .states) i blank hi (rw (h .entries) (h .few)))) (kept-valid (stateAt (b .states) i) _ _ (h .valid i hi));
 }
 
-begun-sound : (s : List ℕ) → checkScript s .number ≡ 0 → Sound (begun s .backplane)
+pub begun-sound : (s : List ℕ) → checkScript s .number ≡ 0 → Sound (begun s .backplane)
 unfolding begun
 begun-sound s e =
     let f = subst SetupFits (sym (setup-read s e)) (script-fits s e) in

@@ -3,4 +3,5 @@ pub mod Limit
 pub mod Heard
 pub mod Play
 pub mod Run
+pub mod Output
 pub mod Session

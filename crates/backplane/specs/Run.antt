@@ -45,10 +45,14 @@ nextOf s r =
     let c = advanced s (r .cursor) in
     record { cursor = c; backplane = cond (goesOn c (r .backplane)) (played (r .backplane) (c .events)) (r .backplane) }
 
--- the run after k rounds
-unfoldable pub runAt : List ℕ → ℕ → Run
-runAt s zero = begun s
-runAt s (suc k) = nextOf s (runAt s k)
+-- a run m rounds later
+unfoldable pub later : List ℕ → Run → ℕ → Run
+later s r zero = r
+later s r (suc m) = nextOf s (later s r m)
+
+-- the run after round k
+abbrev pub runAt : List ℕ → ℕ → Run
+runAt s k = later s (begun s) k
 
 -- ---- what is printed of a round
 

@@ -2,6 +2,7 @@
 //
 // This file has what is held from round to round. The entry of module i + 1 stands at i, that of receiver i + 1 and sender j + 1 at 16 * i + j.
 mod arrivals;
+mod fill;
 mod half_heard;
 mod limit;
 mod play;
@@ -41,6 +42,12 @@ pub struct Backplane {
 pub struct Run {
     cursor: Cursor,
     backplane: Backplane,
+}
+
+// The run after the rounds whose lines were written, and the place after the lines.
+pub struct Filled {
+    pub run: Run,
+    pub end: usize,
 }
 
 // What starting a run answers.

@@ -1,73 +1,63 @@
 // The bench: plays a run script from standard input, and writes the lines of every round to standard output.
+//
+// The output is written in parts. Every part is proved to be the next part of the whole before it is written, and none is left out.
 use backplane::Run;
 use text::line::put_refusal;
 ghost use mathlib.Core.Path.{_≡_};
-ghost use mathlib.Core.Bool.{cond};
-ghost use Prim.Native.Nat.{_≤_};
-ghost use lib.Dec.{leb};
-ghost use lib.ListN.{length};
-ghost use Rattle.text.specs.Wrote.{Wrote};
-ghost use Rattle.backplane.specs.Play.{Sound};
-ghost use Rattle.backplane.specs.Run.{printed};
+ghost use Prim.Native.Nat.{_+_, _≤_, _<_};
+ghost use mathlib.Core.Logic.{_≢_};
+ghost use lib.ListN.{length, take};
+ghost use Rattle.script.specs.Check.{checkScript};
+ghost use Rattle.backplane.specs.Run.{begun};
+ghost use Rattle.backplane.specs.Output.{partOf, partsOf};
 
-// The place of the next round's lines: where they might not fit after what is in the buffer, that is written and they go to its front.
-fn make_room(out: &[u8], at: usize) -> usize
-    requires { ⌜ (length (now out) ≡ 65536) × (at ≤ 65536) ⌝ }
-    ensures { λ r. ⌜ (r ≡ cond (leb at 64704) at 0) × (r ≤ 64704) ⌝ }
+// Writes part k of what the bench writes for a script, and answers how many parts are written then.
+fn write_part(script: &[u8], k: u32, out: &[u8], end: usize) -> u32
+    requires { ⌜ (k < 100000) × (end ≤ length (now out)) × (take end (now out) ≡ partOf (now script) k) ⌝ }
+    ensures { λ r. ⌜ r ≡ k + 1 ⌝ }
 {
-    if at <= 64704 {
-        return at;
-    }
-    io::write_all(1, &out[..at]);
-    0
+    io::write_all(1, &out[..end]);
+    k + 1
 }
 
-// Puts the lines of a round into the buffer.
-fn put_round(run: Run, out: &mut [u8], at: usize) -> usize
-    requires { ⌜ (run .backplane .setup .n ≤ 16) × (length (now out) ≡ 65536) × (at ≤ 65536) ⌝ }
-    ensures { λ r. ⌜ Wrote (now (out .entry)) (cond (leb at 64704) at 0) (printed (run .backplane)) (now (out .exit)) r × (r ≤ 65536) ⌝ }
+// Plays an accepted script, and writes all its parts.
+fn write_rounds(run: Run, script: &[u8]) -> u32
+    requires { ⌜ (checkScript (now script) .number ≡ 0) × (run ≡ begun (now script)) ⌝ }
+    ensures { λ r. ⌜ r ≡ partsOf (now (script .entry)) ⌝ }
 {
-    let from = make_room(out, at);
-    run.put_lines(out, from)
-}
-
-// Plays every round of the script.
-fn write_rounds(run: Run, script: &[u8])
-    requires { ⌜ Sound (run .backplane) ⌝ }
-{
-    let mut out = [0u8; 65536];
-    let mut at: usize = 0;
+    let mut out = [0u8; 53248];
     let mut now = run;
     let mut k: u32 = 0;
-    while k < 100000 {
-        let next = now.next(script);
-        now = next;
-        if now.over() {
-            k = 100000;
-        } else {
-            at = put_round(now, &mut out, at);
-            k += 1;
-        }
+    let mut over = false;
+    while !over {
+        let filled = now.fill(script, &mut out);
+        k = write_part(script, k, &out, filled.end);
+        now = filled.run;
+        over = now.over();
     }
-    io::write_all(1, &out[..at]);
+    k
 }
 
-// Writes the line of a refusal.
-fn write_refusal(number: u32, index: u32) {
+// Writes the line of a refusal, the only part that a refused script has.
+fn write_refusal(script: &[u8], number: u32, index: u32) -> u32
+    requires { ⌜ (checkScript (now script) .number ≢ 0) × (number ≡ checkScript (now script) .number) × (index ≡ checkScript (now script) .index) ⌝ }
+    ensures { λ r. ⌜ r ≡ partsOf (now (script .entry)) ⌝ }
+{
     let mut out = [0u8; 33];
     let end = put_refusal(&mut out, 0, number, index);
-    io::write_all(1, &out[..end]);
+    write_part(script, 0, &out, end)
 }
 
-// Plays the script, or says by what number and at which word it is refused.
-fn play(script: &[u8]) {
+// Plays the script, or says by what number and at which word it is refused; answers how many parts are written.
+fn play(script: &[u8]) -> u32
+    ensures { λ r. ⌜ r ≡ partsOf (now (script .entry)) ⌝ }
+{
     let started = Run::start(script);
     if started.number != 0 {
-        write_refusal(started.number, started.index);
-        return;
+        return write_refusal(script, started.number, started.index);
     }
     let run = started.run;
-    write_rounds(run, script);
+    write_rounds(run, script)
 }
 
 fn main() {

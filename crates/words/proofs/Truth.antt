@@ -52,6 +52,10 @@ pub not-both : (b : Bool) → not b ≡ true → b ≡ false
 not-both true e = sym e
 not-both false e = refl
 
+pub not-neither : (b : Bool) → not b ≡ false → b ≡ true
+not-neither true e = refl
+not-neither false e = sym e
+
 -- two tests that agree
 pub beq-eq : (a b : Bool) → Bool·beq a b ≡ true → a ≡ b
 beq-eq true true e = refl

@@ -1,9 +1,10 @@
--- What is started holds states within the limits.
-use mathlib.Core.Path.{sym, subst}
+-- A refused script is named, an accepted one is played from its beginning.
+use mathlib.Core.Path.{_≡_, sym, ap, _∙_, subst}
+use Prim.Native.Nat.{ℕ}
+use mathlib.Core.Logic.{_≢_}
 use borrow.Author.Needs.{needs}
-use Rattle.backplane.specs.Play.{Sound}
-use Rattle.backplane.proofs.SoundLaws.{start-sound}
 use Rattle.backplane.specs.declared.Started.{Started}
+use Rattle.backplane.proofs.RunLaws.{start-number, start-index, start-run}
 use Rattle.bench.proofs.play.Statement.{statement}
 use Rattle.bench.proofs.play.Tie as tie
 
@@ -11,18 +12,22 @@ start-requires : tie.Need-start-requires
 start-requires c κs = search needs
 
 write-refusal-requires : tie.Need-write-refusal-requires
-write-refusal-requires c κs = search needs
+write-refusal-requires c κs =
+    let e = c .before .before .start .ensures in
+    let n = ap (λ (x : Started). x .number) e ∙ start-number _ in
+    (subst (λ (x : ℕ). x ≢ 0) n (c .if1 .taken), n, ap (λ (x : Started). x .index) e ∙ start-index _)
 
 returns : tie.Need-returns
 returns c = search needs
 
 write-rounds-requires : tie.Need-write-rounds-requires
-write-rounds-requires c κs = subst (λ (r : Started). Sound (r .run .backplane)) (sym (c .before .before .before .start .ensures)) (start-sound _)
+write-rounds-requires c κs =
+    let e = c .before .before .before .start .ensures in
+    let n = sym (ap (λ (x : Started). x .number) e ∙ start-number _) ∙ c .before .if1 .left in
+    (n, ap (λ (x : Started). x .run) e ∙ start-run _ n)
 
 returns-2 : tie.Need-returns-2
 returns-2 c = search needs
 
 pub play-spec : {M : Type 1} → statement M
-play-spec =
-    tie.close
-    (tie.spec start-requires write-refusal-requires returns write-rounds-requires returns-2)
+play-spec = tie.close (tie.spec start-requires write-refusal-requires returns write-rounds-requires returns-2)

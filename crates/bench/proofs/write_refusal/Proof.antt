@@ -1,8 +1,11 @@
--- The line ends within the buffer.
-use mathlib.Core.Path.{sym}
+-- The line of the refusal stands at the front of the buffer.
+use mathlib.Core.Path.{_≡_, refl, sym, ap, ap₂, _∙_}
 use native.Mathlib.Omega.{arith}
-use lib.Seq.{length-take-le}
 use borrow.Author.Needs.{needs}
+use borrow.Author.Tests.{ne-eqb}
+use Rattle.text.specs.Lines.{refusedLine}
+use Rattle.text.proofs.WroteLaws.{wrote-front, wrote-length}
+use Rattle.backplane.proofs.OutputLaws.{part-refused, parts-one}
 use Rattle.bench.proofs.write_refusal.Statement.{statement}
 use Rattle.bench.proofs.write_refusal.Tie as tie
 
@@ -12,17 +15,17 @@ slice-aggregate-put-refusal c = search needs
 put-refusal-requires : tie.Need-put-refusal-requires
 put-refusal-requires c κs = search needs
 
-array-share-prefix-out : tie.Need-array-share-prefix-out
-array-share-prefix-out c = search needs
+slice-aggregate-write-part : tie.Need-slice-aggregate-write-part
+slice-aggregate-write-part c = search needs
 
-slice-aggregate-write-all : tie.Need-slice-aggregate-write-all
-slice-aggregate-write-all c = sym (length-take-le _ _ (omega arith))
-
-write-all-requires : tie.Need-write-all-requires
-write-all-requires c κs = search needs
+write-part-requires : tie.Need-write-part-requires
+write-part-requires c κs =
+    let p = c .before .before .put-refusal .ensures .0 in
+    let s = c .before .before .before .before .before in
+    (omega arith, omega (arith, p .room, wrote-length p), wrote-front p ∙ ap₂ refusedLine (s .pre .1) (s .pre .2) ∙ sym (part-refused _ (ne-eqb _ 0 (s .pre .0))))
 
 returns : tie.Need-returns
-returns c = search needs
+returns c = c .write-part .ensures ∙ sym (parts-one _ (ne-eqb _ 0 (c .before .before .before .before .before .before .pre .0)))
 
 pub write-refusal-spec : {M : Type 1} → statement M
 write-refusal-spec =
@@ -30,7 +33,6 @@ write-refusal-spec =
     (tie.spec
     slice-aggregate-put-refusal
     put-refusal-requires
-    array-share-prefix-out
-    slice-aggregate-write-all
-    write-all-requires
+    slice-aggregate-write-part
+    write-part-requires
     returns)

@@ -1,69 +1,94 @@
--- The filled part stays within the buffer, and the states stay within the limits.
-use Prim.Native.Nat.{_-_, _≤_}
-use mathlib.Core.Path.{_≡_, refl, sym, _∙_, subst}
+-- After k turns k parts are written, and the run has come to the rounds of part k.
+use Prim.{tt}
+use Prim.Native.Nat.{ℕ, _+_, _-_, _*_, _≤_, _<_}
+use mathlib.Core.Path.{_≡_, refl, sym, ap, _∙_, subst}
+use mathlib.Core.Bool.{Bool, true, false, not}
+use mathlib.Core.List.{List}
 use native.Mathlib.Omega.{arith}
+use lib.Dec.{ltb}
 use lib.ListN.{length}
-use lib.Seq.{length-take-le}
-use borrow.Author.Needs.{needs}
-use Rattle.backplane.specs.declared.Run.{Run}
+use borrow.Author.Tests.{ltb-true, ltb-false, le-ltb}
+use Rattle.words.proofs.Truth.{not-both, not-neither}
+use Rattle.script.specs.Check.{checkScript}
+use Rattle.script.specs.Rounds.{roundsOf}
 use Rattle.backplane.specs.Play.{Sound}
-use Rattle.backplane.proofs.SoundLaws.{next-sound}
+use Rattle.backplane.specs.Run.{later, runAt}
+use Rattle.backplane.specs.declared.Run.{Run}
+use Rattle.backplane.proofs.OutputLaws.{over-is, part-wrote, part-next, parts-end, run-sound, rounds-most}
+use Rattle.text.proofs.WroteLaws.{wrote-length}
 use Rattle.bench.proofs.write_rounds.Statement.{statement}
 use Rattle.bench.proofs.write_rounds.Tie as tie
 
+sound-at : (s : List ℕ) (e : checkScript s .number ≡ 0) (k : ℕ) {r : Run} → r ≡ runAt s k → Sound (r .backplane)
+sound-at s e k f = subst (λ (x : Run). Sound (x .backplane)) (sym f) (run-sound s e k)
+
+-- a turn is made while the script has rounds for it, and none after that
+playing : (r k : ℕ) {b : Bool} → b ≡ ltb r k → not b ≡ true → k ≤ r
+playing r k {b} e t = ltb-false r k (sym e ∙ not-both b t)
+
+ended : (r k : ℕ) {b : Bool} → b ≡ ltb r k → not b ≡ false → r < k
+ended r k {b} e t = ltb-true r k (sym e ∙ not-neither b t)
+
 abbrev Inv-loop : tie.InvT-loop
-Inv-loop script out₀ at₀ now₀ k₀ out at now k = (at ≤ 65536) × (length out ≡ 65536) × Sound (now .backplane)
+Inv-loop script out₀ now₀ k₀ over₀ out now k over =
+    (length out ≡ 53248) × (now ≡ runAt script (k * 64)) × (k * 64 ≤ roundsOf script + 64) × (over ≡ ltb (roundsOf script) (k * 64))
 
 abbrev μ-loop : tie.MeasureT-loop
-μ-loop script out₀ at₀ now₀ k₀ out at now k = 100000 - k
+μ-loop script out₀ now₀ k₀ over₀ out now k over = roundsOf script + 64 - k * 64
 
 loop-holds : tie.Need-loop-holds Inv-loop μ-loop
-loop-holds c = (omega arith, refl, c .before .pre)
+unfolding later
+loop-holds c = (refl, c .before .pre .1, omega arith, sym (le-ltb (roundsOf (c .before .args .script .now)) 0 (omega arith)))
 
-next-requires : tie.Need-next-requires Inv-loop μ-loop
-next-requires c κs = c .before .loop .inv .2
+slice-aggregate-fill : tie.Need-slice-aggregate-fill Inv-loop μ-loop
+slice-aggregate-fill c = sym (c .before .before .loop .inv .0)
+
+fill-requires : tie.Need-fill-requires Inv-loop μ-loop
+fill-requires c κs =
+    let l = c .before .before .loop in
+    (sound-at _ (c .before .before .before .before .pre .0) _ (l .inv .1), omega (arith, l .inv .0))
+
+slice-aggregate-write-part : tie.Need-slice-aggregate-write-part Inv-loop μ-loop
+slice-aggregate-write-part c = sym (wrote-length (c .before .before .fill .ensures .1) ∙ c .before .before .before .before .before .loop .inv .0)
+
+write-part-requires : tie.Need-write-part-requires Inv-loop μ-loop
+write-part-requires c κs =
+    let l = c .before .before .before .before .before .loop in
+    let s = c .before .before .before .before .before .before .before .args .script .now in
+    let e = c .before .before .before .before .before .before .before .pre .0 in
+    let w = c .before .before .fill .ensures .1 in
+    let h = playing (roundsOf s) (l .k * 64) (l .inv .3) (c .before .before .before .before .loop-test .taken) in
+    (omega (arith, h, rounds-most s e), omega (arith, w .room, wrote-length w), part-wrote _ e (l .k) (l .inv .1) w)
 
 over-requires : tie.Need-over-requires Inv-loop μ-loop
-over-requires c κs = search needs
+over-requires c κs = tt
 
 loop-less : tie.Need-loop-less Inv-loop μ-loop
-loop-less c = omega arith
+loop-less c =
+    let l = c .before .before .before .before .before .before .before .before .loop in
+    let s = c .before .before .before .before .before .before .before .before .before .before .args .script .now in
+    let h = playing (roundsOf s) (l .k * 64) (l .inv .3) (c .before .before .before .before .before .before .before .loop-test .taken) in
+    omega (arith, h, c .before .before .write-part .ensures)
 
 loop-again : tie.Need-loop-again Inv-loop μ-loop
 loop-again c =
-    let l = c .before .before .before .before .loop in
-    (l .inv .0, l .inv .1, subst (λ (r : Run). Sound (r .backplane)) (sym (c .before .before .next .ensures)) (next-sound _ _ (c .before .before .before .before .loop .inv .2)))
-
-slice-aggregate-put-round : tie.Need-slice-aggregate-put-round Inv-loop μ-loop
-slice-aggregate-put-round c = sym (c .before .before .before .before .before .loop .inv .1)
-
-put-round-requires : tie.Need-put-round-requires Inv-loop μ-loop
-put-round-requires c κs =
-    let l = c .before .before .before .before .before .loop in
-    ((subst (λ (r : Run). Sound (r .backplane)) (sym (c .before .before .before .next .ensures)) (next-sound _ _ (c .before .before .before .before .before .loop .inv .2))) .few, l .inv .1, l .inv .0)
-
-add-k : tie.Need-add-k Inv-loop μ-loop
-add-k c = omega arith
-
-loop-less-2 : tie.Need-loop-less-2 Inv-loop μ-loop
-loop-less-2 c = omega arith
-
-loop-again-2 : tie.Need-loop-again-2 Inv-loop μ-loop
-loop-again-2 c =
-    let l = c .before .before .before .before .before .before .before .loop in
-    (c .before .put-round .ensures .1, c .before .put-round .kept .1 .0 ∙ l .inv .1, subst (λ (r : Run). Sound (r .backplane)) (sym (c .before .before .before .before .before .next .ensures)) (next-sound _ _ (c .before .before .before .before .before .before .before .loop .inv .2)))
-
-array-share-prefix-out : tie.Need-array-share-prefix-out Inv-loop μ-loop
-array-share-prefix-out c = rw (c .before .loop .inv .1) (c .before .loop .inv .0)
-
-slice-aggregate-write-all : tie.Need-slice-aggregate-write-all Inv-loop μ-loop
-slice-aggregate-write-all c = sym (length-take-le _ _ (rw (c .before .before .loop .inv .1) (c .before .before .loop .inv .0)))
-
-write-all-requires : tie.Need-write-all-requires Inv-loop μ-loop
-write-all-requires c κs = search needs
+    let l = c .before .before .before .before .before .before .before .before .loop in
+    let s = c .before .before .before .before .before .before .before .before .before .before .args .script .now in
+    let e = c .before .before .before .before .before .before .before .before .before .before .pre .0 in
+    let f = c .before .before .before .before .before .fill .ensures in
+    let k = c .before .before .write-part .ensures in
+    let h = playing (roundsOf s) (l .k * 64) (l .inv .3) (c .before .before .before .before .before .before .before .loop-test .taken) in
+    let r = part-next _ e (l .k) (l .inv .1) (f .0) ∙ ap (λ (x : ℕ). runAt s (x * 64)) (sym k) in (
+      wrote-length (f .1) ∙ l .inv .0,
+      r,
+      omega (arith, h, k),
+      c .over .ensures ∙ ap (λ (x : Run). x .cursor .over) r ∙ over-is _ e _,
+    )
 
 returns : tie.Need-returns Inv-loop μ-loop
-returns c = search needs
+returns c =
+    let l = c .before .loop in
+    parts-end _ (c .before .before .before .pre .0) (l .k) (ended _ _ (l .inv .3) (c .loop-test .left)) (l .inv .2)
 
 pub write-rounds-spec : {M : Type 1} → statement M
 write-rounds-spec =
@@ -72,16 +97,11 @@ write-rounds-spec =
     Inv-loop
     μ-loop
     loop-holds
-    next-requires
+    slice-aggregate-fill
+    fill-requires
+    slice-aggregate-write-part
+    write-part-requires
     over-requires
     loop-less
     loop-again
-    slice-aggregate-put-round
-    put-round-requires
-    add-k
-    loop-less-2
-    loop-again-2
-    array-share-prefix-out
-    slice-aggregate-write-all
-    write-all-requires
     returns)
