@@ -11,6 +11,7 @@ use lib.Pow.{pow-mono}
 use borrow.Author.Tests.{eqb-true, ltb-true, eq-eqb, lt-ltb}
 use Rattle.words.specs.Word.{wordAt}
 use Rattle.words.specs.Bits.{bit, pack}
+use Rattle.words.specs.Array.{array}
 use Rattle.words.proofs.Truth.{and-l, and-r, and-true, which}
 use Rattle.words.proofs.BitLaws.{bit-pack, bit-mod, pack-lt}
 use Rattle.words.proofs.ArrayLaws.{array-at, array-clear}
@@ -57,6 +58,14 @@ pub entry-bit : (n : ℕ) (on : Bool) (w j : ℕ) → j < 28 → entryOf n on w 
 entry-bit n on w j h e = ap (λ (v : ℕ). bit v j) (entry-row n on w e) ∙ bit-mod 28 w j h
 
 -- ---- a read
+
+-- a read whose entries are all taken
+pub reading-by : {heard : ℕ} {rows : List ℕ} (j n : ℕ) (read : List ℕ) (controller : ℕ) → j ≡ n
+    → heard ≡ pack j (λ k. entryOf n (bit controller k) (wordAt read k) .heard)
+    → rows ≡ array j (λ k. entryOf n (bit controller k) (wordAt read k) .row)
+    → record { heard = heard; rows = rows } ≡ readingOf n read controller
+unfolding readingOf
+reading-by j n read controller e h r = rw (h, r, e)
 
 module _ (n : ℕ) (read : List ℕ) (controller j : ℕ) (h : j < n) where
   pub reading-heard : bit (readingOf n read controller .heard) j ≡ entryOf n (bit controller j) (wordAt read j) .heard

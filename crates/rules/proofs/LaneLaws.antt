@@ -58,6 +58,14 @@ lane-step {acc} {row} {v} k l voters rows h e b q =
         ∙ ap (λ (x : Bool). count l (λ i. (not (eqb i j) && bit voters i) && bit (getD rows i 0) j) + b2n x)
         (sym (ap (λ (x : ℕ). bit x j) b ∙ ballot-bit voters (getD rows l 0) l j (omega arith)))
 
+-- what the loop has counted at its end
+pub tally-by : {a b c d present : ℕ} (l n voters : ℕ) (rows : List ℕ) → l ≡ n
+    → a ≡ laneOf 0 (onesOn l voters rows) → b ≡ laneOf 1 (onesOn l voters rows) → c ≡ laneOf 2 (onesOn l voters rows)
+    → d ≡ laneOf 3 (onesOn l voters rows) → present ≡ count l (bit voters)
+    → record { present = present; ones = a ∷ b ∷ c ∷ d ∷ [] } ≡ tallyOf n voters rows
+unfolding tallyOf
+tally-by l n voters rows e ha hb hc hd hp = rw (ha, hb, hc, hd, hp, e)
+
 -- ---- a count read back
 
 -- four numbers of four bits

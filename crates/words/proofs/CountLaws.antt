@@ -22,6 +22,10 @@ pub any-more : (n : ℕ) (p : ℕ → Bool) → any (n + 1) p ≡ any n p || p n
 unfolding any
 any-more n p = rw add-one
 
+-- a turn of a loop that asks whether any passes
+pub any-step : {some b : Bool} (n : ℕ) (p : ℕ → Bool) → some ≡ any n p → b ≡ p n → some || b ≡ any (n + 1) p
+any-step n p e h = rw (any-more, e, h)
+
 pub any-intro : (n : ℕ) (p : ℕ → Bool) (l : ℕ) → l < n → p l ≡ true → any n p ≡ true
 unfolding any
 any-intro zero p l h e = absurd (not-suc-le-zero h)
@@ -87,6 +91,10 @@ all-both n p q =
 pub count-more : (n : ℕ) (p : ℕ → Bool) → count (n + 1) p ≡ count n p + b2n (p n)
 unfolding count
 count-more n p = rw add-one
+
+-- a turn of a loop that counts
+pub count-step : {c r : ℕ} {b : Bool} (n : ℕ) (p : ℕ → Bool) → c ≡ count n p → b ≡ p n → r ≡ b2n b → c + r ≡ count (n + 1) p
+count-step n p e h k = rw (count-more, e, k, h)
 
 b2n-mono : (a b : Bool) → (a ≡ true → b ≡ true) → b2n a ≤ b2n b
 b2n-mono true b h = rw (h refl) (le-refl 1)

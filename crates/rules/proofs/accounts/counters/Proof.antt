@@ -7,8 +7,8 @@ use Rattle.words.specs.Array.{array}
 use Rattle.words.proofs.BitLaws.{pack-step, pack-lt}
 use Rattle.words.proofs.ArrayLaws.{array-step}
 use Rattle.rules.specs.declared.Account.{Account}
-use Rattle.rules.specs.Account.{accountedAt, countersOf}
-use Rattle.rules.proofs.RangeLaws.{range-by, accounted-by}
+use Rattle.rules.specs.Account.{accountedAt}
+use Rattle.rules.proofs.RangeLaws.{range-by, accounted-by, counters-by}
 use Rattle.rules.proofs.accounts.counters.Statement.{statement}
 use Rattle.rules.proofs.accounts.counters.Tie as tie
 
@@ -94,10 +94,9 @@ loop-again c =
     )
 
 returns : tie.Need-returns Inv-loop μ-loop
-unfolding countersOf
 returns c =
-    let e : c .before .loop .j ≡ c .before .before .args .t1 .n = omega arith in
-    cc
+    let i = c .before .loop .inv in
+    counters-by _ _ _ _ (omega arith) (i .2) (i .3) (i .4)
 
 pub counters-spec : {M : Type 1} → statement M
 counters-spec =

@@ -5,7 +5,7 @@ use native.Mathlib.Omega.{arith}
 use borrow.Author.Needs.{needs}
 use Rattle.words.specs.Bits.{bit}
 use Rattle.words.specs.Count.{count}
-use Rattle.words.proofs.CountLaws.{count-more}
+use Rattle.words.proofs.CountLaws.{count-step}
 use Rattle.words.proofs.count.count_set.Statement.{statement}
 use Rattle.words.proofs.count.count_set.Tie as tie
 
@@ -35,7 +35,7 @@ loop-less : tie.Need-loop-less Inv-loop μ-loop
 loop-less c = omega arith
 
 loop-again : tie.Need-loop-again Inv-loop μ-loop
-loop-again c = (omega arith, omega arith, rw count-more (cc))
+loop-again c = (omega arith, omega arith, count-step _ _ (c .before .before .before .loop .inv .2) (c .before .bit-at .ensures) (c .flag .ensures .0))
 
 returns : tie.Need-returns Inv-loop μ-loop
 returns c =
