@@ -45,6 +45,11 @@ bus-heard n v h l =
 
 -- ---- one entry
 
+pub entry-by : {heard : Bool} {row : ℕ} (n : ℕ) (on : Bool) (w : ℕ) → heard ≡ wordHeard n w → row ≡ cond (on && heard) (w % 2 ^ 28) 0
+    → record { heard = on && heard; row = row } ≡ entryOf n on w
+unfolding entryOf
+entry-by n on w e r = rw (r, e)
+
 pub entry-heard : (n : ℕ) (on : Bool) (w : ℕ) → entryOf n on w .heard ≡ on && wordHeard n w
 unfolding entryOf
 entry-heard n on w = refl

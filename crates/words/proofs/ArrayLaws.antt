@@ -25,6 +25,10 @@ array-more n f = rw add-one
 pub array-step : {l : List ℕ} {v : ℕ} (n : ℕ) (f : ℕ → ℕ) → l ≡ array n f → v ≡ f n → set l n v ≡ array (n + 1) f
 array-step n f e h = rw (array-more, e, h)
 
+-- and its end
+pub array-end : {l : List ℕ} {j n : ℕ} (f : ℕ → ℕ) → j ≡ n → l ≡ array j f → l ≡ array n f
+array-end f e h = rw e at h
+
 pub array-length : (n : ℕ) (f : ℕ → ℕ) → length (array n f) ≡ 16
 unfolding array
 array-length zero f = refl

@@ -41,6 +41,14 @@ unfolding pack
 pack-lt zero f = lit< tt
 pack-lt (suc n) f = add-lt (f n) (pack n f) n (pack-lt n f)
 
+-- what a loop has packed is small
+pub packed-lt : {v : ℕ} (n : ℕ) (f : ℕ → Bool) → v ≡ pack n f → v < 2 ^ n
+packed-lt n f e = rw e (pack-lt n f)
+
+-- the end of a loop that packs bits
+pub pack-end : {v j n : ℕ} (f : ℕ → Bool) → j ≡ n → v ≡ pack j f → v ≡ pack n f
+pack-end f e h = rw e at h
+
 bit-top : (b : Bool) (v n : ℕ) → v < 2 ^ n → bit (v + b2n b * 2 ^ n) n ≡ b
 unfolding bit
 bit-top true v n h = simp (add-mul-div-right v 1 (pow-pos n), div-eq-of-lt h)

@@ -41,6 +41,15 @@ bytes-step o i w f h e =
 pub bytes-all : (o : List ℕ) (n : ℕ) (f : ℕ → ℕ) → length o ≡ n * 4 → bytesOf n f ++ drop (n * 4) o ≡ bytesOf n f
 bytes-all o n f h = rw (← h, drop-length, append-nil)
 
+-- a turn of a loop that writes a word for each number, and the loop's end
+pub run-step : {before after : List ℕ} {w : ℕ} (o : List ℕ) (j : ℕ) (f : ℕ → ℕ) → j * 4 + 4 ≤ length o
+    → before ≡ bytesOf j f ++ drop (j * 4) o → after ≡ putWord before j w → w ≡ f j → after ≡ bytesOf (j + 1) f ++ drop ((j + 1) * 4) o
+run-step {w = w} o j f h b a e = a ∙ ap (λ (x : List ℕ). putWord x j w) b ∙ bytes-step o j w f h e
+
+pub run-end : {after : List ℕ} (o : List ℕ) (j n : ℕ) (f : ℕ → ℕ) → j ≡ n → after ≡ bytesOf j f ++ drop (j * 4) o → length o ≡ n * 4
+    → after ≡ bytesOf n f
+run-end o j n f e h l = (rw e at h) ∙ bytes-all o n f l
+
 -- a word that lies whole in the first of two lists
 pub word-front : (p q : List ℕ) (i : ℕ) → i * 4 + 4 ≤ length p → wordAt (p ++ q) i ≡ wordAt p i
 unfolding wordAt

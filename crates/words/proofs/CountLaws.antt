@@ -62,6 +62,10 @@ all-more n p = rw add-one
 pub all-step : {good b : Bool} (n : ℕ) (p : ℕ → Bool) → good ≡ all n p → b ≡ p n → good && b ≡ all (n + 1) p
 all-step n p e h = rw (all-more, e, h)
 
+-- and its end
+pub all-end : {good : Bool} {j n : ℕ} (p : ℕ → Bool) → j ≡ n → good ≡ all j p → good ≡ all n p
+all-end p e h = rw e at h
+
 pub all-at : (n : ℕ) (p : ℕ → Bool) → all n p ≡ true → (l : ℕ) → l < n → p l ≡ true
 unfolding all
 all-at zero p e l h = absurd (not-suc-le-zero h)

@@ -5,7 +5,7 @@ use native.Mathlib.Omega.{arith}
 use Rattle.words.specs.Bits.{bit, pack}
 use Rattle.words.specs.Word.{wordAt}
 use Rattle.words.specs.Array.{array}
-use Rattle.words.proofs.BitLaws.{pack-step, pack-lt}
+use Rattle.words.proofs.BitLaws.{pack-step, packed-lt}
 use Rattle.words.proofs.ArrayLaws.{array-step}
 use Rattle.rules.specs.declared.Entry.{Entry}
 use Rattle.rules.specs.Hearing.{entryOf}
@@ -35,7 +35,7 @@ entry-requires : tie.Need-entry-requires Inv-loop μ-loop
 entry-requires c κs = omega arith
 
 with-bit-requires : tie.Need-with-bit-requires Inv-loop μ-loop
-with-bit-requires c κs = (rw (c .before .before .before .before .loop .inv .1) (pack-lt _ _), omega arith)
+with-bit-requires c κs = (packed-lt _ _ (c .before .before .before .before .loop .inv .1), omega arith)
 
 mul-rows : tie.Need-mul-rows Inv-loop μ-loop
 mul-rows c = omega arith
