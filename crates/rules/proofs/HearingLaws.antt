@@ -1,20 +1,19 @@
 -- Rule 2: what a heard word is, and what a read holds for each module.
-use mathlib.Core.Path.{_≡_, refl, sym, ap, _∙_}
-use mathlib.Core.Bool.{Bool, true, false, cond, _&&_}
+use mathlib.Core.Path.{_≡_, refl, ap, _∙_}
+use mathlib.Core.Bool.{Bool, true, cond, _&&_}
 use mathlib.Core.List.{List}
 use Prim.Native.Nat.{ℕ, _+_, _*_, _/_, _%_, _^_, _≤_, _<_}
 use native.Mathlib.Omega.{arith}
-use native.Mathlib.Nat.{div-add-mod', mod-eq-of-lt, lt-of-lt-of-le}
 use lib.ListN.{getD}
-use lib.Dec.{eqb, ltb}
+use lib.Dec.{eqb}
 use lib.Pow.{pow-mono}
 use borrow.Author.Tests.{eqb-true, ltb-true, eq-eqb, lt-ltb}
 use Rattle.words.specs.Word.{wordAt}
 use Rattle.words.specs.Bits.{bit, pack}
 use Rattle.words.specs.Array.{array}
-use Rattle.words.proofs.Truth.{and-l, and-r, and-true, which}
-use Rattle.words.proofs.BitLaws.{bit-pack, bit-mod, pack-lt}
-use Rattle.words.proofs.ArrayLaws.{array-at, array-clear}
+use Rattle.words.proofs.Truth.{and-l, and-r, and-true}
+use Rattle.words.proofs.BitLaws.{bit-pack, bit-mod}
+use Rattle.words.proofs.ArrayLaws.{array-at}
 use Rattle.rules.specs.Hearing.{busWord, wordHeard, entryOf, readingOf}
 
 -- a vector of n ≤ 16 modules fits below the kind

@@ -1,5 +1,5 @@
 -- Tests that came out true or false, read as facts; a case of `cond`, picked by what its test is.
-use mathlib.Core.Path.{_≡_, refl, sym, ap, _∙_}
+use mathlib.Core.Path.{_≡_, refl, sym, _∙_}
 use mathlib.Core.Bool.{Bool, true, false, cond, not, _&&_, _||_, Bool·beq, true≢false, false≢true}
 use mathlib.Core.Logic.{_⊎_, inl, inr}
 
