@@ -1,4 +1,5 @@
-"""docs/WRONG-PROGRAMS.md beside the sources: every function that another crate or C calls has two edits there, and the edits exist."""
+"""docs/WRONG-PROGRAMS.md beside the sources and what the gate found: every function that another crate or C calls has two edits, and with each of
+them the prover does not prove that function."""
 
 import os
 import re
@@ -58,6 +59,15 @@ class WrongPrograms(unittest.TestCase):
                 self.assertEqual(len(edits), 2)
                 for edit in edits:
                     self.assertTrue(os.path.exists(os.path.join(CRATES, crate, "must-fail", edit + ".edit")), edit)
+
+    def test_with_each_edit_its_function_is_not_proved(self):
+        """What `rt ci` or `rt must-fail` said of each edit, where it has tried them."""
+        for (crate, name), edits in self.table.items():
+            for edit in edits:
+                log = os.path.join(ROOT, "target", "must-fail", crate, edit, ".log")
+                if os.path.exists(log):
+                    with self.subTest(f"{crate} {name} {edit}"):
+                        self.assertRegex(text(log), rf"(?m)^fn {crate}::{name}: (?!proved)")
 
 
 if __name__ == "__main__":
