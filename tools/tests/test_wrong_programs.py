@@ -1,5 +1,5 @@
-"""docs/WRONG-PROGRAMS.md beside the sources and what the gate found: every function that another crate or C calls has two edits, and with each of
-them the prover does not prove that function."""
+"""docs/WRONG-PROGRAMS.md beside the sources and what the gate found: every function that another crate or C calls has two edits,
+and with each of them the prover does not prove that function."""
 
 import os
 import re

@@ -26,8 +26,8 @@ modules-step s j i e mark m place = (
   array-step j (λ k. criticalityIn (wordAt s (3 + k))) (i .2) (ap criticalityIn e),
 )
 
-pub setup-by : {p r marks j n : ℕ} {places criticality : List ℕ} (s : List ℕ) → j ≡ n → n ≡ sizeIn (wordAt s 0) → p ≡ wordAt s 1 → r ≡ wordAt s 2
-    → ModulesRead s j marks places criticality
+pub setup-by : {p r marks j n : ℕ} {places criticality : List ℕ} (s : List ℕ) → j ≡ n → n ≡ sizeIn (wordAt s 0)
+    → p ≡ wordAt s 1 → r ≡ wordAt s 2 → ModulesRead s j marks places criticality
     → record { n = n; p = limitIn p; r = limitIn r; marks = marks; places = places; criticality = criticality } ≡ setupOf s
 unfolding setupOf
 setup-by s e h p r i = rw (i .0, i .1, i .2, e, h, p, r)

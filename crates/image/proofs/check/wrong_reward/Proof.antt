@@ -60,17 +60,19 @@ loop-less : tie.Need-loop-less Inv-loop μ-loop
 loop-less c = omega arith
 
 loop-again : tie.Need-loop-again Inv-loop μ-loop
-loop-again c = (
-  omega arith,
-  asked-none _ _ (c .before .before .before .before .before .loop .inv .1) (ap not (reward-by _ _ (ap counterIn (c .before .before .before .word-at .ensures)) (c .before .before .word-at2 .ensures) (c .before .reward-ok .ensures))) (c .if2 .left),
-)
+loop-again c =
+    let x = ap counterIn (c .before .before .before .word-at .ensures) in
+    let t = reward-by _ _ x (c .before .before .word-at2 .ensures) (c .before .reward-ok .ensures) in
+    (omega arith, asked-none _ _ (c .before .before .before .before .before .loop .inv .1) (ap not t) (c .if2 .left))
 
 returns : tie.Need-returns Inv-loop μ-loop
 returns c = lowest-ends _ _ _ (c .before .loop .inv .1) (c .before .loop .inv .0) (c .if1 .taken)
 
 returns-2 : tie.Need-returns-2 Inv-loop μ-loop
 returns-2 c =
-    asked-found _ _ _ (c .before .before .before .before .before .loop .inv .1) (ap not (reward-by _ _ (ap counterIn (c .before .before .before .word-at .ensures)) (c .before .before .word-at2 .ensures) (c .before .reward-ok .ensures))) (c .if2 .taken)
+    let x = ap counterIn (c .before .before .before .word-at .ensures) in
+    let t = reward-by _ _ x (c .before .before .word-at2 .ensures) (c .before .reward-ok .ensures) in
+    asked-found _ _ _ (c .before .before .before .before .before .loop .inv .1) (ap not t) (c .if2 .taken)
     (c .before .before .before .before .if1 .left)
 
 pub wrong-reward-spec : {M : Type 1} → statement M

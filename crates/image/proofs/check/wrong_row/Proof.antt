@@ -43,18 +43,17 @@ loop-less : tie.Need-loop-less Inv-loop μ-loop
 loop-less c = omega arith
 
 loop-again : tie.Need-loop-again Inv-loop μ-loop
-loop-again c = (
-  omega arith,
-  asked-none _ _ (c .before .before .before .before .loop .inv .1) (ap not (c .before .row-ok .ensures ∙ ap (rowOk _ _) (c .before .before .word-at .ensures))) (c .if2 .left),
-)
+loop-again c =
+    let t = c .before .row-ok .ensures ∙ ap (rowOk _ _) (c .before .before .word-at .ensures) in
+    (omega arith, asked-none _ _ (c .before .before .before .before .loop .inv .1) (ap not t) (c .if2 .left))
 
 returns : tie.Need-returns Inv-loop μ-loop
 returns c = lowest-ends _ _ _ (c .before .loop .inv .1) (c .before .loop .inv .0) (c .if1 .taken)
 
 returns-2 : tie.Need-returns-2 Inv-loop μ-loop
 returns-2 c =
-    asked-found _ _ _ (c .before .before .before .before .loop .inv .1) (ap not (c .before .row-ok .ensures ∙ ap (rowOk _ _) (c .before .before .word-at .ensures))) (c .if2 .taken)
-    (c .before .before .before .if1 .left)
+    let t = c .before .row-ok .ensures ∙ ap (rowOk _ _) (c .before .before .word-at .ensures) in
+    asked-found _ _ _ (c .before .before .before .before .loop .inv .1) (ap not t) (c .if2 .taken) (c .before .before .before .if1 .left)
 
 pub wrong-row-spec : {M : Type 1} → statement M
 wrong-row-spec =

@@ -104,7 +104,8 @@ loop-again c =
     let f = c .before .before .before .word-at2 .ensures in (
       omega arith,
       all-step _ _ (l .inv .1)
-          (ap₂ _&&_ (penalty-by _ _ k (c .before .before .bit-at .ensures) e (c .before .penalty-ok .ensures)) (reward-by _ _ (ap counterIn e) f (c .reward-ok .ensures))),
+          (ap₂ _&&_ (penalty-by _ _ k (c .before .before .bit-at .ensures) e (c .before .penalty-ok .ensures))
+          (reward-by _ _ (ap counterIn e) f (c .reward-ok .ensures))),
       array-step _ _ (l .inv .2) (ap counterIn e),
       array-step _ _ (l .inv .3) (ap counterIn f),
     )

@@ -97,7 +97,8 @@ returns c =
     let r = b .before .before .word-at2 .ensures in
     let a = b .before .before .before .before .before in
     let e : c .before .loop .j ≡ a .args .n = omega arith in (
-      ap₂ _&&_ (ap₂ _&&_ (b .before .limit-ok .ensures ∙ ap (limitOk _ _) p) (b .limit-ok2 .ensures ∙ ap (limitOk _ _) r)) (all-end _ e (i .1)),
+      ap₂ _&&_ (ap₂ _&&_ (b .before .limit-ok .ensures ∙ ap (limitOk _ _) p) (b .limit-ok2 .ensures ∙ ap (limitOk _ _) r))
+          (all-end _ e (i .1)),
       setup-by _ e (a .pre .2) p r (i .2),
     )
 

@@ -47,13 +47,16 @@ loop-again c =
     let l = c .before .before .before .before .before .before .loop in
     let put = c .before .before .put-word in
     let e = c .before .before .before .before .counter-word .ensures in
-    (omega arith, put .kept .0 ∙ l .inv .1, run-step (c .before .before .before .before .before .before .before .before .args .out .now) (l .j) _ (omega arith) (l .inv .2) (put .ensures) e)
+    let o = c .before .before .before .before .before .before .before .before .args .out .now in
+    (omega arith, put .kept .0 ∙ l .inv .1, run-step o (l .j) _ (omega arith) (l .inv .2) (put .ensures) e)
 
 same-length : tie.Need-same-length Inv-loop μ-loop
 same-length c = search needs
 
 returns : tie.Need-returns Inv-loop μ-loop
-returns c = run-end (c .before .before .before .args .out .now) _ _ _ (omega arith) (c .before .loop .inv .2) (c .before .before .before .pre .3)
+returns c =
+    let a = c .before .before .before in
+    run-end (a .args .out .now) _ _ _ (omega arith) (c .before .loop .inv .2) (a .pre .3)
 
 pub save-counter-spec : {M : Type 1} → statement M
 save-counter-spec =

@@ -53,7 +53,8 @@ loop-again : tie.Need-loop-again Inv-loop μ-loop
 loop-again c =
     let g = c .before .before .before .before .before in
     let a = g .before .before .args in
-    let q = c .before .entry .ensures ∙ ap₂ (λ b w. entryOf (a .n) b w) (c .before .before .before .bit-at .ensures) (c .before .before .word-at .ensures) in (
+    let q = c .before .entry .ensures
+    ∙ ap₂ (λ b w. entryOf (a .n) b w) (c .before .before .before .bit-at .ensures) (c .before .before .word-at .ensures) in (
       omega arith,
       pack-step _ _ (g .loop .inv .1) (ap (λ (x : Entry). x .heard) q) (c .with-bit .ensures),
       array-step _ _ (g .loop .inv .2) (ap (λ (x : Entry). x .row) q),

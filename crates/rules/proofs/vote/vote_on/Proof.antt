@@ -26,9 +26,10 @@ decide-requires c κs = omega (arith, ap b2n (c .before .before .bit-at .ensures
 returns : tie.Need-returns
 returns c =
     let f = c .before .before in
+    let v = f .flag .ensures .0 ∙ ap b2n (f .before .bit-at .ensures) in
     let a = f .before .before .args in
     c .decide .ensures
-    ∙ ap₂ (λ v b. decision (a .present - v) (a .ones) b) (f .flag .ensures .0 ∙ ap b2n (f .before .bit-at .ensures)) (c .before .bit-at2 .ensures)
+    ∙ ap₂ (λ x b. decision (a .present - x) (a .ones) b) v (c .before .bit-at2 .ensures)
 
 pub vote-on-spec : {M : Type 1} → statement M
 vote-on-spec =

@@ -62,12 +62,15 @@ loop-less c = omega arith
 loop-again : tie.Need-loop-again Inv-loop μ-loop
 loop-again c =
     let w = c .before .before .before in
-    (omega arith, modules-step _ _ (w .before .before .loop .inv .1) (w .word-at3 .ensures) (c .before .before .bit-at .ensures) (c .before .with-bit .ensures) (c .field .ensures))
+    let i = w .before .before .loop .inv .1 in
+    let b = c .before .before .bit-at .ensures in
+    (omega arith, modules-step _ _ i (w .word-at3 .ensures) b (c .before .with-bit .ensures) (c .field .ensures))
 
 returns : tie.Need-returns Inv-loop μ-loop
 returns c =
     let b = c .before .before in
-    setup-by _ (omega arith) (b .before .before .before .pre .2) (b .before .word-at .ensures) (b .word-at2 .ensures) (c .before .loop .inv .1)
+    setup-by _ (omega arith) (b .before .before .before .pre .2) (b .before .word-at .ensures) (b .word-at2 .ensures)
+    (c .before .loop .inv .1)
 
 pub setup-in-spec : {M : Type 1} → statement M
 setup-in-spec =
