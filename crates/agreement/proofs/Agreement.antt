@@ -1,5 +1,5 @@
 -- The core of demand 3: while the fault limit is kept, rule-followers agree, see who was unheard, and do not charge one another without cause.
-use Prim.Native.Nat.{ℕ, zero, suc, _+_, _-_, _*_, _≤_, _<_}
+use Prim.Native.Nat.{ℕ, zero, suc, _+_, _-_, _≤_, _<_}
 use mathlib.Core.Path.{_≡_, refl, sym, ap, ap₂, _∙_}
 use mathlib.Core.Bool.{Bool, true, false, not, _&&_, _||_, Bool·beq}
 use mathlib.Core.Logic.{_⊎_, inl, inr, ⊎-elim}
@@ -8,7 +8,7 @@ use native.Mathlib.Nat.{le-refl, le-of-eq, eq-or-lt-of-le}
 use lib.Dec.{eqb}
 use borrow.Author.Tests.{not-true, eqb-false}
 use Rattle.words.specs.Bits.{bit}
-use Rattle.words.specs.Count.{count, any}
+use Rattle.words.specs.Count.{count}
 use Rattle.words.proofs.Truth.{clash, which, and-l, and-r, and-true, or-l, or-r, or-cases, or-false-l, beq-refl}
 use Rattle.words.proofs.CountLaws.{any-ext, any-empty, count-mono, count-or, count-none, count-zero, count-one}
 use Rattle.rules.specs.Vote.{tally}

@@ -1,8 +1,8 @@
 -- What a module's state remembers of a session: after alignment every entry of step k is of round k - u, and a word sent in a round holds the
 -- syndrome of the round before.
-use Prim.Native.Nat.{ℕ, zero, suc, _+_, _-_, _%_, _^_, _≤_, _<_}
-use mathlib.Core.Path.{_≡_, refl, sym, ap, ap₂, _∙_}
-use mathlib.Core.Bool.{Bool, true, false, cond, not, _&&_}
+use Prim.Native.Nat.{ℕ, zero, suc, _+_, _-_, _<_}
+use mathlib.Core.Path.{_≡_, sym, ap, ap₂, _∙_}
+use mathlib.Core.Bool.{true, false, cond, not}
 use mathlib.Core.Logic.{_⊎_, inl, inr, ⊎-elim}
 use mathlib.Core.List.{List}
 use native.Mathlib.Omega.{arith}
@@ -18,19 +18,18 @@ use Rattle.words.proofs.CountLaws.{any-none}
 use Rattle.words.proofs.ArrayLaws.{array-at}
 use Rattle.words.proofs.ByteLaws.{word-of}
 use Rattle.setup.specs.declared.Setup.{Setup}
-use Rattle.rules.specs.Lag.{skewed, lag}
-use Rattle.rules.specs.Hearing.{busWord, wordHeard, entryOf, readingOf}
-use Rattle.rules.specs.Alignment.{fromPrevious, alignedOf}
+use Rattle.rules.specs.Lag.{skewed}
+use Rattle.rules.specs.Hearing.{busWord, entryOf}
+use Rattle.rules.specs.Alignment.{fromPrevious}
 use Rattle.rules.specs.Syndrome.{outgoingOf}
 use Rattle.presence.specs.Opening.{fresh}
 use Rattle.presence.specs.Step.{skewOf, placeOf, markOf, ownSyndrome, alignedFor, judgementFor, outgoingFor, afterRound}
 use Rattle.rules.specs.declared.Entry.{Entry}
-use Rattle.rules.specs.declared.Reading.{Reading}
 use Rattle.presence.specs.declared.State.{State}
 use Rattle.rules.proofs.HearingLaws.{below-kind, row-of-bus, bus-heard, entry-row, reading-heard, reading-row}
 use Rattle.rules.proofs.AlignmentLaws.{aligned-heard, aligned-row}
-use Rattle.agreement.specs.Session.{Session, Accepted, size, u, bitIn, wordIn, round, readRound, readBits, readBytes, state, handed, sent}
-use Rattle.agreement.proofs.Steps.{Held, reading, small, held, state-zero, state-suc, handed-suc}
+use Rattle.agreement.specs.Session.{Session, Accepted, size, u, bitIn, wordIn, readRound, readBits, readBytes, state, handed, sent}
+use Rattle.agreement.proofs.Steps.{reading, small, held, state-zero, state-suc, handed-suc}
 
 -- rule 1, by cases
 lag-cases : (n : ℕ) (places : List ℕ)

@@ -1,8 +1,6 @@
 -- Demand 3, proved.
-use Prim.Native.Nat.{ℕ, zero, suc, _+_, _-_, _*_, _≤_, _<_}
+use Prim.Native.Nat.{ℕ, zero, suc, _-_, _*_, _≤_, _<_}
 use mathlib.Core.Path.{_≡_, sym, ap, _∙_}
-use mathlib.Core.Bool.{true, false}
-use mathlib.Core.Logic.{_≢_}
 use native.Mathlib.Omega.{arith}
 use native.Mathlib.Nat.{le-refl, not-suc-le-zero}
 use borrow.Author.Tests.{eqb-false, not-true}
@@ -10,9 +8,8 @@ use Rattle.words.specs.Bits.{bit}
 use Rattle.presence.specs.declared.Opened.{Opened}
 use Rattle.rules.specs.declared.Counters.{Counters}
 use Rattle.presence.specs.declared.State.{State}
-use Rattle.agreement.specs.Session.{Session, Accepted, size, u, RuleFollower, Bound, state, health}
+use Rattle.agreement.specs.Session.{Session, Accepted, size, u, RuleFollower, Bound, state}
 use Rattle.agreement.specs.Demand.{KeptTo, Served, Agreement, Demand3}
-use Rattle.agreement.proofs.FaultLaws.{Follower}
 use Rattle.agreement.proofs.Agreement.{complete, correct}
 use Rattle.agreement.proofs.Steps.{opened, life, life-accepted}
 use Rattle.agreement.proofs.Meets.{protocol, follower, rule-follower, meets, health-eq}

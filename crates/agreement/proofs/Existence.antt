@@ -1,8 +1,8 @@
 -- For every choice there is a bound session: the one in which everybody sends what it handed out, but where the cast lies.
 -- Its words are found round by round, since what is sent in a round rests on the rounds before it alone.
-use Prim.Native.Nat.{ℕ, zero, suc, _+_, _-_, _≤_, _<_}
+use Prim.Native.Nat.{ℕ, zero, suc, _-_, _≤_, _<_}
 use mathlib.Core.Path.{_≡_, refl, sym, ap, ap₂, _∙_}
-use mathlib.Core.Bool.{Bool, true, false, cond, not}
+use mathlib.Core.Bool.{Bool, true, false, cond}
 use mathlib.Core.Logic.{⊎-elim}
 use mathlib.Core.List.{List}
 use native.Mathlib.Omega.{arith}
@@ -16,7 +16,7 @@ use Rattle.words.proofs.ByteLaws.{bytes-ext}
 use Rattle.rules.specs.Hearing.{busWord}
 use Rattle.presence.specs.Step.{stepOf}
 use Rattle.presence.specs.declared.State.{State}
-use Rattle.agreement.specs.Session.{Session, RuleFollower, bitIn, wordIn, readRound, readBits, readBytes, state, sent, Bound}
+use Rattle.agreement.specs.Session.{Session, RuleFollower, bitIn, wordIn, readRound, readBits, state, sent, Bound}
 use Rattle.agreement.specs.Existence.{Choice, Plays, Existence}
 use Rattle.agreement.proofs.Aligned.{sent-is}
 

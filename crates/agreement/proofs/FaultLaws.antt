@@ -1,14 +1,14 @@
 -- The fault limit, read as facts: who is heard alike, and how many rows a vote can rely on. For every number of modules together.
-use Prim.Native.Nat.{ℕ, suc, _+_, _*_, _≤_, _<_}
-use mathlib.Core.Path.{_≡_, refl, sym, ap, _∙_}
+use Prim.Native.Nat.{ℕ, _+_, _*_, _≤_, _<_}
+use mathlib.Core.Path.{_≡_, refl, sym, _∙_}
 use mathlib.Core.Bool.{Bool, true, false, not, _&&_, _||_, Bool·beq}
 use mathlib.Core.Logic.{_⊎_, inl, inr, ⊎-elim}
 use native.Mathlib.Omega.{arith}
 use lib.Dec.{eqb, leb, ltb}
 use borrow.Author.Tests.{eqb-true, leb-true, ltb-true, not-true, not-false, eq-eqb}
-use Rattle.words.specs.Count.{count, any}
+use Rattle.words.specs.Count.{count}
 use Rattle.words.proofs.Truth.{clash, which, and-l, and-r, and-true, and-false-r, or-l, or-r, or-cases, or-false-l, or-false-r, beq-eq}
-use Rattle.words.proofs.CountLaws.{any-intro, any-witness, any-none, any-empty, count-mono, count-or, count-single, count-zero}
+use Rattle.words.proofs.CountLaws.{any-intro, any-witness, any-empty, count-mono, count-or, count-single}
 use Rattle.agreement.specs.Fault.{Round, differ, half, heard, halfIn, breakerIn, unheardIn, within}
 
 -- a module that follows the rules

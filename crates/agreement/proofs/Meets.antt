@@ -1,10 +1,10 @@
 -- A session's steps follow the rules that Protocol.antt states of rounds.
-use Prim.Native.Nat.{ℕ, zero, suc, _+_, _-_, _%_, _^_, _≤_, _<_}
+use Prim.Native.Nat.{ℕ, zero, suc, _-_, _^_, _≤_, _<_}
 use mathlib.Core.Path.{_≡_, refl, sym, ap, ap₂, _∙_, subst}
 use mathlib.Core.Bool.{Bool, true, false, not, _&&_, Bool·beq}
 use mathlib.Core.Logic.{inr, ⊎-elim}
 use native.Mathlib.Omega.{arith}
-use native.Mathlib.Nat.{zero-lt-suc, le-refl}
+use native.Mathlib.Nat.{zero-lt-suc}
 use lib.Dec.{eqb}
 use lib.ListN.{getD}
 use Rattle.words.specs.Bits.{bit, full}
@@ -15,14 +15,11 @@ use Rattle.words.proofs.CountLaws.{any-ext}
 use Rattle.rules.specs.Hearing.{busWord}
 use Rattle.rules.specs.Vote.{tally, voteOf}
 use Rattle.rules.specs.Accusation.{differsAt}
-use Rattle.rules.specs.Account.{countersOf}
 use Rattle.presence.specs.Opening.{fresh}
 use Rattle.presence.specs.Step.{alignedFor, ownSyndrome, judgementFor, afterRound}
 use Rattle.presence.specs.declared.State.{State}
-use Rattle.rules.specs.declared.Counters.{Counters}
-use Rattle.setup.specs.declared.Setup.{Setup}
 use Rattle.rules.proofs.HearingLaws.{below-kind, row-of-bus, entry-bit, entry-row}
-use Rattle.rules.proofs.SyndromeLaws.{health-lt, health-bit, syndrome-lt, syndrome-bit}
+use Rattle.rules.proofs.SyndromeLaws.{health-lt, health-bit, syndrome-bit}
 use Rattle.rules.proofs.VoteLaws.{tally-ext}
 use Rattle.agreement.specs.Fault.{half}
 use Rattle.agreement.specs.Session.{Session, Accepted, size, u, RuleFollower, follows, bitIn, wordIn, round, state, health, sent, Bound}

@@ -1,6 +1,6 @@
 -- A session seen by its rounds and steps alone: what was heard, and what rules 4 to 7 make of it. No state, no bytes.
 -- Rounds and steps are numbers from 0, and 0 stands for every one before the first: there all is as it was at opening.
-use Prim.Native.Nat.{ℕ, zero, suc, _+_, _-_, _≤_, _<_}
+use Prim.Native.Nat.{ℕ, suc, _-_, _≤_, _<_}
 use mathlib.Core.Path.{_≡_}
 use mathlib.Core.Bool.{Bool, true, false, not, _&&_, Bool·beq}
 use mathlib.Core.Logic.{_⊎_}

@@ -1,10 +1,8 @@
 -- The steps of a session: every one is accepted, and gives what rules 1 to 8 make of its read. A module's life is its steps.
-use Prim.Native.Nat.{ℕ, zero, suc, _+_, _-_, _*_, _^_, _≤_, _<_}
+use Prim.Native.Nat.{ℕ, zero, suc, _+_, _*_, _^_, _≤_, _<_}
 use mathlib.Core.Path.{_≡_, refl, sym, ap, _∙_, subst}
-use mathlib.Core.List.{List}
 use native.Mathlib.Omega.{arith}
 use lib.ListN.{length}
-use Rattle.words.specs.Bits.{full}
 use Rattle.words.proofs.BitLaws.{pack-lt}
 use Rattle.words.proofs.ByteLaws.{bytes-length}
 use Rattle.setup.specs.Verdict.{accepted}
@@ -13,7 +11,7 @@ use Rattle.setup.specs.declared.Setup.{Setup}
 use Rattle.setup.proofs.SetupLaws.{SetupFits, fields-pass}
 use Rattle.rules.specs.Hearing.{readingOf}
 use Rattle.presence.specs.Opening.{fresh, openOf}
-use Rattle.presence.specs.Step.{judgementFor, outgoingFor, afterRound, acceptedStep, stepOf}
+use Rattle.presence.specs.Step.{judgementFor, outgoingFor, afterRound, acceptedStep}
 use Rattle.rules.specs.declared.Reading.{Reading}
 use Rattle.presence.specs.declared.State.{State}
 use Rattle.presence.specs.declared.Opened.{Opened}

@@ -1,6 +1,6 @@
 -- Agreement does not depend on what rule 8 does: any account that is kept of the health vectors alone, the same at all rule-followers, stays the same.
 -- Proved in proofs/Ledger.antt.
-use Prim.Native.Nat.{ℕ, zero, suc, _≤_, _<_}
+use Prim.Native.Nat.{ℕ, zero, suc, _≤_}
 use mathlib.Core.Path.{_≡_}
 use Rattle.agreement.specs.Session.{Session, Accepted, RuleFollower, health, Bound}
 use Rattle.agreement.specs.Demand.{KeptTo}

@@ -1,6 +1,5 @@
 -- A module's life in a session: its opening, one step a round, and refused calls anywhere between. (document 01, "A session")
 use Prim.Native.Nat.{ℕ, suc, _+_}
-use mathlib.Core.Path.{_≡_}
 use mathlib.Core.Logic.{_≢_}
 use mathlib.Core.List.{List}
 use Rattle.words.specs.Bits.{full}

@@ -1,6 +1,6 @@
 -- The starred cases of document 01 ("Bench sheet"), and two that no star sees: one table of what the definitions give and what document 01 says.
 -- The checker computes it whole, in proofs/Stars.antt.
-use Prim.Native.Nat.{ℕ, zero, suc, _+_, _*_, _-_, _^_}
+use Prim.Native.Nat.{ℕ, zero, suc, _+_, _*_}
 use mathlib.Core.Bool.{Bool, true, false, cond, not, _&&_, _||_}
 use mathlib.Core.List.{List, [], _∷_, _++_}
 use lib.Dec.{eqb, leb}

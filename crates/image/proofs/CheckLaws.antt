@@ -31,6 +31,13 @@ module _ (s : List ℕ) (n : ℕ) where
   abbrev pub rewardTest : ℕ → Bool
   rewardTest j = rewardOk (limitIn (wordAt s 2)) (counterIn (wordAt s (2 * n + 6 + j))) j (wordAt s (3 * n + 6 + j))
 
+-- the same tests of words that are already read
+pub penalty-by : {b v v′ : Bool} {k k′ w w′ : ℕ} (p j : ℕ) → k ≡ k′ → v ≡ v′ → w ≡ w′ → b ≡ penaltyOk p k v j w → b ≡ penaltyOk p k′ v′ j w′
+penalty-by p j e f g h = rw (e, f, g) at h
+
+pub reward-by : {b : Bool} {x x′ w w′ : ℕ} (limit j : ℕ) → x ≡ x′ → w ≡ w′ → b ≡ rewardOk limit x j w → b ≡ rewardOk limit x′ j w′
+reward-by limit j e f h = rw (e, f) at h
+
 pub record TailFits (s : List ℕ) (n : ℕ) : Type 0 where
   pub number : ownNumberOk n (wordAt s (n + 3)) ≡ true
   pub own : ownOk n (wordAt s (n + 3)) ≡ true

@@ -1,19 +1,19 @@
 -- Rule 2: what a heard word is, and what a read holds for each module.
-use mathlib.Core.Path.{_≡_, refl, sym, ap, _∙_}
-use mathlib.Core.Bool.{Bool, true, false, cond, _&&_}
+use mathlib.Core.Path.{_≡_, refl, ap, _∙_}
+use mathlib.Core.Bool.{Bool, true, cond, _&&_}
 use mathlib.Core.List.{List}
 use Prim.Native.Nat.{ℕ, _+_, _*_, _/_, _%_, _^_, _≤_, _<_}
 use native.Mathlib.Omega.{arith}
-use native.Mathlib.Nat.{div-add-mod', mod-eq-of-lt, lt-of-lt-of-le}
 use lib.ListN.{getD}
-use lib.Dec.{eqb, ltb}
+use lib.Dec.{eqb}
 use lib.Pow.{pow-mono}
 use borrow.Author.Tests.{eqb-true, ltb-true, eq-eqb, lt-ltb}
 use Rattle.words.specs.Word.{wordAt}
 use Rattle.words.specs.Bits.{bit, pack}
-use Rattle.words.proofs.Truth.{and-l, and-r, and-true, which}
-use Rattle.words.proofs.BitLaws.{bit-pack, bit-mod, pack-lt}
-use Rattle.words.proofs.ArrayLaws.{array-at, array-clear}
+use Rattle.words.specs.Array.{array}
+use Rattle.words.proofs.Truth.{and-l, and-r, and-true}
+use Rattle.words.proofs.BitLaws.{bit-pack, bit-mod}
+use Rattle.words.proofs.ArrayLaws.{array-at}
 use Rattle.rules.specs.Hearing.{busWord, wordHeard, entryOf, readingOf}
 
 -- a vector of n ≤ 16 modules fits below the kind
@@ -44,6 +44,11 @@ bus-heard n v h l =
 
 -- ---- one entry
 
+pub entry-by : {heard : Bool} {row : ℕ} (n : ℕ) (on : Bool) (w : ℕ) → heard ≡ wordHeard n w → row ≡ cond (on && heard) (w % 2 ^ 28) 0
+    → record { heard = on && heard; row = row } ≡ entryOf n on w
+unfolding entryOf
+entry-by n on w e r = rw (r, e)
+
 pub entry-heard : (n : ℕ) (on : Bool) (w : ℕ) → entryOf n on w .heard ≡ on && wordHeard n w
 unfolding entryOf
 entry-heard n on w = refl
@@ -57,6 +62,14 @@ pub entry-bit : (n : ℕ) (on : Bool) (w j : ℕ) → j < 28 → entryOf n on w 
 entry-bit n on w j h e = ap (λ (v : ℕ). bit v j) (entry-row n on w e) ∙ bit-mod 28 w j h
 
 -- ---- a read
+
+-- a read whose entries are all taken
+pub reading-by : {heard : ℕ} {rows : List ℕ} (j n : ℕ) (read : List ℕ) (controller : ℕ) → j ≡ n
+    → heard ≡ pack j (λ k. entryOf n (bit controller k) (wordAt read k) .heard)
+    → rows ≡ array j (λ k. entryOf n (bit controller k) (wordAt read k) .row)
+    → record { heard = heard; rows = rows } ≡ readingOf n read controller
+unfolding readingOf
+reading-by j n read controller e h r = rw (h, r, e)
 
 module _ (n : ℕ) (read : List ℕ) (controller j : ℕ) (h : j < n) where
   pub reading-heard : bit (readingOf n read controller .heard) j ≡ entryOf n (bit controller j) (wordAt read j) .heard

@@ -3,7 +3,7 @@ use mathlib.Core.Path.{_≡_, refl, ap, _∙_, sym}
 use mathlib.Core.Logic.{⊎-elim}
 use mathlib.Core.Bool.{Bool, true, false, cond, not, _&&_, and-comm}
 use mathlib.Core.List.{List, [], _∷_}
-use Prim.Native.Nat.{ℕ, zero, suc, _+_, _-_, _*_, _/_, _%_, _^_, _<_, _≤_}
+use Prim.Native.Nat.{ℕ, zero, suc, _+_, _*_, _/_, _%_, _^_, _<_, _≤_}
 use native.Mathlib.Omega.{arith}
 use native.Mathlib.Nat.{eq-or-lt-of-le, le-of-suc-le-suc}
 use native.Mathlib.Decide.{decLt}
@@ -57,6 +57,14 @@ lane-step {acc} {row} {v} k l voters rows h e b q =
     more j m = count-more l (λ i. (not (eqb i j) && bit voters i) && bit (getD rows i 0) j)
         ∙ ap (λ (x : Bool). count l (λ i. (not (eqb i j) && bit voters i) && bit (getD rows i 0) j) + b2n x)
         (sym (ap (λ (x : ℕ). bit x j) b ∙ ballot-bit voters (getD rows l 0) l j (omega arith)))
+
+-- what the loop has counted at its end
+pub tally-by : {a b c d present : ℕ} (l n voters : ℕ) (rows : List ℕ) → l ≡ n
+    → a ≡ laneOf 0 (onesOn l voters rows) → b ≡ laneOf 1 (onesOn l voters rows) → c ≡ laneOf 2 (onesOn l voters rows)
+    → d ≡ laneOf 3 (onesOn l voters rows) → present ≡ count l (bit voters)
+    → record { present = present; ones = a ∷ b ∷ c ∷ d ∷ [] } ≡ tallyOf n voters rows
+unfolding tallyOf
+tally-by l n voters rows e ha hb hc hd hp = rw (ha, hb, hc, hd, hp, e)
 
 -- ---- a count read back
 

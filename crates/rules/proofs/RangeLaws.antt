@@ -1,14 +1,16 @@
 -- The accounts of one module: read field by field they are in range, and rule 8 gives the account of the definition.
 use mathlib.Core.Path.{_≡_}
 use mathlib.Core.Bool.{Bool}
+use mathlib.Core.List.{List}
 use Prim.Native.Nat.{ℕ, _≤_}
 use native.Mathlib.Omega.{arith}
 use lib.ListN.{getD}
-use Rattle.words.specs.Bits.{bit}
+use Rattle.words.specs.Bits.{bit, pack}
+use Rattle.words.specs.Array.{array}
 use Rattle.setup.specs.declared.Setup.{Setup}
 use Rattle.rules.specs.declared.Account.{Account}
 use Rattle.rules.specs.declared.Counters.{Counters}
-use Rattle.rules.specs.Account.{accounted, accountAt, accountedAt}
+use Rattle.rules.specs.Account.{accounted, accountAt, accountedAt, countersOf}
 use Rattle.rules.specs.Range.{InRange}
 use Rattle.rules.proofs.AccountLaws.{AccountFits}
 
@@ -30,3 +32,11 @@ module _ (c : Counters) (j : ℕ) (b : Bool) where
       → x ≡ accounted (s .p) (s .r) (getD (s .criticality) j 0) h readAt → x ≡ accountedAt s health c j
   unfolding accountedAt accountAt
   accounted-by s health e q r = rw (e, q) at r
+
+-- the counters whose accounts are all taken
+pub counters-by : {view : ℕ} {penalty reward : List ℕ} (j : ℕ) (s : Setup) (health : ℕ) (c : Counters) → j ≡ s .n
+    → view ≡ pack j (λ k. accountedAt s health c k .present) → penalty ≡ array j (λ k. accountedAt s health c k .penalty)
+    → reward ≡ array j (λ k. accountedAt s health c k .reward)
+    → record { view = view; penalty = penalty; reward = reward } ≡ countersOf s health c
+unfolding countersOf
+counters-by j s health c e v p r = rw (v, p, r, e)

@@ -1,6 +1,7 @@
 -- Rules 4 to 6: the health vector and the syndrome, bit by bit.
 use mathlib.Core.Path.{_≡_, sym, ap, _∙_}
 use mathlib.Core.Bool.{Bool, not, _&&_}
+use mathlib.Core.List.{List}
 use Prim.Native.Nat.{ℕ, _^_, _≤_, _<_}
 use lib.ListN.{getD}
 use lib.Dec.{eqb}
@@ -46,3 +47,11 @@ syndrome-by n aligned health small =
     pack-ext n _ _ (λ j h. ap (λ (b : Bool). bit (aligned .heard) j && b)
     (sym (unaccused n (votersOf aligned) (getD (aligned .rows) j 0) health j)
     ∙ ap (λ (a : ℕ). eqb a 0) (sym (array-at n _ j h small))))
+
+-- rules 4, 5 and 6 one after the other
+pub judgement-by : {health syndrome : ℕ} {accusations : List ℕ} (n : ℕ) (aligned : Reading) (own : ℕ)
+    → health ≡ healthOf n (votersOf aligned) (aligned .rows) own → accusations ≡ accusationsOf n (votersOf aligned) (aligned .rows) health
+    → syndrome ≡ syndromeOf n (aligned .heard) (accusationsOf n (votersOf aligned) (aligned .rows) health)
+    → record { health = health; accusations = accusations; syndrome = syndrome } ≡ judgementOf n aligned own
+unfolding judgementOf
+judgement-by n aligned own e a s = rw (s, a, e)

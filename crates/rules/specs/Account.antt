@@ -1,6 +1,6 @@
 -- Rule 8: penalties, rewards and the view.
 use Prim.Native.Nat.{ℕ, _+_}
-use mathlib.Core.Bool.{Bool, true, cond}
+use mathlib.Core.Bool.{Bool, cond}
 use lib.ListN.{getD}
 use lib.Dec.{eqb, leb}
 use Rattle.words.specs.Bits.{bit, pack}

@@ -2,12 +2,14 @@
 use mathlib.Core.Path.{_≡_, _∙_, sym}
 use mathlib.Core.Logic.{⊎-elim}
 use mathlib.Core.Bool.{true, false, cond}
+use mathlib.Core.List.{List}
 use Prim.Native.Nat.{ℕ, _+_, _-_, _%_}
 use native.Mathlib.Omega.{arith}
 use lib.Dec.{eqb}
 use lib.ListN.{getD, replicate, getD-replicate}
 use borrow.Author.Tests.{eqb-true}
 use Rattle.words.specs.Bits.{bit}
+use Rattle.words.specs.Table.{updated, table}
 use Rattle.words.proofs.TableLaws.{table-at}
 use Rattle.words.proofs.Truth.{which, and-l, cond-true, cond-false}
 use Rattle.script.specs.Words.{kindOf, senderIn}
@@ -24,6 +26,14 @@ unfolding none
 told-none cast x h e =
     let z : _≡_ {A = ℕ} (getD (replicate 256 0) x 0) 0 = getD-replicate {A = ℕ} 256 x 0 0 h in
     absurd (omega arith)
+
+-- the events of a loop that has gone through all entries
+pub with-by : {fate told : List ℕ} {x : ℕ} (e : Events) (w t : ℕ) → x ≡ 256
+    → fate ≡ updated x (λ y. cond (concerns w y) (kindOf w) (getD (e .fate) y 0)) (replicate 256 0)
+    → told ≡ updated x (λ y. cond (concerns w y) t (getD (e .told) y 0)) (replicate 256 0)
+    → record { fate = fate; told = told } ≡ withEvent e w t
+unfolding withEvent table
+with-by e w t h f g = rw (f, g, h)
 
 -- one more event, which is a loss, or a lie by a sender of the cast
 pub told-with : (cast w t : ℕ) (e : Events) → ToldBy cast e → (kindOf w ≡ 8 → bit cast (senderIn w - 1) ≡ true) → ToldBy cast (withEvent e w t)

@@ -7,3 +7,4 @@ pub mod AnswerLaws
 pub mod WordFields
 pub mod RoundTrip
 pub mod FrontLaws
+pub mod LoadLaws

@@ -6,7 +6,7 @@ use Prim.Native.Nat.{ℕ, _+_, _<_, _≤_}
 use native.Mathlib.Omega.{arith}
 use lib.ListN.{getD, length}
 use lib.Dec.{eqb, leb}
-use borrow.Author.Tests.{eq-eqb, ne-eqb}
+use borrow.Author.Tests.{eq-eqb, ne-eqb, not-true, not-false}
 use Rattle.words.specs.Word.{wordAt}
 use Rattle.words.specs.Bits.{bit}
 use Rattle.words.specs.Count.{lowest}
@@ -17,6 +17,7 @@ use Rattle.setup.specs.declared.Setup.{Setup}
 use Rattle.setup.specs.Verdict.{verdict, accepted, isAccepted, check, checkEach, between}
 use Rattle.setup.specs.Setup.{sizeIn, setupLength}
 use Rattle.setup.specs.Check.{moduleFits, markFits, setupTidy, whole, headOk, limitOk, moduleOk, markOk, checkHead, checkWords, checkFront, checkFields}
+use Rattle.setup.proofs.VerdictLaws.{check-ok}
 
 -- the next answer where v accepts, else v
 abbrev pub andThen : Verdict → Verdict → Verdict
@@ -43,6 +44,14 @@ pub check-refused : (ok : Bool) (number index : ℕ) (next : Verdict) → ok ≡
 unfolding check
 check-refused ok number index next f = cond-false next (verdict number index) f
 
+-- v answers a chain whose first check is `ok`, of which the code has asked b
+module _ {v : Verdict} {b : Bool} (ok : Bool) (number index : ℕ) (next : Verdict) (e : b ≡ ok) where
+  pub check-stops : not b ≡ true → v ≡ verdict number index → v ≡ check ok number index next
+  check-stops f a = a ∙ sym (check-refused ok number index next (sym e ∙ not-true b f))
+
+  pub check-goes : not b ≡ false → v ≡ next → v ≡ check ok number index next
+  check-goes t a = a ∙ sym (check-ok ok number index next (sym e ∙ not-false b t))
+
 -- a search finds no more than n
 pub found-le : (n : ℕ) (p : ℕ → Bool) {first : ℕ} → first ≡ lowest n p → first ≤ n
 found-le n p e = rw e (lowest-le p n)
@@ -58,6 +67,12 @@ module _ (n : ℕ) (ok : ℕ → Bool) (number base : ℕ) (next : Verdict) {fir
   each-refused f =
       cond-false next (verdict number (base + lowest n (λ j. not (ok j)))) (ne-eqb _ 0 (λ z. f (e ∙ z)))
       ∙ ap (λ (x : ℕ). verdict number (base + x)) (sym e)
+
+  pub each-stops : {v : Verdict} → (first ≡ 0 → ⊥) → v ≡ verdict number (base + first) → v ≡ checkEach n ok number base next
+  each-stops f a = a ∙ sym (each-refused f)
+
+  pub each-goes : {v : Verdict} → first ≡ 0 → v ≡ next → v ≡ checkEach n ok number base next
+  each-goes z a = a ∙ sym (each-next z)
 
 -- ---- checks that go on with what is handed to them
 

@@ -1,6 +1,6 @@
 -- A setup as words: kinds 1, 2, 3, then 4 for modules 1..N. (document 01, "What runs")
 -- A module is its number less one here, as in a vector: module j + 1 is bit j.
-use Prim.Native.Nat.{ℕ, _+_, _*_, _/_, _%_, _^_}
+use Prim.Native.Nat.{ℕ, _+_, _*_, _%_, _^_}
 use mathlib.Core.Bool.{Bool}
 use mathlib.Core.List.{List, _++_}
 use lib.ListN.{getD, replicate}

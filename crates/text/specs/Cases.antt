@@ -1,7 +1,7 @@
 -- A line of the sheet in document 01, a refusal and the greatest number, byte by byte. Computed in proofs/Cases.antt.
 use mathlib.Core.Path.{_≡_}
 use mathlib.Core.Bool.{true}
-use mathlib.Core.List.{List, [], _∷_}
+use mathlib.Core.List.{[], _∷_}
 use Rattle.text.specs.Text.{decimal}
 use Rattle.text.specs.Lines.{lineOf, refusedLine}
 

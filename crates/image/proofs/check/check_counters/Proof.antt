@@ -1,7 +1,6 @@
 -- The first wrong penalty, else the first wrong reward: what the two searches find.
 use native.Mathlib.Omega.{arith}
-use mathlib.Core.Path.{sym, _∙_}
-use Rattle.setup.proofs.NextLaws.{found-le, each-next, each-refused}
+use Rattle.setup.proofs.NextLaws.{found-le, each-goes, each-stops}
 use borrow.Author.Needs.{needs}
 use Rattle.image.proofs.check.check_counters.Statement.{statement}
 use Rattle.image.proofs.check.check_counters.Tie as tie
@@ -34,7 +33,7 @@ answer-requires c κs = search needs
 returns : tie.Need-returns
 returns c =
     let p = rw (c .before .before .before .word-at .ensures) at (c .before .before .wrong-penalty .ensures) in
-    c .answer .ensures ∙ sym (each-refused _ _ _ _ _ p (c .before .if1 .taken))
+    each-stops _ _ _ _ _ p (c .before .if1 .taken) (c .answer .ensures)
 
 word-at-requires-2 : tie.Need-word-at-requires-2
 word-at-requires-2 c κs = search needs
@@ -66,7 +65,8 @@ returns-2 c =
     let g = c .before .before .before .before in
     let p = rw (g .before .before .word-at .ensures) at (g .before .wrong-penalty .ensures) in
     let q = rw (c .before .before .before .word-at2 .ensures) at (c .before .before .wrong-reward .ensures) in
-    c .answer2 .ensures ∙ sym (each-next _ _ _ _ _ p (g .if1 .left) ∙ each-refused _ _ _ _ _ q (c .before .if2 .taken))
+    each-goes _ _ _ _ _ p (g .if1 .left)
+    (each-stops _ _ _ _ _ q (c .before .if2 .taken) (c .answer2 .ensures))
 
 answer-requires-3 : tie.Need-answer-requires-3
 answer-requires-3 c κs = search needs
@@ -76,7 +76,8 @@ returns-3 c =
     let g = c .before .before .before .before in
     let p = rw (g .before .before .word-at .ensures) at (g .before .wrong-penalty .ensures) in
     let q = rw (c .before .before .before .word-at2 .ensures) at (c .before .before .wrong-reward .ensures) in
-    c .answer3 .ensures ∙ sym (each-next _ _ _ _ _ p (g .if1 .left) ∙ each-next _ _ _ _ _ q (c .before .if2 .left))
+    each-goes _ _ _ _ _ p (g .if1 .left)
+    (each-goes _ _ _ _ _ q (c .before .if2 .left) (c .answer3 .ensures))
 
 pub check-counters-spec : {M : Type 1} → statement M
 check-counters-spec =

@@ -1,8 +1,6 @@
 -- The syndromes in their turn, then the counters.
-use mathlib.Core.Path.{ap, sym, _∙_}
-use borrow.Author.Tests.{not-true, not-false}
-use Rattle.setup.proofs.VerdictLaws.{check-ok}
-use Rattle.setup.proofs.NextLaws.{check-refused}
+use mathlib.Core.Path.{ap, _∙_}
+use Rattle.setup.proofs.NextLaws.{check-goes, check-stops}
 use Rattle.image.specs.Check.{syndromeOk}
 use borrow.Author.Needs.{needs}
 use Rattle.image.proofs.check.check_late.Statement.{statement}
@@ -35,7 +33,7 @@ answer-requires c κs = search needs
 returns : tie.Need-returns
 returns c =
     let e = c .before .before .syndrome-ok .ensures ∙ ap (syndromeOk _) (c .before .before .before .word-at .ensures) in
-    c .answer .ensures ∙ sym (check-refused _ _ _ _ (sym e ∙ not-true _ (c .before .if1 .taken)))
+    check-stops _ _ _ _ e (c .before .if1 .taken) (c .answer .ensures)
 
 mul-word-at-2 : tie.Need-mul-word-at-2
 mul-word-at-2 c = search needs
@@ -66,8 +64,8 @@ returns-2 c =
     let g = c .before .before .before .before in
     let e = g .before .syndrome-ok .ensures ∙ ap (syndromeOk _) (g .before .before .word-at .ensures) in
     let h = c .before .before .syndrome-ok2 .ensures ∙ ap (syndromeOk _) (c .before .before .before .word-at2 .ensures) in
-    c .answer2 .ensures
-    ∙ sym (check-ok _ _ _ _ (sym e ∙ not-false _ (g .if1 .left)) ∙ check-refused _ _ _ _ (sym h ∙ not-true _ (c .before .if2 .taken)))
+    check-goes _ _ _ _ e (g .if1 .left)
+    (check-stops _ _ _ _ h (c .before .if2 .taken) (c .answer2 .ensures))
 
 check-counters-requires : tie.Need-check-counters-requires
 check-counters-requires c κs = search needs
@@ -77,8 +75,8 @@ returns-3 c =
     let g = c .before .before .before .before in
     let e = g .before .syndrome-ok .ensures ∙ ap (syndromeOk _) (g .before .before .word-at .ensures) in
     let h = c .before .before .syndrome-ok2 .ensures ∙ ap (syndromeOk _) (c .before .before .before .word-at2 .ensures) in
-    c .check-counters .ensures
-    ∙ sym (check-ok _ _ _ _ (sym e ∙ not-false _ (g .if1 .left)) ∙ check-ok _ _ _ _ (sym h ∙ not-false _ (c .before .if2 .left)))
+    check-goes _ _ _ _ e (g .if1 .left)
+    (check-goes _ _ _ _ h (c .before .if2 .left) (c .check-counters .ensures))
 
 pub check-late-spec : {M : Type 1} → statement M
 check-late-spec =

@@ -1,9 +1,7 @@
 -- The own word, then the first wrong row, then what follows the rows.
 use native.Mathlib.Omega.{arith}
-use mathlib.Core.Path.{ap, sym, _∙_}
-use borrow.Author.Tests.{not-true, not-false}
-use Rattle.setup.proofs.VerdictLaws.{check-ok}
-use Rattle.setup.proofs.NextLaws.{found-le, check-refused, each-next, each-refused}
+use mathlib.Core.Path.{ap, _∙_}
+use Rattle.setup.proofs.NextLaws.{found-le, check-goes, check-stops, each-goes, each-stops}
 use Rattle.image.specs.Check.{ownNumberOk, ownOk, checkTail}
 use borrow.Author.Needs.{needs}
 use Rattle.image.proofs.check.check_tail.Statement.{statement}
@@ -31,7 +29,7 @@ returns : tie.Need-returns
 unfolding checkTail
 returns c =
     let e = c .before .before .own-number-ok .ensures ∙ ap (ownNumberOk _) (c .before .before .before .word-at .ensures) in
-    c .answer .ensures ∙ sym (check-refused _ _ _ _ (sym e ∙ not-true _ (c .before .if1 .taken)))
+    check-stops _ _ _ _ e (c .before .if1 .taken) (c .answer .ensures)
 
 own-ok-requires : tie.Need-own-ok-requires
 own-ok-requires c κs = search needs
@@ -52,8 +50,8 @@ returns-2 c =
     let w = g .before .before .word-at .ensures in
     let e = g .before .own-number-ok .ensures ∙ ap (ownNumberOk _) w in
     let h = c .before .before .own-ok .ensures ∙ ap (ownOk _) w in
-    c .answer2 .ensures
-    ∙ sym (check-ok _ _ _ _ (sym e ∙ not-false _ (g .if1 .left)) ∙ check-refused _ _ _ _ (sym h ∙ not-true _ (c .before .if2 .taken)))
+    check-goes _ _ _ _ e (g .if1 .left)
+    (check-stops _ _ _ _ h (c .before .if2 .taken) (c .answer2 .ensures))
 
 wrong-row-requires : tie.Need-wrong-row-requires
 wrong-row-requires c κs = search needs
@@ -82,11 +80,9 @@ returns-3 c =
     let w = g .before .before .word-at .ensures in
     let e = g .before .own-number-ok .ensures ∙ ap (ownNumberOk _) w in
     let h = k .before .own-ok .ensures ∙ ap (ownOk _) w in
-    c .answer3 .ensures
-    ∙ sym
-    (check-ok _ _ _ _ (sym e ∙ not-false _ (g .if1 .left))
-    ∙ check-ok _ _ _ _ (sym h ∙ not-false _ (k .if2 .left))
-    ∙ each-refused _ _ _ _ _ (c .before .before .wrong-row .ensures) (c .before .if3 .taken))
+    check-goes _ _ _ _ e (g .if1 .left)
+    (check-goes _ _ _ _ h (k .if2 .left)
+    (each-stops _ _ _ _ _ (c .before .before .wrong-row .ensures) (c .before .if3 .taken) (c .answer3 .ensures)))
 
 check-late-requires : tie.Need-check-late-requires
 check-late-requires c κs = search needs
@@ -99,11 +95,9 @@ returns-4 c =
     let w = g .before .before .word-at .ensures in
     let e = g .before .own-number-ok .ensures ∙ ap (ownNumberOk _) w in
     let h = k .before .own-ok .ensures ∙ ap (ownOk _) w in
-    (rw w at (c .check-late .ensures))
-    ∙ sym
-    (check-ok _ _ _ _ (sym e ∙ not-false _ (g .if1 .left))
-    ∙ check-ok _ _ _ _ (sym h ∙ not-false _ (k .if2 .left))
-    ∙ each-next _ _ _ _ _ (c .before .before .wrong-row .ensures) (c .before .if3 .left))
+    check-goes _ _ _ _ e (g .if1 .left)
+    (check-goes _ _ _ _ h (k .if2 .left)
+    (each-goes _ _ _ _ _ (c .before .before .wrong-row .ensures) (c .before .if3 .left) (rw w at (c .check-late .ensures))))
 
 pub check-tail-spec : {M : Type 1} → statement M
 check-tail-spec =

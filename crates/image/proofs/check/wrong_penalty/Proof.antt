@@ -1,14 +1,15 @@
 -- As long as the search goes on, the penalties before j are right; it stops at the first that is not, or at n.
 use native.Mathlib.Omega.{arith}
 use Prim.Native.Nat.{_+_, _*_, _-_, _≤_}
-use mathlib.Core.Path.{_≡_, refl, ap, sym, _∙_}
+use mathlib.Core.Path.{_≡_, refl, ap}
 use mathlib.Core.Bool.{not}
 use Rattle.words.specs.Count.{lowest}
-use Rattle.words.proofs.LowestLaws.{lowest-none, lowest-found, lowest-ends}
+use Rattle.words.proofs.LowestLaws.{lowest-ends, asked-none, asked-found}
 use Rattle.words.specs.Word.{wordAt}
 use Rattle.words.specs.Bits.{bit}
 use Rattle.setup.specs.Setup.{criticalityIn}
 use Rattle.image.specs.Check.{penaltyOk}
+use Rattle.image.proofs.CheckLaws.{penalty-by}
 use Rattle.image.proofs.check.wrong_penalty.Statement.{statement}
 use Rattle.image.proofs.check.wrong_penalty.Tie as tie
 
@@ -58,22 +59,21 @@ loop-less c = omega arith
 
 loop-again : tie.Need-loop-again Inv-loop μ-loop
 loop-again c =
-    let w = c .before .before .word-at2 .ensures in
+    let k = ap criticalityIn (c .before .before .before .before .word-at .ensures) in
     let v = c .before .before .before .bit-at .ensures in
-    let e = c .before .before .before .before .word-at .ensures in (
-      omega arith,
-      lowest-none _ _ (c .before .before .before .before .before .before .loop .inv .1) (sym (ap not (rw (w, v, e) at (c .before .penalty-ok .ensures))) ∙ c .if2 .left),
-    )
+    let t = penalty-by _ _ k v (c .before .before .word-at2 .ensures) (c .before .penalty-ok .ensures) in
+    (omega arith, asked-none _ _ (c .before .before .before .before .before .before .loop .inv .1) (ap not t) (c .if2 .left))
 
 returns : tie.Need-returns Inv-loop μ-loop
 returns c = lowest-ends _ _ _ (c .before .loop .inv .1) (c .before .loop .inv .0) (c .if1 .taken)
 
 returns-2 : tie.Need-returns-2 Inv-loop μ-loop
 returns-2 c =
-    let w = c .before .before .word-at2 .ensures in
+    let k = ap criticalityIn (c .before .before .before .before .word-at .ensures) in
     let v = c .before .before .before .bit-at .ensures in
-    let e = c .before .before .before .before .word-at .ensures in
-    lowest-found _ _ _ (c .before .before .before .before .before .before .loop .inv .1) (sym (ap not (rw (w, v, e) at (c .before .penalty-ok .ensures))) ∙ c .if2 .taken) (c .before .before .before .before .before .if1 .left)
+    let t = penalty-by _ _ k v (c .before .before .word-at2 .ensures) (c .before .penalty-ok .ensures) in
+    asked-found _ _ _ (c .before .before .before .before .before .before .loop .inv .1) (ap not t) (c .if2 .taken)
+    (c .before .before .before .before .before .if1 .left)
 
 pub wrong-penalty-spec : {M : Type 1} → statement M
 wrong-penalty-spec =

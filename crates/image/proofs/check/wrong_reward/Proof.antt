@@ -1,13 +1,14 @@
 -- As long as the search goes on, the rewards before j are right; it stops at the first that is not, or at n.
 use native.Mathlib.Omega.{arith}
 use Prim.Native.Nat.{_+_, _*_, _-_, _≤_}
-use mathlib.Core.Path.{_≡_, refl, ap, sym, _∙_}
+use mathlib.Core.Path.{_≡_, refl, ap}
 use mathlib.Core.Bool.{not}
 use Rattle.words.specs.Count.{lowest}
-use Rattle.words.proofs.LowestLaws.{lowest-none, lowest-found, lowest-ends}
+use Rattle.words.proofs.LowestLaws.{lowest-ends, asked-none, asked-found}
 use Rattle.words.specs.Word.{wordAt}
 use Rattle.image.specs.Words.{counterIn}
 use Rattle.image.specs.Check.{rewardOk}
+use Rattle.image.proofs.CheckLaws.{reward-by}
 use Rattle.image.proofs.check.wrong_reward.Statement.{statement}
 use Rattle.image.proofs.check.wrong_reward.Tie as tie
 
@@ -60,20 +61,19 @@ loop-less c = omega arith
 
 loop-again : tie.Need-loop-again Inv-loop μ-loop
 loop-again c =
-    let w = c .before .before .word-at2 .ensures in
-    let e = c .before .before .before .word-at .ensures in (
-      omega arith,
-      lowest-none _ _ (c .before .before .before .before .before .loop .inv .1) (sym (ap not (rw (w, e) at (c .before .reward-ok .ensures))) ∙ c .if2 .left),
-    )
+    let x = ap counterIn (c .before .before .before .word-at .ensures) in
+    let t = reward-by _ _ x (c .before .before .word-at2 .ensures) (c .before .reward-ok .ensures) in
+    (omega arith, asked-none _ _ (c .before .before .before .before .before .loop .inv .1) (ap not t) (c .if2 .left))
 
 returns : tie.Need-returns Inv-loop μ-loop
 returns c = lowest-ends _ _ _ (c .before .loop .inv .1) (c .before .loop .inv .0) (c .if1 .taken)
 
 returns-2 : tie.Need-returns-2 Inv-loop μ-loop
 returns-2 c =
-    let w = c .before .before .word-at2 .ensures in
-    let e = c .before .before .before .word-at .ensures in
-    lowest-found _ _ _ (c .before .before .before .before .before .loop .inv .1) (sym (ap not (rw (w, e) at (c .before .reward-ok .ensures))) ∙ c .if2 .taken) (c .before .before .before .before .if1 .left)
+    let x = ap counterIn (c .before .before .before .word-at .ensures) in
+    let t = reward-by _ _ x (c .before .before .word-at2 .ensures) (c .before .reward-ok .ensures) in
+    asked-found _ _ _ (c .before .before .before .before .before .loop .inv .1) (ap not t) (c .if2 .taken)
+    (c .before .before .before .before .if1 .left)
 
 pub wrong-reward-spec : {M : Type 1} → statement M
 wrong-reward-spec =

@@ -1,10 +1,10 @@
 -- As long as the search goes on, the rows before j are right; it stops at the first that is not, or at n.
 use native.Mathlib.Omega.{arith}
 use Prim.Native.Nat.{_+_, _-_, _≤_}
-use mathlib.Core.Path.{_≡_, refl, ap, sym, _∙_}
+use mathlib.Core.Path.{_≡_, refl, ap, _∙_}
 use mathlib.Core.Bool.{not}
 use Rattle.words.specs.Count.{lowest}
-use Rattle.words.proofs.LowestLaws.{lowest-none, lowest-found, lowest-ends}
+use Rattle.words.proofs.LowestLaws.{lowest-ends, asked-none, asked-found}
 use Rattle.words.specs.Word.{wordAt}
 use Rattle.image.specs.Check.{rowOk}
 use Rattle.image.proofs.check.wrong_row.Statement.{statement}
@@ -43,16 +43,17 @@ loop-less : tie.Need-loop-less Inv-loop μ-loop
 loop-less c = omega arith
 
 loop-again : tie.Need-loop-again Inv-loop μ-loop
-loop-again c = (
-  omega arith,
-  lowest-none _ _ (c .before .before .before .before .loop .inv .1) (sym (ap not (rw (c .before .before .word-at .ensures) at (c .before .row-ok .ensures))) ∙ c .if2 .left),
-)
+loop-again c =
+    let t = c .before .row-ok .ensures ∙ ap (rowOk _ _) (c .before .before .word-at .ensures) in
+    (omega arith, asked-none _ _ (c .before .before .before .before .loop .inv .1) (ap not t) (c .if2 .left))
 
 returns : tie.Need-returns Inv-loop μ-loop
 returns c = lowest-ends _ _ _ (c .before .loop .inv .1) (c .before .loop .inv .0) (c .if1 .taken)
 
 returns-2 : tie.Need-returns-2 Inv-loop μ-loop
-returns-2 c = lowest-found _ _ _ (c .before .before .before .before .loop .inv .1) (sym (ap not (rw (c .before .before .word-at .ensures) at (c .before .row-ok .ensures))) ∙ c .if2 .taken) (c .before .before .before .if1 .left)
+returns-2 c =
+    let t = c .before .row-ok .ensures ∙ ap (rowOk _ _) (c .before .before .word-at .ensures) in
+    asked-found _ _ _ (c .before .before .before .before .loop .inv .1) (ap not t) (c .if2 .taken) (c .before .before .before .if1 .left)
 
 pub wrong-row-spec : {M : Type 1} → statement M
 wrong-row-spec =

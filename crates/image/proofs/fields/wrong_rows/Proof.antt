@@ -1,10 +1,10 @@
 -- As long as the search goes on, the rows before j fit; it stops at the first that does not, or at n.
 use native.Mathlib.Omega.{arith}
 use Prim.Native.Nat.{_-_, _≤_}
-use mathlib.Core.Path.{_≡_, refl, ap, sym, _∙_}
+use mathlib.Core.Path.{_≡_, refl, ap}
 use mathlib.Core.Bool.{not}
 use Rattle.words.specs.Count.{lowest}
-use Rattle.words.proofs.LowestLaws.{lowest-none, lowest-found, lowest-ends}
+use Rattle.words.proofs.LowestLaws.{lowest-ends, asked-none, asked-found}
 use lib.ListN.{getD}
 use Rattle.words.specs.Bits.{bit}
 use Rattle.image.specs.Fits.{rowFits}
@@ -44,16 +44,17 @@ loop-less : tie.Need-loop-less Inv-loop μ-loop
 loop-less c = omega arith
 
 loop-again : tie.Need-loop-again Inv-loop μ-loop
-loop-again c = (
-  omega arith,
-  lowest-none _ _ (c .before .before .before .before .loop .inv .1) (sym (ap not (rw (c .before .before .bit-at .ensures) at (c .before .row-fits .ensures))) ∙ c .if2 .left),
-)
+loop-again c =
+    let t = rw (c .before .before .bit-at .ensures) at (c .before .row-fits .ensures) in
+    (omega arith, asked-none _ _ (c .before .before .before .before .loop .inv .1) (ap not t) (c .if2 .left))
 
 returns : tie.Need-returns Inv-loop μ-loop
 returns c = lowest-ends _ _ _ (c .before .loop .inv .1) (c .before .loop .inv .0) (c .if1 .taken)
 
 returns-2 : tie.Need-returns-2 Inv-loop μ-loop
-returns-2 c = lowest-found _ _ _ (c .before .before .before .before .loop .inv .1) (sym (ap not (rw (c .before .before .bit-at .ensures) at (c .before .row-fits .ensures))) ∙ c .if2 .taken) (c .before .before .before .if1 .left)
+returns-2 c =
+    let t = rw (c .before .before .bit-at .ensures) at (c .before .row-fits .ensures) in
+    asked-found _ _ _ (c .before .before .before .before .loop .inv .1) (ap not t) (c .if2 .taken) (c .before .before .before .if1 .left)
 
 pub wrong-rows-spec : {M : Type 1} → statement M
 wrong-rows-spec =

@@ -7,11 +7,12 @@ use Rattle.words.specs.Word.{wordAt}
 use Rattle.words.specs.Bits.{bit}
 use Rattle.words.specs.Array.{array}
 use Rattle.words.specs.Count.{all}
-use Rattle.words.proofs.ArrayLaws.{array-step}
-use Rattle.words.proofs.CountLaws.{all-step}
+use Rattle.words.proofs.ArrayLaws.{array-step, array-end}
+use Rattle.words.proofs.CountLaws.{all-step, all-end}
 use Rattle.setup.specs.Setup.{criticalityIn}
 use Rattle.image.specs.Words.{counterIn}
 use Rattle.image.specs.Check.{penaltyOk, rewardOk}
+use Rattle.image.proofs.CheckLaws.{penalty-by, reward-by}
 use Rattle.image.proofs.ReadLaws.{array-read}
 use Rattle.image.proofs.read.load_counters.Statement.{statement}
 use Rattle.image.proofs.read.load_counters.Tie as tie
@@ -103,7 +104,8 @@ loop-again c =
     let f = c .before .before .before .word-at2 .ensures in (
       omega arith,
       all-step _ _ (l .inv .1)
-          (ap₂ _&&_ (rw (k, c .before .before .bit-at .ensures, e) at (c .before .penalty-ok .ensures)) (rw (e, f) at (c .reward-ok .ensures))),
+          (ap₂ _&&_ (penalty-by _ _ k (c .before .before .bit-at .ensures) e (c .before .penalty-ok .ensures))
+          (reward-by _ _ (ap counterIn e) f (c .reward-ok .ensures))),
       array-step _ _ (l .inv .2) (ap counterIn e),
       array-step _ _ (l .inv .3) (ap counterIn f),
     )
@@ -112,7 +114,7 @@ returns : tie.Need-returns Inv-loop μ-loop
 returns c =
     let i = c .before .loop .inv in
     let e : c .before .loop .j ≡ c .before .before .before .args .n = omega arith in
-    (rw e at (i .1), refl, rw e at (i .2), rw e at (i .3))
+    (all-end _ e (i .1), refl, array-end _ e (i .2), array-end _ e (i .3))
 
 pub load-counters-spec : {M : Type 1} → statement M
 load-counters-spec =

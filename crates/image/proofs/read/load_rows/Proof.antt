@@ -6,9 +6,9 @@ use Rattle.words.specs.Word.{wordAt}
 use Rattle.words.specs.Bits.{pack}
 use Rattle.words.specs.Array.{array}
 use Rattle.words.specs.Count.{all}
-use Rattle.words.proofs.BitLaws.{pack-step, pack-lt}
-use Rattle.words.proofs.ArrayLaws.{array-step}
-use Rattle.words.proofs.CountLaws.{all-step}
+use Rattle.words.proofs.BitLaws.{pack-step, packed-lt, pack-end}
+use Rattle.words.proofs.ArrayLaws.{array-step, array-end}
+use Rattle.words.proofs.CountLaws.{all-step, all-end}
 use Rattle.image.specs.Words.{heardIn, rowIn}
 use Rattle.image.specs.Check.{rowOk}
 use Rattle.image.proofs.read.load_rows.Statement.{statement}
@@ -44,7 +44,7 @@ bit-at-requires : tie.Need-bit-at-requires Inv-loop μ-loop
 bit-at-requires c κs = omega arith
 
 with-bit-requires : tie.Need-with-bit-requires Inv-loop μ-loop
-with-bit-requires c κs = (rw (c .before .before .before .before .loop .inv .2) (pack-lt _ _), omega arith)
+with-bit-requires c κs = (packed-lt _ _ (c .before .before .before .before .loop .inv .2), omega arith)
 
 mul-rows : tie.Need-mul-rows Inv-loop μ-loop
 mul-rows c = omega arith
@@ -72,7 +72,7 @@ returns : tie.Need-returns Inv-loop μ-loop
 returns c =
     let i = c .before .loop .inv in
     let e : c .before .loop .j ≡ c .before .before .before .args .n = omega arith in
-    (rw e at (i .1), rw e at (i .2), rw e at (i .3))
+    (all-end _ e (i .1), pack-end _ e (i .2), array-end _ e (i .3))
 
 pub load-rows-spec : {M : Type 1} → statement M
 load-rows-spec =

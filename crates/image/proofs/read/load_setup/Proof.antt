@@ -7,11 +7,10 @@ use Rattle.words.specs.Word.{wordAt}
 use Rattle.words.specs.Bits.{pack}
 use Rattle.words.specs.Array.{array}
 use Rattle.words.specs.Count.{all}
-use Rattle.words.proofs.BitLaws.{pack-step, pack-lt}
-use Rattle.words.proofs.ArrayLaws.{array-step}
-use Rattle.words.proofs.CountLaws.{all-step}
-use Rattle.setup.specs.Setup.{setupOf, markIn, placeIn, criticalityIn}
+use Rattle.words.proofs.BitLaws.{packed-lt}
+use Rattle.words.proofs.CountLaws.{all-step, all-end}
 use Rattle.setup.specs.Check.{limitOk, moduleOk, markOk}
+use Rattle.setup.proofs.LoadLaws.{ModulesRead, modules-step, setup-by}
 use Rattle.image.proofs.read.load_setup.Statement.{statement}
 use Rattle.image.proofs.read.load_setup.Tie as tie
 
@@ -19,9 +18,7 @@ abbrev Inv-loop : tie.InvT-loop
 Inv-loop s n p r limits good₀ marks₀ places₀ criticality₀ j₀ good marks places criticality j =
     (j ≤ n)
     × (good ≡ all j (λ k. moduleOk n k (wordAt s (3 + k)) && markOk k (wordAt s (3 + k))))
-    × (marks ≡ pack j (λ k. markIn (wordAt s (3 + k))))
-    × (places ≡ array j (λ k. placeIn (wordAt s (3 + k))))
-    × (criticality ≡ array j (λ k. criticalityIn (wordAt s (3 + k))))
+    × ModulesRead s j marks places criticality
 
 abbrev μ-loop : tie.MeasureT-loop
 μ-loop s n p r limits good₀ marks₀ places₀ criticality₀ j₀ good marks places criticality j = n - j
@@ -40,7 +37,7 @@ limit-ok-requires-2 c κs = omega arith
 
 loop-holds : tie.Need-loop-holds Inv-loop μ-loop
 unfolding all pack array
-loop-holds c = (omega arith, refl, refl, refl, refl)
+loop-holds c = (omega arith, refl, (refl, refl, refl))
 
 add-word-at : tie.Need-add-word-at Inv-loop μ-loop
 add-word-at c = omega arith
@@ -58,7 +55,7 @@ bit-at-requires : tie.Need-bit-at-requires Inv-loop μ-loop
 bit-at-requires c κs = omega arith
 
 with-bit-requires : tie.Need-with-bit-requires Inv-loop μ-loop
-with-bit-requires c κs = (rw (c .before .before .before .before .before .loop .inv .2) (pack-lt _ _), omega arith)
+with-bit-requires c κs = (packed-lt _ _ (c .before .before .before .before .before .loop .inv .2 .0), omega arith)
 
 field-requires : tie.Need-field-requires Inv-loop μ-loop
 field-requires c κs = omega arith
@@ -89,21 +86,20 @@ loop-again c =
       omega arith,
       all-step _ _ (l .inv .1)
           (ap₂ _&&_ (g .module-ok .ensures ∙ ap (moduleOk _ _) e) (c .before .before .before .mark-ok .ensures ∙ ap (markOk _) e)),
-      pack-step _ _ (l .inv .2) (c .before .before .bit-at .ensures ∙ ap markIn e) (c .before .with-bit .ensures),
-      array-step _ _ (l .inv .3) (c .field .ensures ∙ ap placeIn e),
-      array-step _ _ (l .inv .4) (ap criticalityIn e),
+      modules-step _ _ (l .inv .2) e (c .before .before .bit-at .ensures) (c .before .with-bit .ensures) (c .field .ensures),
     )
 
 returns : tie.Need-returns Inv-loop μ-loop
-unfolding setupOf
 returns c =
+    let i = c .before .loop .inv in
     let b = c .before .before in
     let p = b .before .before .before .word-at .ensures in
     let r = b .before .before .word-at2 .ensures in
-    let e : c .before .loop .j ≡ b .before .before .before .before .before .args .n = omega arith in (
+    let a = b .before .before .before .before .before in
+    let e : c .before .loop .j ≡ a .args .n = omega arith in (
       ap₂ _&&_ (ap₂ _&&_ (b .before .limit-ok .ensures ∙ ap (limitOk _ _) p) (b .limit-ok2 .ensures ∙ ap (limitOk _ _) r))
-          (rw e at (c .before .loop .inv .1)),
-      cc,
+          (all-end _ e (i .1)),
+      setup-by _ e (a .pre .2) p r (i .2),
     )
 
 pub load-setup-spec : {M : Type 1} → statement M

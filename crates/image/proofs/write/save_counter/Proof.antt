@@ -1,11 +1,11 @@
 -- After j turns the first j counter words are written, and the rest is as it was.
 use native.Mathlib.Omega.{arith}
-use Prim.Native.Nat.{ℕ, _+_, _-_, _*_, _≤_}
-use mathlib.Core.Path.{_≡_, refl, ap, _∙_}
-use mathlib.Core.List.{List, _++_}
+use Prim.Native.Nat.{_-_, _*_, _≤_}
+use mathlib.Core.Path.{_≡_, refl, _∙_}
+use mathlib.Core.List.{_++_}
 use lib.ListN.{length, getD, drop}
-use Rattle.words.specs.Word.{putWord, bytesOf}
-use Rattle.words.proofs.ByteLaws.{bytes-step, bytes-all}
+use Rattle.words.specs.Word.{bytesOf}
+use Rattle.words.proofs.ByteLaws.{run-step, run-end}
 use Rattle.image.specs.Words.{counterWord}
 use borrow.Author.Needs.{needs}
 use Rattle.image.proofs.write.save_counter.Statement.{statement}
@@ -45,23 +45,18 @@ loop-less c = omega arith
 loop-again : tie.Need-loop-again Inv-loop μ-loop
 loop-again c =
     let l = c .before .before .before .before .before .before .loop in
-    let a = c .before .before .before .before .before .before .before .before .args in
-    let h : l .j * 4 + 4 ≤ length (a .out .now) = omega arith in
-    let e = c .before .before .before .before .counter-word .ensures in (
-      omega arith,
-      c .before .before .put-word .kept .0 ∙ l .inv .1,
-      c .before .before .put-word .ensures ∙ ap (λ (x : List ℕ). putWord x (l .j) (c .before .before .before .before .counter-word .result)) (l .inv .2)
-          ∙ bytes-step (a .out .now) (l .j) _ _ h e,
-    )
+    let put = c .before .before .put-word in
+    let e = c .before .before .before .before .counter-word .ensures in
+    let o = c .before .before .before .before .before .before .before .before .args .out .now in
+    (omega arith, put .kept .0 ∙ l .inv .1, run-step o (l .j) _ (omega arith) (l .inv .2) (put .ensures) e)
 
 same-length : tie.Need-same-length Inv-loop μ-loop
 same-length c = search needs
 
 returns : tie.Need-returns Inv-loop μ-loop
 returns c =
-    let a = c .before .before .before .args in
-    let e : c .before .loop .j ≡ a .n = omega arith in
-    (rw e at (c .before .loop .inv .2)) ∙ bytes-all (a .out .now) (a .n) _ (c .before .before .before .pre .3)
+    let a = c .before .before .before in
+    run-end (a .args .out .now) _ _ _ (omega arith) (c .before .loop .inv .2) (a .pre .3)
 
 pub save-counter-spec : {M : Type 1} → statement M
 save-counter-spec =

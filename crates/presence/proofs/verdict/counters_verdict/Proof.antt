@@ -1,9 +1,6 @@
 -- The first wrong penalty, else the first wrong reward, else an entry from n on.
 use native.Mathlib.Omega.{arith}
-use mathlib.Core.Path.{sym, _∙_}
-use borrow.Author.Tests.{not-true, not-false}
-use Rattle.setup.proofs.VerdictLaws.{check-ok}
-use Rattle.setup.proofs.NextLaws.{found-le, check-refused, each-next, each-refused}
+use Rattle.setup.proofs.NextLaws.{found-le, check-goes, check-stops, each-goes, each-stops}
 use Rattle.setup.proofs.AnswerLaws.{verdict-fits}
 use borrow.Author.Needs.{needs}
 use Rattle.presence.proofs.verdict.counters_verdict.Statement.{statement}
@@ -39,7 +36,8 @@ answer-requires : tie.Need-answer-requires
 answer-requires c κs = search needs
 
 returns : tie.Need-returns
-returns c = c .answer .ensures ∙ sym (each-refused _ _ _ _ _ (c .before .before .wrong-penalties .ensures) (c .before .if1 .taken))
+returns c =
+    each-stops _ _ _ _ _ (c .before .before .wrong-penalties .ensures) (c .before .if1 .taken) (c .answer .ensures)
 
 wrong-rewards-requires : tie.Need-wrong-rewards-requires
 wrong-rewards-requires c κs = search needs
@@ -66,10 +64,8 @@ answer-requires-2 c κs = search needs
 returns-2 : tie.Need-returns-2
 returns-2 c =
     let g = c .before .before .before in
-    c .answer2 .ensures
-    ∙ sym
-    (each-next _ _ _ _ _ (g .before .wrong-penalties .ensures) (g .if1 .left)
-    ∙ each-refused _ _ _ _ _ (c .before .before .wrong-rewards .ensures) (c .before .if2 .taken))
+    each-goes _ _ _ _ _ (g .before .wrong-penalties .ensures) (g .if1 .left)
+    (each-stops _ _ _ _ _ (c .before .before .wrong-rewards .ensures) (c .before .if2 .taken) (c .answer2 .ensures))
 
 tidy-requires : tie.Need-tidy-requires
 tidy-requires c κs = search needs
@@ -81,11 +77,9 @@ returns-3 : tie.Need-returns-3
 returns-3 c =
     let h = c .before .before .before in
     let g = h .before .before in
-    c .answer3 .ensures
-    ∙ sym
-    (each-next _ _ _ _ _ (g .before .wrong-penalties .ensures) (g .if1 .left)
-    ∙ each-next _ _ _ _ _ (h .before .wrong-rewards .ensures) (h .if2 .left)
-    ∙ check-refused _ 8 0 _ (sym (c .before .before .tidy .ensures) ∙ not-true _ (c .before .if3 .taken)))
+    each-goes _ _ _ _ _ (g .before .wrong-penalties .ensures) (g .if1 .left)
+    (each-goes _ _ _ _ _ (h .before .wrong-rewards .ensures) (h .if2 .left)
+    (check-stops _ 8 0 _ (c .before .before .tidy .ensures) (c .before .if3 .taken) (c .answer3 .ensures)))
 
 answer-requires-4 : tie.Need-answer-requires-4
 answer-requires-4 c κs = search needs
@@ -94,11 +88,9 @@ returns-4 : tie.Need-returns-4
 returns-4 c =
     let h = c .before .before .before in
     let g = h .before .before in
-    c .answer4 .ensures
-    ∙ sym
-    (each-next _ _ _ _ _ (g .before .wrong-penalties .ensures) (g .if1 .left)
-    ∙ each-next _ _ _ _ _ (h .before .wrong-rewards .ensures) (h .if2 .left)
-    ∙ check-ok _ 8 0 _ (sym (c .before .before .tidy .ensures) ∙ not-false _ (c .before .if3 .left)))
+    each-goes _ _ _ _ _ (g .before .wrong-penalties .ensures) (g .if1 .left)
+    (each-goes _ _ _ _ _ (h .before .wrong-rewards .ensures) (h .if2 .left)
+    (check-goes _ 8 0 _ (c .before .before .tidy .ensures) (c .before .if3 .left) (c .answer4 .ensures)))
 
 pub counters-verdict-spec : {M : Type 1} → statement M
 counters-verdict-spec =

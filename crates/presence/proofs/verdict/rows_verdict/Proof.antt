@@ -1,10 +1,8 @@
 -- The first wrong row, then the syndromes in their turn, then the counters.
 use native.Mathlib.Omega.{arith}
-use mathlib.Core.Path.{ap, sym, _∙_}
+use mathlib.Core.Path.{ap}
 use lib.Dec.{ltb}
-use borrow.Author.Tests.{not-true, not-false}
-use Rattle.setup.proofs.VerdictLaws.{check-ok}
-use Rattle.setup.proofs.NextLaws.{found-le, check-refused, each-next, each-refused}
+use Rattle.setup.proofs.NextLaws.{found-le, check-goes, check-stops, each-goes, each-stops}
 use borrow.Author.Needs.{needs}
 use Rattle.presence.proofs.verdict.rows_verdict.Statement.{statement}
 use Rattle.presence.proofs.verdict.rows_verdict.Tie as tie
@@ -29,7 +27,8 @@ answer-requires : tie.Need-answer-requires
 answer-requires c κs = search needs
 
 returns : tie.Need-returns
-returns c = c .answer .ensures ∙ sym (each-refused _ _ _ _ _ (c .before .before .wrong-rows .ensures) (c .before .if1 .taken))
+returns c =
+    each-stops _ _ _ _ _ (c .before .before .wrong-rows .ensures) (c .before .if1 .taken) (c .answer .ensures)
 
 power-requires : tie.Need-power-requires
 power-requires c κs = search needs
@@ -50,10 +49,8 @@ returns-2 : tie.Need-returns-2
 returns-2 c =
     let g = c .before .before .before .before in
     let e = ap (ltb _) (c .before .before .before .power .ensures) in
-    c .answer2 .ensures
-    ∙ sym
-    (each-next _ _ _ _ _ (g .before .wrong-rows .ensures) (g .if1 .left)
-    ∙ check-refused _ _ _ _ (sym e ∙ not-true _ (c .before .if2 .taken)))
+    each-goes _ _ _ _ _ (g .before .wrong-rows .ensures) (g .if1 .left)
+    (check-stops _ _ _ _ e (c .before .if2 .taken) (c .answer2 .ensures))
 
 power-requires-2 : tie.Need-power-requires-2
 power-requires-2 c κs = search needs
@@ -76,11 +73,9 @@ returns-3 c =
     let g = h .before .before .before in
     let e = ap (ltb _) (h .before .before .power .ensures) in
     let d = ap (ltb _) (c .before .before .before .power2 .ensures) in
-    c .answer3 .ensures
-    ∙ sym
-    (each-next _ _ _ _ _ (g .before .wrong-rows .ensures) (g .if1 .left)
-    ∙ check-ok _ _ _ _ (sym e ∙ not-false _ (h .if2 .left))
-    ∙ check-refused _ _ _ _ (sym d ∙ not-true _ (c .before .if3 .taken)))
+    each-goes _ _ _ _ _ (g .before .wrong-rows .ensures) (g .if1 .left)
+    (check-goes _ _ _ _ e (h .if2 .left)
+    (check-stops _ _ _ _ d (c .before .if3 .taken) (c .answer3 .ensures)))
 
 counters-verdict-requires : tie.Need-counters-verdict-requires
 counters-verdict-requires c κs = search needs
@@ -91,11 +86,9 @@ returns-4 c =
     let g = h .before .before .before in
     let e = ap (ltb _) (h .before .before .power .ensures) in
     let d = ap (ltb _) (c .before .before .before .power2 .ensures) in
-    c .counters-verdict .ensures
-    ∙ sym
-    (each-next _ _ _ _ _ (g .before .wrong-rows .ensures) (g .if1 .left)
-    ∙ check-ok _ _ _ _ (sym e ∙ not-false _ (h .if2 .left))
-    ∙ check-ok _ _ _ _ (sym d ∙ not-false _ (c .before .if3 .left)))
+    each-goes _ _ _ _ _ (g .before .wrong-rows .ensures) (g .if1 .left)
+    (check-goes _ _ _ _ e (h .if2 .left)
+    (check-goes _ _ _ _ d (c .before .if3 .left) (c .counters-verdict .ensures)))
 
 pub rows-verdict-spec : {M : Type 1} → statement M
 rows-verdict-spec =

@@ -1,9 +1,7 @@
 -- The own number, the view, then the rows and what follows them.
-use mathlib.Core.Path.{ap, sym, _∙_}
+use mathlib.Core.Path.{refl, ap}
 use lib.Dec.{ltb}
-use borrow.Author.Tests.{not-true, not-false}
-use Rattle.setup.proofs.VerdictLaws.{check-ok}
-use Rattle.setup.proofs.NextLaws.{check-refused}
+use Rattle.setup.proofs.NextLaws.{check-goes, check-stops}
 use Rattle.presence.specs.Valid.{checkState}
 use borrow.Author.Needs.{needs}
 use Rattle.presence.proofs.verdict.state_verdict.Statement.{statement}
@@ -20,7 +18,8 @@ answer-requires c κs = search needs
 
 returns : tie.Need-returns
 unfolding checkState
-returns c = c .answer .ensures ∙ sym (check-refused _ 7 _ _ (not-true _ (c .before .if1 .taken)))
+returns c =
+    check-stops _ 7 _ _ refl (c .before .if1 .taken) (c .answer .ensures)
 
 power-requires : tie.Need-power-requires
 power-requires c κs = search needs
@@ -39,8 +38,8 @@ unfolding checkState
 returns-2 c =
     let g = c .before .before .before .before in
     let e = ap (ltb _) (c .before .before .before .power .ensures) in
-    c .answer2 .ensures
-    ∙ sym (check-ok _ 7 _ _ (not-false _ (g .if1 .left)) ∙ check-refused _ 8 _ _ (sym e ∙ not-true _ (c .before .if2 .taken)))
+    check-goes _ 7 _ _ refl (g .if1 .left)
+    (check-stops _ 8 _ _ e (c .before .if2 .taken) (c .answer2 .ensures))
 
 rows-verdict-requires : tie.Need-rows-verdict-requires
 rows-verdict-requires c κs = search needs
@@ -50,8 +49,8 @@ unfolding checkState
 returns-3 c =
     let g = c .before .before .before .before in
     let e = ap (ltb _) (c .before .before .before .power .ensures) in
-    c .rows-verdict .ensures
-    ∙ sym (check-ok _ 7 _ _ (not-false _ (g .if1 .left)) ∙ check-ok _ 8 _ _ (sym e ∙ not-false _ (c .before .if2 .left)))
+    check-goes _ 7 _ _ refl (g .if1 .left)
+    (check-goes _ 8 _ _ e (c .before .if2 .left) (c .rows-verdict .ensures))
 
 pub state-verdict-spec : {M : Type 1} → statement M
 state-verdict-spec =

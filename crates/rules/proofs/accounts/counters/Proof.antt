@@ -4,11 +4,11 @@ use mathlib.Core.Path.{_≡_, refl, ap}
 use native.Mathlib.Omega.{arith}
 use Rattle.words.specs.Bits.{pack}
 use Rattle.words.specs.Array.{array}
-use Rattle.words.proofs.BitLaws.{pack-step, pack-lt}
+use Rattle.words.proofs.BitLaws.{pack-step, packed-lt}
 use Rattle.words.proofs.ArrayLaws.{array-step}
 use Rattle.rules.specs.declared.Account.{Account}
-use Rattle.rules.specs.Account.{accountedAt, countersOf}
-use Rattle.rules.proofs.RangeLaws.{range-by, accounted-by}
+use Rattle.rules.specs.Account.{accountedAt}
+use Rattle.rules.proofs.RangeLaws.{range-by, accounted-by, counters-by}
 use Rattle.rules.proofs.accounts.counters.Statement.{statement}
 use Rattle.rules.proofs.accounts.counters.Tie as tie
 
@@ -57,7 +57,7 @@ accounted-requires c κs =
     range-by (a .args .t3) (g .loop .j) (c .before .before .before .before .bit-at .result) (a .pre .1 (g .loop .j) l)
 
 with-bit-requires : tie.Need-with-bit-requires Inv-loop μ-loop
-with-bit-requires c κs = (rw (c .before .before .before .before .before .before .before .loop .inv .2) (pack-lt _ _), omega arith)
+with-bit-requires c κs = (packed-lt _ _ (c .before .before .before .before .before .before .before .loop .inv .2), omega arith)
 
 mul-penalty : tie.Need-mul-penalty Inv-loop μ-loop
 mul-penalty c = omega arith
@@ -94,10 +94,9 @@ loop-again c =
     )
 
 returns : tie.Need-returns Inv-loop μ-loop
-unfolding countersOf
 returns c =
-    let e : c .before .loop .j ≡ c .before .before .args .t1 .n = omega arith in
-    cc
+    let i = c .before .loop .inv in
+    counters-by _ _ _ _ (omega arith) (i .2) (i .3) (i .4)
 
 pub counters-spec : {M : Type 1} → statement M
 counters-spec =

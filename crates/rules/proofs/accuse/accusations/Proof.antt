@@ -4,7 +4,7 @@ use mathlib.Core.Path.{_≡_, refl}
 use native.Mathlib.Omega.{arith}
 use lib.ListN.{getD}
 use Rattle.words.specs.Array.{array}
-use Rattle.words.proofs.ArrayLaws.{array-step}
+use Rattle.words.proofs.ArrayLaws.{array-step, array-end}
 use Rattle.rules.specs.Accusation.{accusationOf, accusationsOf}
 use Rattle.rules.proofs.accuse.accusations.Statement.{statement}
 use Rattle.rules.proofs.accuse.accusations.Tie as tie
@@ -45,9 +45,7 @@ loop-again c = (omega arith, array-step _ _ (c .before .before .loop .inv .1) (c
 
 returns : tie.Need-returns Inv-loop μ-loop
 unfolding accusationsOf
-returns c =
-    let e : c .before .loop .j ≡ c .before .before .args .n = omega arith in
-    cc
+returns c = array-end _ (omega arith) (c .before .loop .inv .1)
 
 pub accusations-spec : {M : Type 1} → statement M
 accusations-spec =

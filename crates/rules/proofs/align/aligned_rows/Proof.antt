@@ -6,7 +6,7 @@ use native.Mathlib.Omega.{arith}
 use lib.ListN.{getD}
 use lib.Dec.{ltb}
 use Rattle.words.specs.Array.{array}
-use Rattle.words.proofs.ArrayLaws.{array-step}
+use Rattle.words.proofs.ArrayLaws.{array-step, array-end}
 use Rattle.rules.proofs.align.aligned_rows.Statement.{statement}
 use Rattle.rules.proofs.align.aligned_rows.Tie as tie
 
@@ -55,9 +55,7 @@ loop-again : tie.Need-loop-again Inv-loop μ-loop
 loop-again c = (omega arith, array-step _ _ (c .before .before .loop .inv .1) (c .pick .ensures))
 
 returns : tie.Need-returns Inv-loop μ-loop
-returns c =
-    let e : c .before .loop .j ≡ c .before .before .args .n = omega arith in
-    cc
+returns c = array-end _ (omega arith) (c .before .loop .inv .1)
 
 pub aligned-rows-spec : {M : Type 1} → statement M
 aligned-rows-spec =

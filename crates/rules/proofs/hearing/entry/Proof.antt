@@ -1,6 +1,6 @@
 -- The two fields are those of `entryOf`.
 use borrow.Author.Needs.{needs}
-use Rattle.rules.specs.Hearing.{entryOf}
+use Rattle.rules.proofs.HearingLaws.{entry-by}
 use Rattle.rules.proofs.hearing.entry.Statement.{statement}
 use Rattle.rules.proofs.hearing.entry.Tie as tie
 
@@ -11,8 +11,7 @@ pick-requires : tie.Need-pick-requires
 pick-requires c κs = search needs
 
 returns : tie.Need-returns
-unfolding entryOf
-returns c = cc
+returns c = entry-by _ _ _ (c .before .word-heard .ensures) (c .pick .ensures)
 
 pub entry-spec : {M : Type 1} → statement M
 entry-spec = tie.close (tie.spec word-heard-requires pick-requires returns)

@@ -1,14 +1,15 @@
 -- After j turns the vector and the array hold the entries below j.
 use Prim.Native.Nat.{_-_, _≤_}
-use mathlib.Core.Path.{_≡_, refl, ap}
+use mathlib.Core.Path.{_≡_, refl, ap, ap₂, _∙_}
 use native.Mathlib.Omega.{arith}
 use Rattle.words.specs.Bits.{bit, pack}
 use Rattle.words.specs.Word.{wordAt}
 use Rattle.words.specs.Array.{array}
-use Rattle.words.proofs.BitLaws.{pack-step, pack-lt}
+use Rattle.words.proofs.BitLaws.{pack-step, packed-lt}
 use Rattle.words.proofs.ArrayLaws.{array-step}
 use Rattle.rules.specs.declared.Entry.{Entry}
-use Rattle.rules.specs.Hearing.{entryOf, readingOf}
+use Rattle.rules.specs.Hearing.{entryOf}
+use Rattle.rules.proofs.HearingLaws.{reading-by}
 use Rattle.rules.proofs.hearing.reading.Statement.{statement}
 use Rattle.rules.proofs.hearing.reading.Tie as tie
 
@@ -34,7 +35,7 @@ entry-requires : tie.Need-entry-requires Inv-loop μ-loop
 entry-requires c κs = omega arith
 
 with-bit-requires : tie.Need-with-bit-requires Inv-loop μ-loop
-with-bit-requires c κs = (rw (c .before .before .before .before .loop .inv .1) (pack-lt _ _), omega arith)
+with-bit-requires c κs = (packed-lt _ _ (c .before .before .before .before .loop .inv .1), omega arith)
 
 mul-rows : tie.Need-mul-rows Inv-loop μ-loop
 mul-rows c = omega arith
@@ -52,17 +53,15 @@ loop-again : tie.Need-loop-again Inv-loop μ-loop
 loop-again c =
     let g = c .before .before .before .before .before in
     let a = g .before .before .args in
-    let q : c .before .entry .result ≡ entryOf (a .n) (bit (a .controller) (g .loop .j)) (wordAt (a .read .now) (g .loop .j)) = cc in (
+    let q = c .before .entry .ensures
+    ∙ ap₂ (λ b w. entryOf (a .n) b w) (c .before .before .before .bit-at .ensures) (c .before .before .word-at .ensures) in (
       omega arith,
       pack-step _ _ (g .loop .inv .1) (ap (λ (x : Entry). x .heard) q) (c .with-bit .ensures),
       array-step _ _ (g .loop .inv .2) (ap (λ (x : Entry). x .row) q),
     )
 
 returns : tie.Need-returns Inv-loop μ-loop
-unfolding readingOf
-returns c =
-    let e : c .before .loop .j ≡ c .before .before .before .args .n = omega arith in
-    cc
+returns c = reading-by _ _ _ _ (omega arith) (c .before .loop .inv .1) (c .before .loop .inv .2)
 
 pub reading-spec : {M : Type 1} → statement M
 reading-spec =

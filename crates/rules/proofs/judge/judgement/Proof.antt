@@ -1,6 +1,6 @@
 -- The three fields are those of `judgementOf`.
 use borrow.Author.Needs.{needs}
-use Rattle.rules.specs.Syndrome.{judgementOf}
+use Rattle.rules.proofs.SyndromeLaws.{judgement-by}
 use Rattle.rules.proofs.judge.judgement.Statement.{statement}
 use Rattle.rules.proofs.judge.judgement.Tie as tie
 
@@ -14,8 +14,7 @@ syndrome-requires : tie.Need-syndrome-requires
 syndrome-requires c κs = search needs
 
 returns : tie.Need-returns
-unfolding judgementOf
-returns c = cc
+returns c = judgement-by _ _ _ (c .before .before .health .ensures) (c .before .accusations .ensures) (c .syndrome .ensures)
 
 pub judgement-spec : {M : Type 1} → statement M
 judgement-spec =

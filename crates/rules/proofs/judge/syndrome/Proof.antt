@@ -6,7 +6,7 @@ use native.Mathlib.Omega.{arith}
 use lib.ListN.{getD}
 use Rattle.words.specs.Bits.{bit, pack}
 use Rattle.words.specs.Count.{any}
-use Rattle.words.proofs.BitLaws.{pack-step, pack-lt}
+use Rattle.words.proofs.BitLaws.{pack-step, packed-lt}
 use Rattle.rules.specs.Accusation.{differsAt}
 use Rattle.rules.proofs.SyndromeLaws.{syndrome-by}
 use Rattle.rules.proofs.judge.syndrome.Statement.{statement}
@@ -36,7 +36,7 @@ clean-requires : tie.Need-clean-requires Inv-loop μ-loop
 clean-requires c κs = omega arith
 
 with-bit-requires : tie.Need-with-bit-requires Inv-loop μ-loop
-with-bit-requires c κs = (rw (c .before .before .before .loop .inv .1) (pack-lt _ _), omega arith)
+with-bit-requires c κs = (packed-lt _ _ (c .before .before .before .loop .inv .1), omega arith)
 
 add-j : tie.Need-add-j Inv-loop μ-loop
 add-j c = omega arith

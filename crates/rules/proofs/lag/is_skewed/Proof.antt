@@ -6,7 +6,7 @@ use native.Mathlib.Omega.{arith}
 use lib.ListN.{getD}
 use lib.Dec.{eqb}
 use Rattle.words.specs.Count.{any}
-use Rattle.words.proofs.CountLaws.{any-more}
+use Rattle.words.proofs.CountLaws.{any-step}
 use Rattle.rules.specs.Lag.{skewed}
 use Rattle.rules.proofs.lag.is_skewed.Statement.{statement}
 use Rattle.rules.proofs.lag.is_skewed.Tie as tie
@@ -37,7 +37,7 @@ loop-less : tie.Need-loop-less Inv-loop μ-loop
 loop-less c = omega arith
 
 loop-again : tie.Need-loop-again Inv-loop μ-loop
-loop-again c = (omega arith, rw any-more (cc))
+loop-again c = (omega arith, any-step _ _ (c .before .loop .inv .1) refl)
 
 returns : tie.Need-returns Inv-loop μ-loop
 unfolding skewed

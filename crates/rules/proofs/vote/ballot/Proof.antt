@@ -1,4 +1,6 @@
 -- The row without bit l where l is present, else 0.
+use mathlib.Core.Path.{ap₂, _∙_}
+use mathlib.Core.Bool.{cond}
 use borrow.Author.Needs.{needs}
 use Rattle.rules.specs.Lanes.{ballotOf}
 use Rattle.rules.proofs.vote.ballot.Statement.{statement}
@@ -15,7 +17,7 @@ pick-requires c κs = search needs
 
 returns : tie.Need-returns
 unfolding ballotOf
-returns c = cc
+returns c = c .pick .ensures ∙ ap₂ (λ b v. cond b v 0) (c .before .before .bit-at .ensures) (c .before .without .ensures)
 
 pub ballot-spec : {M : Type 1} → statement M
 ballot-spec = tie.close (tie.spec bit-at-requires without-requires pick-requires returns)

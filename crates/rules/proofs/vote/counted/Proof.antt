@@ -5,9 +5,9 @@ use native.Mathlib.Omega.{arith}
 use borrow.Author.Needs.{needs}
 use Rattle.words.specs.Bits.{bit}
 use Rattle.words.specs.Count.{count}
-use Rattle.words.proofs.CountLaws.{count-more}
-use Rattle.rules.specs.Lanes.{laneOf, onesOn, tallyOf}
-use Rattle.rules.proofs.LaneLaws.{lane-step}
+use Rattle.words.proofs.CountLaws.{count-step}
+use Rattle.rules.specs.Lanes.{laneOf, onesOn}
+use Rattle.rules.proofs.LaneLaws.{lane-step, tally-by}
 use Rattle.rules.proofs.vote.counted.Statement.{statement}
 use Rattle.rules.proofs.vote.counted.Tie as tie
 
@@ -90,14 +90,13 @@ loop-again c =
       lane-step 1 l voters rows (omega arith) (i .7) b (c .before .before .before .before .lane2 .ensures .0),
       lane-step 2 l voters rows (omega arith) (i .8) b (c .before .before .before .lane3 .ensures .0),
       lane-step 3 l voters rows (omega arith) (i .9) b (c .before .before .lane4 .ensures .0),
-      rw count-more (cc),
+      count-step _ _ (i .10) (c .before .bit-at .ensures) (c .flag .ensures .0),
     )
 
 returns : tie.Need-returns Inv-loop μ-loop
-unfolding tallyOf
 returns c =
-    let e : c .before .loop .l ≡ c .before .before .args .n = omega arith in
-    cc
+    let i = c .before .loop .inv in
+    tally-by _ _ _ _ (omega arith) (i .6) (i .7) (i .8) (i .9) (i .10)
 
 pub counted-spec : {M : Type 1} → statement M
 counted-spec =

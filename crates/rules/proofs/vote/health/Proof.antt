@@ -4,7 +4,7 @@ use mathlib.Core.Path.{_≡_, refl, ap, _∙_}
 use native.Mathlib.Omega.{arith}
 use borrow.Author.Needs.{needs}
 use Rattle.words.specs.Bits.{bit, pack}
-use Rattle.words.proofs.BitLaws.{pack-step, pack-lt}
+use Rattle.words.proofs.BitLaws.{pack-step, packed-lt}
 use Rattle.rules.specs.Vote.{decision}
 use Rattle.rules.specs.Lanes.{columnOf, votesBut}
 use Rattle.rules.proofs.LaneLaws.{ones-fit, own-counted, health-by}
@@ -47,7 +47,7 @@ vote-on-requires c κs =
     )
 
 with-bit-requires : tie.Need-with-bit-requires Inv-loop μ-loop
-with-bit-requires c κs = (rw (c .before .before .before .loop .inv .1) (pack-lt _ _), omega arith)
+with-bit-requires c κs = (packed-lt _ _ (c .before .before .before .loop .inv .1), omega arith)
 
 add-j : tie.Need-add-j Inv-loop μ-loop
 add-j c = omega arith

@@ -1,8 +1,10 @@
 -- The row of j is taken off the rows present, where it is one of them.
-use mathlib.Core.Path.{ap}
+use Prim.Native.Nat.{_-_}
+use mathlib.Core.Path.{ap, ap₂, _∙_}
 use native.Mathlib.Omega.{arith}
 use borrow.Author.Needs.{needs}
 use Rattle.words.specs.Bits.{b2n}
+use Rattle.rules.specs.Vote.{decision}
 use Rattle.rules.proofs.vote.vote_on.Statement.{statement}
 use Rattle.rules.proofs.vote.vote_on.Tie as tie
 
@@ -22,7 +24,12 @@ decide-requires : tie.Need-decide-requires
 decide-requires c κs = omega (arith, ap b2n (c .before .before .bit-at .ensures))
 
 returns : tie.Need-returns
-returns c = cc
+returns c =
+    let f = c .before .before in
+    let v = f .flag .ensures .0 ∙ ap b2n (f .before .bit-at .ensures) in
+    let a = f .before .before .args in
+    c .decide .ensures
+    ∙ ap₂ (λ x b. decision (a .present - x) (a .ones) b) v (c .before .bit-at2 .ensures)
 
 pub vote-on-spec : {M : Type 1} → statement M
 vote-on-spec =

@@ -5,10 +5,11 @@ use mathlib.Core.Bool.{cond}
 use native.Mathlib.Omega.{arith}
 use borrow.Author.Needs.{needs}
 use lib.ListN.{getD, replicate}
-use Rattle.words.specs.Table.{updated, table}
+use Rattle.words.specs.Table.{updated}
 use Rattle.words.proofs.TableLaws.{updated-step}
 use Rattle.script.specs.Words.{kindOf}
-use Rattle.script.specs.Events.{concerns, withEvent}
+use Rattle.script.specs.Events.{concerns}
+use Rattle.script.proofs.EventLaws.{with-by}
 use Rattle.script.proofs.Events.with.Statement.{statement}
 use Rattle.script.proofs.Events.with.Tie as tie
 
@@ -73,10 +74,7 @@ loop-again c =
     )
 
 returns : tie.Need-returns Inv-loop μ-loop
-unfolding withEvent table
-returns c =
-    let e : c .before .loop .x ≡ 256 = omega arith in
-    cc
+returns c = with-by _ _ _ (omega arith) (c .before .loop .inv .1) (c .before .loop .inv .2)
 
 pub with-spec : {M : Type 1} → statement M
 with-spec =

@@ -1,10 +1,9 @@
 -- Each test in its turn is the one of the definition, and the last answer is reached where both held.
-use mathlib.Core.Path.{refl, ap, sym, _∙_}
-use borrow.Author.Tests.{not-true, not-false}
+use mathlib.Core.Path.{refl, ap, _∙_}
+use borrow.Author.Tests.{not-false}
 use mathlib.Core.Bool.{true}
 use Rattle.setup.specs.Check.{whole, headOk, checkHead}
-use Rattle.setup.proofs.VerdictLaws.{check-ok}
-use Rattle.setup.proofs.NextLaws.{check-refused}
+use Rattle.setup.proofs.NextLaws.{check-goes, check-stops}
 use Rattle.setup.proofs.CheckLaws.{whole-is}
 use borrow.Author.Needs.{needs}
 use Rattle.setup.proofs.check.check_head.Statement.{statement}
@@ -15,7 +14,8 @@ answer-requires c κs = search needs
 
 returns : tie.Need-returns
 unfolding checkHead whole
-returns c = c .answer .ensures ∙ sym (check-refused _ 1 0 _ (not-true _ (c .before .if1 .taken)))
+returns c =
+    check-stops _ 1 0 _ refl (c .before .if1 .taken) (c .answer .ensures)
 
 word-at-requires : tie.Need-word-at-requires
 unfolding whole
@@ -31,10 +31,8 @@ returns-2 : tie.Need-returns-2
 unfolding checkHead whole
 returns-2 c =
     let e = c .before .before .head-ok .ensures ∙ ap headOk (c .before .before .before .word-at .ensures) in
-    c .answer2 .ensures
-    ∙ sym
-    (check-ok _ 1 0 _ (not-false _ (c .before .before .before .before .if1 .left))
-    ∙ check-refused _ 2 0 _ (sym e ∙ not-true _ (c .before .if2 .taken)))
+    check-goes _ 1 0 _ refl (c .before .before .before .before .if1 .left)
+    (check-stops _ 2 0 _ e (c .before .if2 .taken) (c .answer2 .ensures))
 
 answer-requires-3 : tie.Need-answer-requires-3
 answer-requires-3 c κs = search needs
@@ -43,11 +41,9 @@ returns-3 : tie.Need-returns-3
 unfolding checkHead whole
 returns-3 c =
     let e = c .before .before .head-ok .ensures ∙ ap headOk (c .before .before .before .word-at .ensures) in
-    c .answer3 .ensures
-    ∙ sym
-    (check-ok _ 1 0 _ (not-false _ (c .before .before .before .before .if1 .left))
-    ∙ check-ok _ 2 0 _ (sym e ∙ not-false _ (c .before .if2 .left))
-    ∙ check-ok true 3 0 _ refl)
+    check-goes _ 1 0 _ refl (c .before .before .before .before .if1 .left)
+    (check-goes _ 2 0 _ e (c .before .if2 .left)
+    (check-goes true 3 0 _ refl refl (c .answer3 .ensures)))
 
 pub check-head-spec : {M : Type 1} → statement M
 check-head-spec =

@@ -1,7 +1,6 @@
 -- The first wrong module word, else the first wrong mark: what the two searches find.
-use mathlib.Core.Path.{sym, _∙_}
 use native.Mathlib.Omega.{arith}
-use Rattle.setup.proofs.NextLaws.{found-le, each-next, each-refused}
+use Rattle.setup.proofs.NextLaws.{found-le, each-goes, each-stops}
 use borrow.Author.Needs.{needs}
 use Rattle.setup.proofs.check.check_modules.Statement.{statement}
 use Rattle.setup.proofs.check.check_modules.Tie as tie
@@ -23,7 +22,8 @@ answer-requires : tie.Need-answer-requires
 answer-requires c κs = search needs
 
 returns : tie.Need-returns
-returns c = c .answer .ensures ∙ sym (each-refused _ _ _ _ _ (c .before .before .wrong-module .ensures) (c .before .if1 .taken))
+returns c =
+    each-stops _ _ _ _ _ (c .before .before .wrong-module .ensures) (c .before .if1 .taken) (c .answer .ensures)
 
 wrong-mark-requires : tie.Need-wrong-mark-requires
 wrong-mark-requires c κs = search needs
@@ -43,20 +43,16 @@ answer-requires-2 c κs = search needs
 
 returns-2 : tie.Need-returns-2
 returns-2 c =
-    c .answer2 .ensures
-    ∙ sym
-    (each-next _ _ _ _ _ (c .before .before .before .before .wrong-module .ensures) (c .before .before .before .if1 .left)
-    ∙ each-refused _ _ _ _ _ (c .before .before .wrong-mark .ensures) (c .before .if2 .taken))
+    each-goes _ _ _ _ _ (c .before .before .before .before .wrong-module .ensures) (c .before .before .before .if1 .left)
+    (each-stops _ _ _ _ _ (c .before .before .wrong-mark .ensures) (c .before .if2 .taken) (c .answer2 .ensures))
 
 answer-requires-3 : tie.Need-answer-requires-3
 answer-requires-3 c κs = search needs
 
 returns-3 : tie.Need-returns-3
 returns-3 c =
-    c .answer3 .ensures
-    ∙ sym
-    (each-next _ _ _ _ _ (c .before .before .before .before .wrong-module .ensures) (c .before .before .before .if1 .left)
-    ∙ each-next _ _ _ _ _ (c .before .before .wrong-mark .ensures) (c .before .if2 .left))
+    each-goes _ _ _ _ _ (c .before .before .before .before .wrong-module .ensures) (c .before .before .before .if1 .left)
+    (each-goes _ _ _ _ _ (c .before .before .wrong-mark .ensures) (c .before .if2 .left) (c .answer3 .ensures))
 
 pub check-modules-spec : {M : Type 1} → statement M
 check-modules-spec =

@@ -1,9 +1,7 @@
 -- The limits in their turn, then numbers 5 and 6.
-use mathlib.Core.Path.{ap, sym, _∙_}
-use borrow.Author.Tests.{not-true, not-false}
+use mathlib.Core.Path.{ap, _∙_}
 use Rattle.setup.specs.Check.{limitOk, checkWords}
-use Rattle.setup.proofs.VerdictLaws.{check-ok}
-use Rattle.setup.proofs.NextLaws.{check-refused}
+use Rattle.setup.proofs.NextLaws.{check-goes, check-stops}
 use borrow.Author.Needs.{needs}
 use Rattle.setup.proofs.check.check_words.Statement.{statement}
 use Rattle.setup.proofs.check.check_words.Tie as tie
@@ -21,7 +19,7 @@ returns : tie.Need-returns
 unfolding checkWords
 returns c =
     let e = c .before .before .limit-ok .ensures ∙ ap (limitOk _ _) (c .before .before .before .word-at .ensures) in
-    c .answer .ensures ∙ sym (check-refused _ 4 1 _ (sym e ∙ not-true _ (c .before .if1 .taken)))
+    check-stops _ 4 1 _ e (c .before .if1 .taken) (c .answer .ensures)
 
 word-at-requires-2 : tie.Need-word-at-requires-2
 word-at-requires-2 c κs = search needs
@@ -38,8 +36,8 @@ returns-2 c =
     let g = c .before .before .before .before in
     let e = g .before .limit-ok .ensures ∙ ap (limitOk _ _) (g .before .before .word-at .ensures) in
     let h = c .before .before .limit-ok2 .ensures ∙ ap (limitOk _ _) (c .before .before .before .word-at2 .ensures) in
-    c .answer2 .ensures
-    ∙ sym (check-ok _ 4 1 _ (sym e ∙ not-false _ (g .if1 .left)) ∙ check-refused _ 4 2 _ (sym h ∙ not-true _ (c .before .if2 .taken)))
+    check-goes _ 4 1 _ e (g .if1 .left)
+    (check-stops _ 4 2 _ h (c .before .if2 .taken) (c .answer2 .ensures))
 
 check-modules-requires : tie.Need-check-modules-requires
 check-modules-requires c κs = search needs
@@ -50,8 +48,8 @@ returns-3 c =
     let g = c .before .before .before .before in
     let e = g .before .limit-ok .ensures ∙ ap (limitOk _ _) (g .before .before .word-at .ensures) in
     let h = c .before .before .limit-ok2 .ensures ∙ ap (limitOk _ _) (c .before .before .before .word-at2 .ensures) in
-    c .check-modules .ensures
-    ∙ sym (check-ok _ 4 1 _ (sym e ∙ not-false _ (g .if1 .left)) ∙ check-ok _ 4 2 _ (sym h ∙ not-false _ (c .before .if2 .left)))
+    check-goes _ 4 1 _ e (g .if1 .left)
+    (check-goes _ 4 2 _ h (c .before .if2 .left) (c .check-modules .ensures))
 
 pub check-words-spec : {M : Type 1} → statement M
 check-words-spec =

@@ -1,11 +1,11 @@
 -- As long as the search goes on, the marks of the modules before j are right; it stops at the first that is not, or at n.
 use Prim.Native.Nat.{_+_, _-_, _≤_}
-use mathlib.Core.Path.{_≡_, refl, ap, sym, _∙_}
+use mathlib.Core.Path.{_≡_, refl, ap, _∙_}
 use mathlib.Core.Bool.{not}
 use native.Mathlib.Omega.{arith}
 use Rattle.words.specs.Word.{wordAt}
 use Rattle.words.specs.Count.{lowest}
-use Rattle.words.proofs.LowestLaws.{lowest-none, lowest-found, lowest-ends}
+use Rattle.words.proofs.LowestLaws.{lowest-ends, asked-none, asked-found}
 use Rattle.setup.specs.Check.{markOk}
 use borrow.Author.Needs.{needs}
 use Rattle.setup.proofs.check.wrong_mark.Statement.{statement}
@@ -40,20 +40,17 @@ loop-less : tie.Need-loop-less Inv-loop μ-loop
 loop-less c = omega arith
 
 loop-again : tie.Need-loop-again Inv-loop μ-loop
-loop-again c = (
-  omega arith,
-  lowest-none _ _ (c .before .before .before .before .loop .inv .1)
-      (sym (ap not (c .before .mark-ok .ensures ∙ ap (markOk _) (c .before .before .word-at .ensures))) ∙ c .if2 .left),
-)
+loop-again c =
+    let t = c .before .mark-ok .ensures ∙ ap (markOk _) (c .before .before .word-at .ensures) in
+    (omega arith, asked-none _ _ (c .before .before .before .before .loop .inv .1) (ap not t) (c .if2 .left))
 
 returns : tie.Need-returns Inv-loop μ-loop
 returns c = lowest-ends _ _ _ (c .before .loop .inv .1) (c .before .loop .inv .0) (c .if1 .taken)
 
 returns-2 : tie.Need-returns-2 Inv-loop μ-loop
 returns-2 c =
-    lowest-found _ _ _ (c .before .before .before .before .loop .inv .1)
-    (sym (ap not (c .before .mark-ok .ensures ∙ ap (markOk _) (c .before .before .word-at .ensures))) ∙ c .if2 .taken)
-    (c .before .before .before .if1 .left)
+    let t = c .before .mark-ok .ensures ∙ ap (markOk _) (c .before .before .word-at .ensures) in
+    asked-found _ _ _ (c .before .before .before .before .loop .inv .1) (ap not t) (c .if2 .taken) (c .before .before .before .if1 .left)
 
 pub wrong-mark-spec : {M : Type 1} → statement M
 wrong-mark-spec =

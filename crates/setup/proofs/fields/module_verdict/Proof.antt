@@ -1,9 +1,6 @@
 -- The first module with a wrong field, else an entry from n on, else the first wrong mark.
-use mathlib.Core.Path.{sym, _∙_}
 use native.Mathlib.Omega.{arith}
-use borrow.Author.Tests.{not-true, not-false}
-use Rattle.setup.proofs.VerdictLaws.{check-ok}
-use Rattle.setup.proofs.NextLaws.{found-le, check-refused, each-next, each-refused}
+use Rattle.setup.proofs.NextLaws.{found-le, check-goes, check-stops, each-goes, each-stops}
 use borrow.Author.Needs.{needs}
 use Rattle.setup.proofs.fields.module_verdict.Statement.{statement}
 use Rattle.setup.proofs.fields.module_verdict.Tie as tie
@@ -25,7 +22,8 @@ answer-requires : tie.Need-answer-requires
 answer-requires c κs = search needs
 
 returns : tie.Need-returns
-returns c = c .answer .ensures ∙ sym (each-refused _ _ _ _ _ (c .before .before .wrong-fields .ensures) (c .before .if1 .taken))
+returns c =
+    each-stops _ _ _ _ _ (c .before .before .wrong-fields .ensures) (c .before .if1 .taken) (c .answer .ensures)
 
 tidy-requires : tie.Need-tidy-requires
 tidy-requires c κs = search needs
@@ -36,10 +34,8 @@ answer-requires-2 c κs = search needs
 returns-2 : tie.Need-returns-2
 returns-2 c =
     let g = c .before .before .before in
-    c .answer2 .ensures
-    ∙ sym
-    (each-next _ _ _ _ _ (g .before .wrong-fields .ensures) (g .if1 .left)
-    ∙ check-refused _ 5 0 _ (sym (c .before .before .tidy .ensures) ∙ not-true _ (c .before .if2 .taken)))
+    each-goes _ _ _ _ _ (g .before .wrong-fields .ensures) (g .if1 .left)
+    (check-stops _ 5 0 _ (c .before .before .tidy .ensures) (c .before .if2 .taken) (c .answer2 .ensures))
 
 wrong-marks-requires : tie.Need-wrong-marks-requires
 wrong-marks-requires c κs = search needs
@@ -61,11 +57,9 @@ returns-3 : tie.Need-returns-3
 returns-3 c =
     let t = c .before .before .before in
     let g = t .before .before in
-    c .answer3 .ensures
-    ∙ sym
-    (each-next _ _ _ _ _ (g .before .wrong-fields .ensures) (g .if1 .left)
-    ∙ check-ok _ 5 0 _ (sym (t .before .tidy .ensures) ∙ not-false _ (t .if2 .left))
-    ∙ each-refused _ _ _ _ _ (c .before .before .wrong-marks .ensures) (c .before .if3 .taken))
+    each-goes _ _ _ _ _ (g .before .wrong-fields .ensures) (g .if1 .left)
+    (check-goes _ 5 0 _ (t .before .tidy .ensures) (t .if2 .left)
+    (each-stops _ _ _ _ _ (c .before .before .wrong-marks .ensures) (c .before .if3 .taken) (c .answer3 .ensures)))
 
 answer-requires-4 : tie.Need-answer-requires-4
 answer-requires-4 c κs = search needs
@@ -74,11 +68,9 @@ returns-4 : tie.Need-returns-4
 returns-4 c =
     let t = c .before .before .before in
     let g = t .before .before in
-    c .answer4 .ensures
-    ∙ sym
-    (each-next _ _ _ _ _ (g .before .wrong-fields .ensures) (g .if1 .left)
-    ∙ check-ok _ 5 0 _ (sym (t .before .tidy .ensures) ∙ not-false _ (t .if2 .left))
-    ∙ each-next _ _ _ _ _ (c .before .before .wrong-marks .ensures) (c .before .if3 .left))
+    each-goes _ _ _ _ _ (g .before .wrong-fields .ensures) (g .if1 .left)
+    (check-goes _ 5 0 _ (t .before .tidy .ensures) (t .if2 .left)
+    (each-goes _ _ _ _ _ (c .before .before .wrong-marks .ensures) (c .before .if3 .left) (c .answer4 .ensures)))
 
 pub module-verdict-spec : {M : Type 1} → statement M
 module-verdict-spec =

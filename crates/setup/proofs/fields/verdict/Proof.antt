@@ -1,9 +1,9 @@
 -- N and the limits in their turn, then numbers 5 and 6.
-use mathlib.Core.Path.{sym, _∙_}
-use borrow.Author.Tests.{not-true, not-false}
+use mathlib.Core.Path.{refl}
+use borrow.Author.Tests.{not-false}
 use Rattle.setup.specs.Check.{checkFields, setupVerdict}
-use Rattle.setup.proofs.VerdictLaws.{check-ok, between-is}
-use Rattle.setup.proofs.NextLaws.{check-refused}
+use Rattle.setup.proofs.VerdictLaws.{between-is}
+use Rattle.setup.proofs.NextLaws.{check-goes, check-stops}
 use borrow.Author.Needs.{needs}
 use Rattle.setup.proofs.fields.verdict.Statement.{statement}
 use Rattle.setup.proofs.fields.verdict.Tie as tie
@@ -13,7 +13,8 @@ answer-requires c κs = search needs
 
 returns : tie.Need-returns
 unfolding setupVerdict checkFields
-returns c = c .answer .ensures ∙ sym (check-refused _ 2 0 _ (not-true _ (c .before .if1 .taken)))
+returns c =
+    check-stops _ 2 0 _ refl (c .before .if1 .taken) (c .answer .ensures)
 
 answer-requires-2 : tie.Need-answer-requires-2
 answer-requires-2 c κs = search needs
@@ -22,8 +23,8 @@ returns-2 : tie.Need-returns-2
 unfolding setupVerdict checkFields
 returns-2 c =
     let g = c .before .before .before .before in
-    c .answer2 .ensures
-    ∙ sym (check-ok _ 2 0 _ (not-false _ (g .if1 .left)) ∙ check-refused _ 4 1 _ (not-true _ (c .before .if2 .taken)))
+    check-goes _ 2 0 _ refl (g .if1 .left)
+    (check-stops _ 4 1 _ refl (c .before .if2 .taken) (c .answer2 .ensures))
 
 answer-requires-3 : tie.Need-answer-requires-3
 answer-requires-3 c κs = search needs
@@ -33,11 +34,9 @@ unfolding setupVerdict checkFields
 returns-3 c =
     let h = c .before .before .before .before in
     let g = h .before .before .before in
-    c .answer3 .ensures
-    ∙ sym
-    (check-ok _ 2 0 _ (not-false _ (g .if1 .left))
-    ∙ check-ok _ 4 1 _ (not-false _ (h .if2 .left))
-    ∙ check-refused _ 4 2 _ (not-true _ (c .before .if3 .taken)))
+    check-goes _ 2 0 _ refl (g .if1 .left)
+    (check-goes _ 4 1 _ refl (h .if2 .left)
+    (check-stops _ 4 2 _ refl (c .before .if3 .taken) (c .answer3 .ensures)))
 
 module-verdict-requires : tie.Need-module-verdict-requires
 module-verdict-requires c κs = between-is 2 16 _ (not-false _ (c .before .before .before .before .before .before .if1 .left)) .1
@@ -47,11 +46,9 @@ unfolding setupVerdict checkFields
 returns-4 c =
     let h = c .before .before .before .before in
     let g = h .before .before .before in
-    c .module-verdict .ensures
-    ∙ sym
-    (check-ok _ 2 0 _ (not-false _ (g .if1 .left))
-    ∙ check-ok _ 4 1 _ (not-false _ (h .if2 .left))
-    ∙ check-ok _ 4 2 _ (not-false _ (c .before .if3 .left)))
+    check-goes _ 2 0 _ refl (g .if1 .left)
+    (check-goes _ 4 1 _ refl (h .if2 .left)
+    (check-goes _ 4 2 _ refl (c .before .if3 .left) (c .module-verdict .ensures)))
 
 pub verdict-spec : {M : Type 1} → statement M
 verdict-spec =

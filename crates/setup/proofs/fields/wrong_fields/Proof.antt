@@ -1,11 +1,11 @@
 -- As long as the search goes on, the fields of the modules before j are in range; it stops at the first that are not, or at n.
 use Prim.Native.Nat.{_-_, _≤_}
-use mathlib.Core.Path.{_≡_, refl, ap, sym, _∙_}
+use mathlib.Core.Path.{_≡_, refl, ap}
 use mathlib.Core.Bool.{not}
 use native.Mathlib.Omega.{arith}
 use lib.ListN.{getD}
 use Rattle.words.specs.Count.{lowest}
-use Rattle.words.proofs.LowestLaws.{lowest-none, lowest-found, lowest-ends}
+use Rattle.words.proofs.LowestLaws.{lowest-ends, asked-none, asked-found}
 use Rattle.setup.specs.Check.{moduleFits}
 use borrow.Author.Needs.{needs}
 use Rattle.setup.proofs.fields.wrong_fields.Statement.{statement}
@@ -48,7 +48,7 @@ loop-less c = omega arith
 loop-again : tie.Need-loop-again Inv-loop μ-loop
 loop-again c = (
   omega arith,
-  lowest-none _ _ (c .before .before .before .loop .inv .1) (sym (ap not (c .before .module-fits .ensures)) ∙ c .if2 .left),
+  asked-none _ _ (c .before .before .before .loop .inv .1) (ap not (c .before .module-fits .ensures)) (c .if2 .left),
 )
 
 returns : tie.Need-returns Inv-loop μ-loop
@@ -56,7 +56,7 @@ returns c = lowest-ends _ _ _ (c .before .loop .inv .1) (c .before .loop .inv .0
 
 returns-2 : tie.Need-returns-2 Inv-loop μ-loop
 returns-2 c =
-    lowest-found _ _ _ (c .before .before .before .loop .inv .1) (sym (ap not (c .before .module-fits .ensures)) ∙ c .if2 .taken)
+    asked-found _ _ _ (c .before .before .before .loop .inv .1) (ap not (c .before .module-fits .ensures)) (c .if2 .taken)
     (c .before .before .if1 .left)
 
 pub wrong-fields-spec : {M : Type 1} → statement M

@@ -1,12 +1,12 @@
 -- As long as the search goes on, the marks of the modules before j are right; it stops at the first that is not, or at n.
 use Prim.Native.Nat.{_-_, _≤_}
-use mathlib.Core.Path.{_≡_, refl, ap, sym, _∙_}
+use mathlib.Core.Path.{_≡_, refl, ap}
 use mathlib.Core.Bool.{not}
 use native.Mathlib.Omega.{arith}
 use lib.ListN.{getD}
 use Rattle.words.specs.Bits.{bit}
 use Rattle.words.specs.Count.{lowest}
-use Rattle.words.proofs.LowestLaws.{lowest-none, lowest-found, lowest-ends}
+use Rattle.words.proofs.LowestLaws.{lowest-ends, asked-none, asked-found}
 use Rattle.setup.specs.Check.{markFits}
 use borrow.Author.Needs.{needs}
 use Rattle.setup.proofs.fields.wrong_marks.Statement.{statement}
@@ -45,20 +45,16 @@ loop-less c = omega arith
 
 loop-again : tie.Need-loop-again Inv-loop μ-loop
 loop-again c =
-    let e = c .before .before .bit-at .ensures in (
-      omega arith,
-      lowest-none _ _ (c .before .before .before .before .loop .inv .1)
-          (sym (ap not (rw e at (c .before .mark-fits .ensures))) ∙ c .if2 .left),
-    )
+    let t = rw (c .before .before .bit-at .ensures) at (c .before .mark-fits .ensures) in
+    (omega arith, asked-none _ _ (c .before .before .before .before .loop .inv .1) (ap not t) (c .if2 .left))
 
 returns : tie.Need-returns Inv-loop μ-loop
 returns c = lowest-ends _ _ _ (c .before .loop .inv .1) (c .before .loop .inv .0) (c .if1 .taken)
 
 returns-2 : tie.Need-returns-2 Inv-loop μ-loop
 returns-2 c =
-    let e = c .before .before .bit-at .ensures in
-    lowest-found _ _ _ (c .before .before .before .before .loop .inv .1)
-    (sym (ap not (rw e at (c .before .mark-fits .ensures))) ∙ c .if2 .taken) (c .before .before .before .if1 .left)
+    let t = rw (c .before .before .bit-at .ensures) at (c .before .mark-fits .ensures) in
+    asked-found _ _ _ (c .before .before .before .before .loop .inv .1) (ap not t) (c .if2 .taken) (c .before .before .before .if1 .left)
 
 pub wrong-marks-spec : {M : Type 1} → statement M
 wrong-marks-spec =

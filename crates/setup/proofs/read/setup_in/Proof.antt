@@ -1,22 +1,17 @@
 -- After j turns the marks, places and criticalities are those of the first j module words.
-use Prim.Native.Nat.{_+_, _-_, _≤_}
-use mathlib.Core.Path.{_≡_, refl, ap, _∙_}
+use Prim.Native.Nat.{_-_, _≤_}
+use mathlib.Core.Path.{refl}
 use native.Mathlib.Omega.{arith}
-use Rattle.words.specs.Word.{wordAt, field}
 use Rattle.words.specs.Bits.{pack}
 use Rattle.words.specs.Array.{array}
-use Rattle.words.proofs.BitLaws.{pack-step, pack-lt}
-use Rattle.words.proofs.ArrayLaws.{array-step}
-use Rattle.setup.specs.Setup.{setupOf, markIn, placeIn, criticalityIn}
+use Rattle.words.proofs.BitLaws.{packed-lt}
+use Rattle.setup.proofs.LoadLaws.{ModulesRead, modules-step, setup-by}
 use Rattle.setup.proofs.read.setup_in.Statement.{statement}
 use Rattle.setup.proofs.read.setup_in.Tie as tie
 
 abbrev Inv-loop : tie.InvT-loop
 Inv-loop s n p r marks₀ places₀ criticality₀ j₀ marks places criticality j =
-    (j ≤ n)
-    × (marks ≡ pack j (λ k. markIn (wordAt s (3 + k))))
-    × (places ≡ array j (λ k. placeIn (wordAt s (3 + k))))
-    × (criticality ≡ array j (λ k. criticalityIn (wordAt s (3 + k))))
+    (j ≤ n) × ModulesRead s j marks places criticality
 
 abbrev μ-loop : tie.MeasureT-loop
 μ-loop s n p r marks₀ places₀ criticality₀ j₀ marks places criticality j = n - j
@@ -29,7 +24,7 @@ word-at-requires-2 c κs = omega arith
 
 loop-holds : tie.Need-loop-holds Inv-loop μ-loop
 unfolding pack array
-loop-holds c = (omega arith, refl, refl, refl)
+loop-holds c = (omega arith, (refl, refl, refl))
 
 add-word-at : tie.Need-add-word-at Inv-loop μ-loop
 add-word-at c = omega arith
@@ -41,7 +36,7 @@ bit-at-requires : tie.Need-bit-at-requires Inv-loop μ-loop
 bit-at-requires c κs = omega arith
 
 with-bit-requires : tie.Need-with-bit-requires Inv-loop μ-loop
-with-bit-requires c κs = (rw (c .before .before .before .loop .inv .1) (pack-lt _ _), omega arith)
+with-bit-requires c κs = (packed-lt _ _ (c .before .before .before .loop .inv .1 .0), omega arith)
 
 field-requires : tie.Need-field-requires Inv-loop μ-loop
 field-requires c κs = omega arith
@@ -66,19 +61,16 @@ loop-less c = omega arith
 
 loop-again : tie.Need-loop-again Inv-loop μ-loop
 loop-again c =
-    let i = c .before .before .before .before .before .loop .inv in
-    let e = c .before .before .before .word-at3 .ensures in (
-      omega arith,
-      pack-step _ _ (i .1) (c .before .before .bit-at .ensures ∙ ap markIn e) (c .before .with-bit .ensures),
-      array-step _ _ (i .2) (c .field .ensures ∙ ap placeIn e),
-      array-step _ _ (i .3) (ap criticalityIn e),
-    )
+    let w = c .before .before .before in
+    let i = w .before .before .loop .inv .1 in
+    let b = c .before .before .bit-at .ensures in
+    (omega arith, modules-step _ _ i (w .word-at3 .ensures) b (c .before .with-bit .ensures) (c .field .ensures))
 
 returns : tie.Need-returns Inv-loop μ-loop
-unfolding setupOf
 returns c =
-    let e : c .before .loop .j ≡ c .before .before .before .before .before .args .n = omega arith in
-    cc
+    let b = c .before .before in
+    setup-by _ (omega arith) (b .before .before .before .pre .2) (b .before .word-at .ensures) (b .word-at2 .ensures)
+    (c .before .loop .inv .1)
 
 pub setup-in-spec : {M : Type 1} → statement M
 setup-in-spec =
