@@ -1,0 +1,7 @@
+pub mod FlagLaws
+pub mod PageLaws
+pub mod HostLaws
+pub mod CallLaws
+pub mod OpenLaws
+pub mod StepLaws
+pub mod Promise
