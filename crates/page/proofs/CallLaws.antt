@@ -10,7 +10,8 @@ use borrow.Author.Tests.{eq-eqb, ne-eqb}
 use Rattle.words.specs.Word.{wordAt}
 use Rattle.words.specs.Bits.{bit}
 use Rattle.words.proofs.Truth.{cond-true, cond-false, and-false-l, and-false-r, and-true}
-use Rattle.setup.specs.Setup.{setupBytes}
+use Rattle.words.proofs.RunLaws.{word-first}
+use Rattle.setup.specs.Setup.{headWord, sizeIn, setupBytes}
 use Rattle.image.specs.Words.{ownWord, viewIn, rowWord, syndromeWord, counterWord, imageLength}
 use Rattle.image.proofs.ImageWords.{view-back}
 use Rattle.image.proofs.ImageBytes.{setup-length, parts-length, at-own}
@@ -21,7 +22,7 @@ use Rattle.presence.specs.declared.Answer.{Answer}
 use Rattle.presence.specs.declared.State.{State}
 use Rattle.presence.proofs.SmallLaws.{valid-small}
 use Rattle.page.specs.Page.{isPage}
-use Rattle.page.specs.Calls.{PageCalled, pageCalled, withPage}
+use Rattle.page.specs.Calls.{pageCalled, withPage}
 
 -- ---- a call with a page
 
@@ -63,6 +64,10 @@ refused-by number index out g f z = f (ap (λ (x : Called). x .answer .number) (
 -- ---- the view in an image
 
 module _ (st : State) (v : Valid st) where
+  pub image-size : sizeIn (wordAt (imageOf st) 0) ≡ st .setup .n
+  unfolding imageOf setupBytes
+  image-size = ap sizeIn (word-first (headWord (st .setup .n)) _) ∙ omega (arith, valid-small st v .size)
+
   pub image-view : viewIn (wordAt (imageOf st) (st .setup .n + 3)) ≡ st .counters .view
   unfolding imageOf
   image-view =

@@ -3,12 +3,10 @@ use mathlib.Core.Path.{_≡_, ap, ap₂, _∙_, sym}
 use mathlib.Core.Bool.{Bool, not}
 use mathlib.Core.List.{List}
 use Prim.Native.Nat.{ℕ}
-use lib.ListN.{length}
 use lib.Dec.{eqb}
 use borrow.Author.Tests.{eq-eqb, ne-eqb}
 use Rattle.words.specs.Word.{wordAt, putWord}
 use Rattle.words.proofs.Truth.{cond-true, cond-false}
-use Rattle.words.proofs.WordLaws.{length-put}
 use Rattle.page.specs.Flags.{cleared, shared}
 use Rattle.page.specs.Page.{somebodyCharged, raised, pageStepped, pageWritten, interruptOn}
 

@@ -1,8 +1,8 @@
 // The register page: a module's presence as 64 bytes, which the host reads and writes.
 pub mod calls;
-pub mod flags;
+mod flags;
 pub mod host;
-pub mod registers;
+mod registers;
 
 // What the host's calls answer: a word of the page, or the interrupt as 1 or 0; 0 where the call is refused.
 #[repr(C)]

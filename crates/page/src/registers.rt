@@ -8,7 +8,6 @@ use words::bits::pick;
 use words::word::put_word;
 use words::word::word_at;
 ghost use mathlib.Core.Path.{_≡_};
-ghost use mathlib.Core.Bool.{cond};
 ghost use Prim.Native.Nat.{_^_, _≤_, _<_};
 ghost use lib.ListN.{length};
 ghost use Rattle.page.specs.Page.{openedWord, pageOpened, somebodyCharged, raised, pageStepped, pageWritten, interruptOn};

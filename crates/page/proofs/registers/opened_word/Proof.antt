@@ -1,8 +1,4 @@
 -- Word 0 is the full health vector, word 1 the view.
-use mathlib.Core.Path.{ap₂, _∙_}
-use mathlib.Core.Bool.{cond}
-use Prim.Native.Nat.{ℕ}
-use lib.Dec.{eqb}
 use borrow.Author.Needs.{needs}
 use Rattle.page.specs.Page.{openedWord}
 use Rattle.page.proofs.registers.opened_word.Statement.{statement}
