@@ -31,7 +31,7 @@
  * variables and no C library calls, and are re-entrant: calls for different
  * images may run at the same time, in interrupts too.
  * presence_step takes 1,616 bytes of stack at N = 16 on x86-64 (measured),
- * presence_page_step a little more.
+ * presence_page_step 2,096.
  *
  *
  * WORDS, VECTORS
