@@ -51,7 +51,7 @@ tools-test: bench
 	$(TOOLS_TEST)
 
 soak: rust bench
-	$(RUST)/differential 3700000 $(SEED)
+	$(RUST)/differential 2600000 $(SEED)
 	$(RUST)/scripts 100000 $(SEED) $(BENCH)
 
 measure: rust

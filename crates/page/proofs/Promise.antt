@@ -1,170 +1,48 @@
 -- What a page promises beside the equations of its calls.
-use mathlib.Core.Path.{_≡_, refl, ap, _∙_, sym, subst}
+use mathlib.Core.Path.{_≡_, ap, _∙_, sym, subst}
 use mathlib.Core.Logic.{_≢_, ⊎-elim}
-use mathlib.Core.Bool.{Bool, true, false, cond, not, _&&_, _||_}
+use mathlib.Core.Bool.{Bool, true, false, not, _&&_}
 use mathlib.Core.List.{List}
-use Prim.Native.Nat.{ℕ, _+_, _*_, _<_}
+use Prim.Native.Nat.{ℕ, _+_, _<_}
 use native.Mathlib.Omega.{arith}
 use lib.ListN.{length}
 use lib.Dec.{eqb}
-use borrow.Author.Tests.{eq-eqb, ne-eqb, eqb-true}
-use Rattle.words.specs.Word.{wordAt, putWord}
-use Rattle.words.specs.Bits.{bit, b2n}
-use Rattle.words.proofs.Truth.{which, clash, cond-true, cond-false, cond-both, and-true, or-l, or-r}
-use Rattle.words.proofs.WordLaws.{length-put, read-put, read-put-other}
-use Rattle.words.proofs.BitLaws.{bit-pack}
-use Rattle.words.proofs.CountLaws.{any-intro}
+use borrow.Author.Tests.{eq-eqb, ne-eqb}
+use Rattle.words.specs.Word.{wordAt}
+use Rattle.words.specs.Bits.{bit}
+use Rattle.words.proofs.Truth.{which, cond-true, cond-false}
+use Rattle.words.proofs.WordLaws.{read-put, read-put-other}
 use Rattle.setup.specs.Verdict.{isAccepted}
+use Rattle.setup.specs.Setup.{setupOf}
 use Rattle.image.specs.Words.{viewIn}
 use Rattle.image.specs.Check.{checkImage}
 use Rattle.presence.specs.Valid.{Valid}
+use Rattle.presence.specs.Opening.{openOf}
 use Rattle.presence.specs.Step.{stepOf}
 use Rattle.presence.specs.Image.{imageOf, stateOf}
-use Rattle.presence.specs.Calls.{Called, refusedCall, stepCall}
+use Rattle.presence.specs.Calls.{openCall, stepCall}
 use Rattle.presence.specs.declared.State.{State}
 use Rattle.presence.specs.declared.Stepped.{Stepped}
-use Rattle.presence.proofs.StepLaws.{step-valid}
-use Rattle.presence.proofs.CallAnswers.{step-writes, step-passed}
-use Rattle.page.specs.Flags.{joined, cleared, shared}
-use Rattle.page.specs.Page.{isPage, startsWord, somebodyCharged, raised, pageStepped, pageWritten, interruptOn}
-use Rattle.page.specs.Host.{Written, wrote, writeCall}
-use Rattle.page.specs.Calls.{PageCalled, pageCalled, withPage, pageStepCall}
+use Rattle.presence.proofs.ValidLaws.{valid-fits}
+use Rattle.presence.proofs.StepLaws.{step-valid, open-valid}
+use Rattle.presence.proofs.ImageLaws.{load-valid}
+use Rattle.presence.proofs.CallAnswers.{open-writes, open-passed, step-writes, step-passed}
+use Rattle.page.specs.Flags.{cleared}
+use Rattle.page.specs.Page.{isPage, pageOpened, somebodyCharged, raised, pageStepped, pageWritten, interruptOn}
+use Rattle.page.specs.Host.{writeCall}
+use Rattle.page.specs.Calls.{PageCalled, pageCalled, pageOpenCall, pageStepCall}
+use Rattle.page.specs.Promise.{Paged, opens, steps, refused-step, writes, Unnamed, here, stepped, written, Promise}
 use Rattle.page.proofs.CallLaws.{image-view, image-size}
-use Rattle.page.specs.Promise.{Unnamed, here, steps, writes, Promise}
+use Rattle.page.proofs.RaisedLaws.{raised-kept, raised-changed, raised-charged, cleared-kept, turns-on}
+use Rattle.page.proofs.PageWords.{opened-1, written-1, word-0, word-1, word-2, word-3}
+use Rattle.page.proofs.EitherLaws.{lent, goes-on, with-zero, with-either, with-kept, write-either}
+use Rattle.page.proofs.ChargeLaws.{charged-grows}
 
--- ---- flags
-
--- a flag stays where flags are raised
-raised-kept : (flags j : ℕ) (changed charged : Bool) → j < 32 → bit flags j ≡ true → bit (raised flags changed charged) j ≡ true
-unfolding raised joined
-raised-kept flags j changed charged h t =
-    bit-pack 32 (λ i. bit flags i || bit (b2n changed + b2n charged * 2) i) j h ∙ or-l (bit flags j) _ t
-
--- bit 0 of the two, and bit 1
-changed-bit : (charged : Bool) → bit (1 + b2n charged * 2) 0 ≡ true
-unfolding bit
-changed-bit true = refl
-changed-bit false = refl
-
-charged-bit : (changed : Bool) → bit (b2n changed + 1 * 2) 1 ≡ true
-unfolding bit
-charged-bit true = refl
-charged-bit false = refl
-
-raised-changed : (flags : ℕ) (charged : Bool) → bit (raised flags true charged) 0 ≡ true
-unfolding raised joined
-raised-changed flags charged =
-    bit-pack 32 (λ i. bit flags i || bit (1 + b2n charged * 2) i) 0 (omega arith) ∙ or-r (bit flags 0) _ (changed-bit charged)
-
-raised-charged : (flags : ℕ) (changed : Bool) → bit (raised flags changed true) 1 ≡ true
-unfolding raised joined
-raised-charged flags changed =
-    bit-pack 32 (λ i. bit flags i || bit (b2n changed + 1 * 2) i) 1 (omega arith) ∙ or-r (bit flags 1) _ (charged-bit changed)
-
--- a flag that is not named stays
-cleared-kept : (flags value j : ℕ) → j < 32 → bit value j ≡ false → bit flags j ≡ true → bit (cleared flags value) j ≡ true
-unfolding cleared
-cleared-kept flags value j h f t =
-    bit-pack 32 (λ i. bit flags i && not (bit value i)) j h ∙ and-true (bit flags j) (not (bit value j)) t (ap not f)
-
--- a flag that is set and enabled turns the interrupt on
-turns-on : (page : List ℕ) (j : ℕ) → j < 32 → bit (wordAt page 2) j ≡ true → bit (wordAt page 3) j ≡ true → interruptOn page ≡ true
-unfolding interruptOn shared
-turns-on page j h t u = any-intro 32 (λ i. bit (wordAt page 2) i && bit (wordAt page 3) i) j h (and-true (bit (wordAt page 2) j) _ t u)
-
--- ---- the view in an image that was written
-
+-- the view of a state is read back from its image
 view-read : (st : State) → Valid st → stateOf (imageOf st) .counters .view ≡ st .counters .view
 unfolding stateOf
 view-read st v =
     ap (λ (k : ℕ). viewIn (wordAt (imageOf st) (k + 3))) (image-size st v) ∙ image-view st v
-
--- ---- the words after a step
-
-module _ (n before health after : ℕ) (page : List ℕ) (l : length page ≡ 64) where
-  abbrev changes : Bool
-  changes = not (eqb (wordAt page 1) after)
-
-  abbrev flags : ℕ
-  flags = raised (wordAt page 2) changes (somebodyCharged n before health)
-
-  abbrev one : List ℕ
-  one = putWord page 0 health
-
-  abbrev two : List ℕ
-  two = putWord one 1 after
-
-  one-long : length one ≡ 64
-  one-long = length-put page 0 health ∙ l
-
-  two-long : length two ≡ 64
-  two-long = length-put one 1 after ∙ one-long
-
-  stepped-long : length (pageStepped n before health after page) ≡ 64
-  unfolding pageStepped
-  stepped-long = length-put two 2 flags ∙ two-long
-
-  word-0 : wordAt (pageStepped n before health after page) 0 ≡ health
-  unfolding pageStepped
-  word-0 =
-      read-put-other two 2 0 flags (omega (arith, two-long)) (λ e. omega arith) ∙ read-put-other one 1 0 after (omega (arith, one-long)) (λ e. omega arith)
-      ∙ read-put page 0 health (omega arith)
-
-  word-1 : wordAt (pageStepped n before health after page) 1 ≡ after
-  unfolding pageStepped
-  word-1 = read-put-other two 2 1 flags (omega (arith, two-long)) (λ e. omega arith) ∙ read-put one 1 after (omega (arith, one-long))
-
-  word-2 : wordAt (pageStepped n before health after page) 2 ≡ flags
-  unfolding pageStepped
-  word-2 = read-put two 2 flags (omega (arith, two-long))
-
-  word-3 : wordAt (pageStepped n before health after page) 3 ≡ wordAt page 3
-  unfolding pageStepped
-  word-3 =
-      read-put-other two 2 3 flags (omega (arith, two-long)) (λ e. omega arith) ∙ read-put-other one 1 3 after (omega (arith, one-long)) (λ e. omega arith)
-      ∙ read-put-other page 0 3 health (omega arith) (λ e. omega arith)
-
--- ---- what an accepted call with a page is
-
-module _ (passed : Bool) (c : Called) (out page next : List ℕ) where
-  abbrev stops : Bool
-  stops = passed && not (isPage page)
-
-  goes-on : stops ≡ false → withPage passed c out page next ≡ pageCalled c (cond (eqb (c .answer .number) 0) next page)
-  unfolding withPage
-  goes-on f = cond-false _ _ f
-
-  stopped : stops ≡ true → withPage passed c out page next ≡ pageCalled (refusedCall 9 0 out) page
-  unfolding withPage
-  stopped t = cond-true _ _ t
-
-  lent : passed ≡ true → stops ≡ false → length page ≡ 64
-  lent t f =
-      ⊎-elim (λ (p : isPage page ≡ true). eqb-true (length page) 64 p)
-      (λ (p : isPage page ≡ false). clash stops (and-true passed (not (isPage page)) t (ap not p)) f) (which (isPage page))
-
-  with-zero : withPage passed c out page next .call .answer .number ≡ 0 → (stops ≡ false) × (c .answer .number ≡ 0)
-  unfolding refusedCall
-  with-zero z =
-      ⊎-elim
-      (λ (t : stops ≡ true). absurd (nine (ap (λ (x : PageCalled). x .call .answer .number) (sym (stopped t)) ∙ z)))
-      (λ (f : stops ≡ false). (f, ap (λ (x : PageCalled). x .call .answer .number) (sym (goes-on f)) ∙ z))
-      (which stops)
-    where
-      nine : _≡_ {A = ℕ} 9 0 → ⊥
-      nine e = omega arith
-
-  -- the page stays, or it is of 64 bytes and becomes the next
-  with-either : (P : List ℕ → Type 0) → (c .answer .number ≡ 0 → passed ≡ true) → P page → (length page ≡ 64 → P next)
-      → P (withPage passed c out page next .page)
-  with-either P h p q =
-      ⊎-elim (λ (t : stops ≡ true). subst (λ (x : PageCalled). P (x .page)) (sym (stopped t)) p)
-      (λ (f : stops ≡ false). subst (λ (x : PageCalled). P (x .page)) (sym (goes-on f))
-      (⊎-elim
-      (λ (z : eqb (c .answer .number) 0 ≡ true).
-      subst P (sym (cond-true next page z)) (q (lent (h (eqb-true (c .answer .number) 0 z)) f)))
-      (λ (z : eqb (c .answer .number) 0 ≡ false). subst P (sym (cond-false next page z)) p) (which (eqb (c .answer .number) 0))))
-      (which stops)
 
 -- ---- an accepted step
 
@@ -248,19 +126,34 @@ module _ (image read : List ℕ) (controller : ℕ) (out : List ℕ) where
         (ap (λ (x : ℕ). bit x 1) flags-are ∙ ap (λ (b : Bool). bit (raised (wordAt page 2) (not (eqb (wordAt page 1) (s .state .counters .view))) b) 1) t
         ∙ raised-charged (wordAt page 2) _) u
 
--- ---- a flag is lost only by a write that names it
+-- ---- a page shows its module's view
 
--- the page stays, or it is of 64 bytes and is written
-write-either : (page : List ℕ) (offset value : ℕ) (P : List ℕ → Type 0) → P page → (length page ≡ 64 → P (pageWritten offset value page))
-    → P (writeCall page offset value .page)
-unfolding writeCall wrote
-write-either page offset value P p q =
-    ⊎-elim
-    (λ (t : isPage page ≡ true).
-    subst (λ (w : Written). P (w .page)) (sym (cond-true _ _ t))
-    (cond-both (λ (w : Written). P (w .page)) (startsWord offset) _ _
-    (cond-both (λ (w : Written). P (w .page)) (eqb offset 8 || eqb offset 12) _ _ (q (eqb-true (length page) 64 t)) p) p))
-    (λ (f : isPage page ≡ false). subst (λ (w : Written). P (w .page)) (sym (cond-false _ _ f)) p) (which (isPage page))
+opened-view : (setup : List ℕ) (own : ℕ) (out page : List ℕ) → pageOpenCall setup own out page .call .answer .number ≡ 0
+    → wordAt (pageOpenCall setup own out page .page) 1 ≡ stateOf (pageOpenCall setup own out page .call .out) .counters .view
+unfolding pageOpenCall
+opened-view setup own out page z =
+    let c = openCall setup own out in
+    let st = openOf (setupOf setup) own .state in
+    let next = pageOpened (st .setup .n) (st .counters .view) in
+    let (f, n) = with-zero (eqb (c .answer .number) 0) c out page next z in
+    let made = goes-on (eqb (c .answer .number) 0) c out page next f in
+    ap (λ (x : PageCalled). wordAt (x .page) 1) made ∙ ap (λ (x : List ℕ). wordAt x 1) (cond-true next page (eq-eqb (c .answer .number) 0 n))
+    ∙ opened-1 (st .setup .n) (st .counters .view)
+    ∙ sym (ap (λ (x : PageCalled). stateOf (x .call .out) .counters .view) made
+    ∙ ap (λ (x : List ℕ). stateOf x .counters .view) (open-writes setup own out n)
+    ∙ view-read st (open-valid (setupOf setup) own (open-passed setup own out n .1)))
+
+shows : (image page : List ℕ) → Paged image page → wordAt page 1 ≡ stateOf image .counters .view
+unfolding pageStepCall
+shows _ _ (opens setup own out page z) = opened-view setup own out page z
+shows _ _ (steps {image} {page} p read controller out z) = view-word image read controller out page z
+shows image _ (refused-step {page = page} p other read controller out f) =
+    ap (λ (x : List ℕ). wordAt x 1) (with-kept _ (stepCall other read controller out) out page (next other read controller out page) f) ∙ shows image page p
+shows image _ (writes {page = page} p offset value) =
+    write-either page offset value (λ x. wordAt x 1 ≡ stateOf image .counters .view) (shows image page p)
+    (λ l. written-1 offset value page l ∙ shows image page p)
+
+-- ---- a flag is lost only by a write that names it
 
 module _ (j : ℕ) (h : j < 32) where
   abbrev Set : List ℕ → Type 0
@@ -288,14 +181,16 @@ module _ (j : ℕ) (h : j < 32) where
 
   pub stays-set : (page now : List ℕ) → Unnamed j page now → Set page → Set now
   stays-set page _ here t = t
-  stays-set page _ (steps {now} u image read controller out) t = step-kept image read controller out now (stays-set page now u t)
-  stays-set page _ (writes {now} u offset value f) t = write-kept now offset value f (stays-set page now u t)
+  stays-set page _ (stepped {now} u image read controller out) t = step-kept image read controller out now (stays-set page now u t)
+  stays-set page _ (written {now} u offset value f) t = write-kept now offset value f (stays-set page now u t)
 
 pub promise : Promise
 promise = record {
-  health = λ image read controller out page z. health-word image read controller out page z;
-  view = λ image read controller out page z. view-word image read controller out page z;
+  health = health-word;
+  view = view-word;
+  shown = shows;
+  grew = λ image health z. charged-grows (stateOf image .setup) (stateOf image .counters) health (valid-fits (stateOf image) (load-valid image z) .setup);
   kept = λ j page now h u t. stays-set j h page now u t;
-  changed = λ image read controller out page z f u. change-on image read controller out page z f u;
-  charged = λ image read controller out page z c u. charge-on image read controller out page z c u;
+  changed = change-on;
+  charged = charge-on;
 }
