@@ -81,6 +81,9 @@ module _ (image read : List ℕ) (controller : ℕ) (out : List ℕ) where
         goes-on _ (stepCall image read controller out) out page (next page) (zero .0)
         ∙ ap (pageCalled (stepCall image read controller out)) (cond-true (next page) page (eq-eqb _ 0 (zero .1)))
 
+    same-step : after .call ≡ stepCall image read controller out
+    same-step = ap (λ (x : PageCalled). x .call) made
+
     page-is : after .page ≡ next page
     page-is = ap (λ (x : PageCalled). x .page) made
 
@@ -128,20 +131,32 @@ module _ (image read : List ℕ) (controller : ℕ) (out : List ℕ) where
 
 -- ---- a page shows its module's view
 
-opened-view : (setup : List ℕ) (own : ℕ) (out page : List ℕ) → pageOpenCall setup own out page .call .answer .number ≡ 0
-    → wordAt (pageOpenCall setup own out page .page) 1 ≡ stateOf (pageOpenCall setup own out page .call .out) .counters .view
-unfolding pageOpenCall
-opened-view setup own out page z =
-    let c = openCall setup own out in
-    let st = openOf (setupOf setup) own .state in
-    let next = pageOpened (st .setup .n) (st .counters .view) in
-    let (f, n) = with-zero (eqb (c .answer .number) 0) c out page next z in
-    let made = goes-on (eqb (c .answer .number) 0) c out page next f in
-    ap (λ (x : PageCalled). wordAt (x .page) 1) made ∙ ap (λ (x : List ℕ). wordAt x 1) (cond-true next page (eq-eqb (c .answer .number) 0 n))
-    ∙ opened-1 (st .setup .n) (st .counters .view)
-    ∙ sym (ap (λ (x : PageCalled). stateOf (x .call .out) .counters .view) made
-    ∙ ap (λ (x : List ℕ). stateOf x .counters .view) (open-writes setup own out n)
-    ∙ view-read st (open-valid (setupOf setup) own (open-passed setup own out n .1)))
+module _ (setup : List ℕ) (own : ℕ) (out page : List ℕ) (z : pageOpenCall setup own out page .call .answer .number ≡ 0) where
+  abbrev opening : PageCalled
+  opening = pageOpenCall setup own out page
+
+  abbrev fresh : State
+  fresh = openOf (setupOf setup) own .state
+
+  opens-zero : (eqb (openCall setup own out .answer .number) 0 && not (isPage page) ≡ false) × (openCall setup own out .answer .number ≡ 0)
+  unfolding pageOpenCall
+  opens-zero = with-zero _ (openCall setup own out) out page (pageOpened (fresh .setup .n) (fresh .counters .view)) z
+
+  opens-made : opening ≡ pageCalled (openCall setup own out) (pageOpened (fresh .setup .n) (fresh .counters .view))
+  unfolding pageOpenCall
+  opens-made =
+      goes-on _ (openCall setup own out) out page (pageOpened (fresh .setup .n) (fresh .counters .view)) (opens-zero .0)
+      ∙ ap (pageCalled (openCall setup own out)) (cond-true _ page (eq-eqb _ 0 (opens-zero .1)))
+
+  same-opening : opening .call ≡ openCall setup own out
+  same-opening = ap (λ (x : PageCalled). x .call) opens-made
+
+  opened-view : wordAt (opening .page) 1 ≡ stateOf (opening .call .out) .counters .view
+  opened-view =
+      ap (λ (x : PageCalled). wordAt (x .page) 1) opens-made ∙ opened-1 (fresh .setup .n) (fresh .counters .view)
+      ∙ sym (ap (λ (x : PageCalled). stateOf (x .call .out) .counters .view) opens-made
+      ∙ ap (λ (x : List ℕ). stateOf x .counters .view) (open-writes setup own out (opens-zero .1))
+      ∙ view-read fresh (open-valid (setupOf setup) own (open-passed setup own out (opens-zero .1) .1)))
 
 shows : (image page : List ℕ) → Paged image page → wordAt page 1 ≡ stateOf image .counters .view
 unfolding pageStepCall
@@ -186,6 +201,8 @@ module _ (j : ℕ) (h : j < 32) where
 
 pub promise : Promise
 promise = record {
+  same-opening = same-opening;
+  same-step = same-step;
   health = health-word;
   view = view-word;
   shown = shows;

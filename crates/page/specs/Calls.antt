@@ -27,7 +27,7 @@ withPage passed c out page next =
     cond (passed && not (isPage page)) (pageCalled (refusedCall 9 0 out) page)
     (pageCalled c (cond (eqb (c .answer .number) 0) next page))
 
--- opening: 1 to 6, 7, 9 for the output or the page
+-- opening: 1 to 6, 7, 9 for the output or the page; no number of an opening is above 9, so a page that alone is wrong is seen where all else passed
 unfoldable pub pageOpenCall : List ℕ → ℕ → List ℕ → List ℕ → PageCalled
 pageOpenCall setup own out page =
     let c = openCall setup own out in

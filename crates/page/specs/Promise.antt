@@ -12,6 +12,7 @@ use Rattle.words.specs.Count.{any}
 use Rattle.rules.specs.Account.{countersOf}
 use Rattle.image.specs.Check.{checkImage}
 use Rattle.presence.specs.Image.{stateOf}
+use Rattle.presence.specs.Calls.{openCall, stepCall}
 use Rattle.page.specs.Page.{somebodyCharged, interruptOn}
 use Rattle.page.specs.Host.{writeCall}
 use Rattle.page.specs.Calls.{pageOpenCall, pageStepCall}
@@ -37,6 +38,11 @@ pub data Unnamed (j : ℕ) (page : List ℕ) : List ℕ → Type 0 where
       → Unnamed j page (writeCall now offset value .page)
 
 pub record Promise : Type 0 where
+  -- An accepted call with a page is the call without it, so what is proved of images (agreement/specs/Images.antt) holds of these too.
+  pub same-opening : (setup : List ℕ) (own : ℕ) (out page : List ℕ) → pageOpenCall setup own out page .call .answer .number ≡ 0
+      → pageOpenCall setup own out page .call ≡ openCall setup own out
+  pub same-step : (image read : List ℕ) (controller : ℕ) (out page : List ℕ) → pageStepCall image read controller out page .call .answer .number ≡ 0
+      → pageStepCall image read controller out page .call ≡ stepCall image read controller out
   -- Words 0 and 1 are the health vector that an accepted step answers and the view in the image that it leaves.
   pub health : (image read : List ℕ) (controller : ℕ) (out page : List ℕ) → pageStepCall image read controller out page .call .answer .number ≡ 0
       → wordAt (pageStepCall image read controller out page .page) 0 ≡ pageStepCall image read controller out page .call .answer .health
