@@ -3,20 +3,20 @@
 #   make -f harness/c.mk PRESENCE_LIB=folder check check-asan firmware
 #   make -f harness/c.mk PRESENCE_LIB=folder measure
 #
-# PRESENCE_LIB   folder of libpresence.a
+# PRESENCE_LIB   folder of libgirmaut.a
 # PRESENCE_LIBS  further linker arguments that the archive needs, if any
 # CALLS          files of calls
 # C_BUILD        folder for what is built here
 
 PRESENCE_LIB ?= target/staticlib
 PRESENCE_LIBS ?=
-CALLS ?= harness/data/calls.txt harness/data/own-calls.txt
+CALLS ?= harness/data/calls.txt harness/data/own-calls.txt harness/data/e01-calls.txt
 C_BUILD ?= target/c
 
 C_FLAGS = -std=c99 -Wall -Wextra -Werror -Iinclude
-C_LINK = -L$(PRESENCE_LIB) -lpresence $(PRESENCE_LIBS)
-C_ARCHIVE = $(PRESENCE_LIB)/libpresence.a
-C_CHECK = harness/c/check.c harness/c/plain.c
+C_LINK = -L$(PRESENCE_LIB) -lgirmaut $(PRESENCE_LIBS)
+C_ARCHIVE = $(PRESENCE_LIB)/libgirmaut.a
+C_CHECK = harness/c/check.c harness/c/plain.c harness/c/plain_page.c
 C_HEADERS = include/presence.h harness/c/plain.h
 
 .PHONY: check check-asan check-valgrind header firmware measure c-all

@@ -6,7 +6,7 @@
  * learns from it which modules were healthy and which still count as members
  * (the view).
  *
- * Five functions:
+ * Five functions of a module:
  *
  *   presence_check_setup   tests a setup
  *   presence_open          setup and own number  -> image of a fresh module
@@ -14,12 +14,24 @@
  *   presence_save          image                 -> the same image, tested
  *   presence_outgoing      image                 -> word to put on the bus
  *
+ * Five more for a module whose host reads its presence from a register page:
+ *
+ *   presence_page_open       presence_open, and writes the page
+ *   presence_page_step       presence_step, and brings the page up to date
+ *   presence_page_read       a word of the page, for the host
+ *   presence_page_write      the host's write of flags or enable
+ *   presence_page_interrupt  whether the interrupt to the host is on
+ *
+ * All are in libgirmaut.a (make library); libpresence.a (rt staticlib
+ * presence) has the first five alone.
+ *
  * A module's state is its image, a block of bytes that the caller keeps.
  * Nothing is kept between calls: the result of a call and the bytes it writes
  * follow from its arguments alone.  The functions use no heap, no static
  * variables and no C library calls, and are re-entrant: calls for different
  * images may run at the same time, in interrupts too.
- * presence_step takes 1,616 bytes of stack at N = 16 on x86-64 (measured).
+ * presence_step takes 1,616 bytes of stack at N = 16 on x86-64 (measured),
+ * presence_page_step 2,096.
  *
  *
  * WORDS, VECTORS
@@ -84,11 +96,30 @@
  * 0x50000000 with the N lowest bits set.
  *
  *
+ * PAGE: 16 words, PRESENCE_PAGE_BYTES
+ *
+ *   offset  word  content
+ *   0       0     health vector of the latest step; all ones when opened
+ *   4       1     the module's view after the latest step or the opening
+ *   8       2     flags: bit 0 the view changed, bit 1 somebody was charged
+ *   12      3     enable
+ *   16..60  4-15  0
+ *
+ * A step sets flag 0 if the view that it leaves differs from word 1 of the
+ * page that it is lent, and flag 1 if a module that was in the view before the
+ * step has health 0 in it.  Flags stay until the host clears them: a write of
+ * word 2 clears the flags that are written as ones.  A write of word 3 is
+ * stored whole.  A step leaves enable, words 4 to 15 and the other bits of
+ * word 2 as they are.  The interrupt is on exactly while flags and enable
+ * share a set bit.  So a flag is lost only by a write that names it, and where
+ * its bit of enable is set a change turns the interrupt on.
+ *
+ *
  * ANSWERS
  *
  * number is 0 if the call is accepted.  Otherwise the call is refused: it
- * writes nothing, not even a part of the output, and answers health 0 (word 0
- * for presence_outgoing).  Of several reasons the lowest number is answered.
+ * writes nothing, not even a part of the output or of the page, and answers
+ * health 0, or word 0.  Of several reasons the lowest number is answered.
  * index is a word index from 0 in the setup or image that was passed, and
  * names the first word that is wrong for this number.
  *
@@ -116,13 +147,17 @@
  *        or over 0 with penalty 0; a module in the view     reward with
  *        with penalty over P, or out of it without          penalty 0: the
  *                                                           reward word)
- *    9   read not of N words, or output not of 4N+6 words   0
- *        (a length that is no multiple of 4 included)
+ *    9   read not of N words, output not of 4N+6 words, or  0
+ *        page not of 16 (a length that is no multiple of
+ *        4 included)
  *   10   controller has a bit at N or above                 0
  *   11   the outgoing word of the step would not be heard   0
  *        by rule; no arguments are known that give this
+ *   17   byte offset that is not the start of one of the    0
+ *        page's 16 words
+ *   18   write outside words 2 and 3 of the page            0
  *
- * Higher numbers do not occur in these functions.
+ * Other numbers do not occur in these functions.
  *
  *
  * POINTERS AND LENGTHS
@@ -132,12 +167,15 @@
  * 1, 3 or 9.  Length 0 is allowed everywhere, but the pointer must still be a
  * valid one: pass any valid pointer, for example that of an array, not NULL.
  *
- * The output must not overlap an input: not the setup, the image or the read
- * of the same call.  Keep two images and swap them after an accepted step.
+ * Output and page must not overlap an input of the same call, that is the
+ * setup, the image or the read, nor one another.  Keep two images and swap
+ * them after an accepted step; the page stays where it is.
  * Inputs are only read, and may overlap one another.
  *
- * An accepted call of presence_open, presence_step or presence_save writes
- * all 4N+6 words of the output.
+ * An accepted call of presence_open, presence_step or presence_save, with a
+ * page or without, writes all 4N+6 words of the output.  presence_page_open
+ * writes all 16 words of the page, presence_page_step words 0 to 2,
+ * presence_page_write the one word.
  */
 #ifndef PRESENCE_H
 #define PRESENCE_H
@@ -162,6 +200,15 @@ extern "C" {
 #define PRESENCE_MAX_IMAGE_BYTES 280u
 #define PRESENCE_MAX_READ_BYTES 64u
 
+/* The page: its length, the offsets of its words, and the flags. */
+#define PRESENCE_PAGE_BYTES 64u
+#define PRESENCE_PAGE_HEALTH 0u
+#define PRESENCE_PAGE_VIEW 4u
+#define PRESENCE_PAGE_FLAGS 8u
+#define PRESENCE_PAGE_ENABLE 12u
+#define PRESENCE_PAGE_VIEW_CHANGED 1u
+#define PRESENCE_PAGE_CHARGED 2u
+
 /*
  * The view in an accepted image of n modules, given as a pointer to uint8_t:
  * bits 15..0 of word n+3.  Uses its arguments twice.
@@ -183,19 +230,21 @@ extern "C" {
 #define PRESENCE_WRONG_BUFFER 9u
 #define PRESENCE_WRONG_CONTROLLER 10u
 #define PRESENCE_WRONG_OUTGOING 11u
+#define PRESENCE_WRONG_OFFSET 17u
+#define PRESENCE_WRONG_WRITE 18u
 
-/* Answer of all functions but presence_outgoing. */
+/* Answer of the functions that do not answer a presence_word. */
 typedef struct presence_answer {
     uint32_t number; /* 0 accepted, else the reason for the refusal */
     uint32_t index;  /* word index, see the table; 0 if accepted */
     uint32_t health; /* after an accepted step the health vector, else 0 */
 } presence_answer;
 
-/* Answer of presence_outgoing. */
+/* Answer of presence_outgoing and of the host's functions on a page. */
 typedef struct presence_word {
     uint32_t number; /* 0 accepted, else the reason for the refusal */
     uint32_t index;  /* word index, see the table; 0 if accepted */
-    uint32_t word;   /* the word to put on the bus, 0 if refused */
+    uint32_t word;   /* the word asked for, 0 if refused */
 } presence_word;
 
 /*
@@ -267,6 +316,65 @@ presence_answer presence_save(const uint8_t *state, size_t state_len,
  * The bus carries the word as 32 bits.
  */
 presence_word presence_outgoing(const uint8_t *state, size_t state_len);
+
+/*
+ * Opens a module that has a page: presence_open, and the page of a fresh
+ * module (health all ones, its view, no flags, enable 0).
+ *   page, page_len     the page, PRESENCE_PAGE_BYTES; its old bytes are lost
+ *   the rest           as for presence_open
+ * Order of the checks: 1, 2, 3, 4, 5, 6 (setup), 7 (own, index 0),
+ * 9 (output and page).
+ * Refused: output and page stay as they were.
+ */
+presence_answer presence_page_open(const uint8_t *setup, size_t setup_len,
+                                   uint32_t own, uint8_t *out, size_t out_len,
+                                   uint8_t *page, size_t page_len);
+
+/*
+ * Makes the step of one round of a module that has a page: presence_step, and
+ * the page is brought up to date.  Image and answer are those of
+ * presence_step.
+ *   page, page_len     the page, PRESENCE_PAGE_BYTES; any bytes are taken
+ *   the rest           as for presence_step
+ * Order of the checks: 1, 2, 3, 4, 5, 6, 7, 8 (image), 9 (read, output and
+ * page), 10 (controller), 11 (outgoing word).
+ * Refused: output and page stay as they were, and no step has been made.
+ */
+presence_answer presence_page_step(const uint8_t *state, size_t state_len,
+                                   const uint8_t *read, size_t read_len,
+                                   uint32_t controller,
+                                   uint8_t *out, size_t out_len,
+                                   uint8_t *page, size_t page_len);
+
+/*
+ * A word of the page.
+ *   page, page_len     the page, PRESENCE_PAGE_BYTES
+ *   offset             byte offset of the word: 0, 4, 8 .. 60
+ * Order of the checks: 9, 17.
+ * Writes nothing.
+ */
+presence_word presence_page_read(const uint8_t *page, size_t page_len,
+                                 uint32_t offset);
+
+/*
+ * The host's write of a word of the page.  The word answered is 1 if the
+ * interrupt is on after the write, else 0.
+ *   page, page_len     the page, PRESENCE_PAGE_BYTES
+ *   offset             PRESENCE_PAGE_FLAGS or PRESENCE_PAGE_ENABLE
+ *   value              the flags to clear, or the new enable word
+ * Order of the checks: 9, 17, 18.
+ * Refused: the page stays as it was.
+ */
+presence_word presence_page_write(uint8_t *page, size_t page_len,
+                                  uint32_t offset, uint32_t value);
+
+/*
+ * Whether the interrupt is on: the word is 1 or 0.
+ *   page, page_len     the page, PRESENCE_PAGE_BYTES
+ * The only check is 9.
+ * Writes nothing.
+ */
+presence_word presence_page_interrupt(const uint8_t *page, size_t page_len);
 
 #ifdef __cplusplus
 }

@@ -2,12 +2,13 @@
  * card.c - a card's loop around presence.h, as firmware would have it, and a
  * simulated bus with four such cards.
  *
- * The first part is the firmware of one card.  The second part stands for the
- * hardware: it carries the words, lets card 3 fall silent for some rounds and
- * restarts card 2.
+ * The first part is the firmware of one card.  It keeps a register page, by
+ * which the host learns of presence.  The second part is the host, which is
+ * connected to card 1.  The third part stands for the hardware: it carries the
+ * words, lets card 3 fall silent for some rounds and restarts card 2.
  *
- * Build, with libpresence.a in the folder LIB:
- *   gcc -std=c99 -O2 -Iinclude examples/firmware/card.c -LLIB -lpresence -o card
+ * Build, with libgirmaut.a in the folder LIB:
+ *   gcc -std=c99 -O2 -Iinclude examples/firmware/card.c -LLIB -lgirmaut -o card
  *
  * Prints what happens; exit status 0 if no call was refused and all cards
  * agreed in every round.
@@ -47,6 +48,7 @@ struct card {
     uint32_t word;                         /* word to send in this round */
     uint32_t health;                       /* of the latest step */
     uint32_t outputs;                      /* whose outputs this card drives */
+    uint32_t line;                         /* interrupt line to the host */
     unsigned refused;                      /* calls refused so far */
 
     /* Buffer of the bus controller: latest word from each card, and a bit if
@@ -54,8 +56,9 @@ struct card {
     uint8_t received[PRESENCE_READ_BYTES(N)];
     uint32_t valid;
 
-    /* Memory that a restart leaves. */
+    /* Memory that a restart leaves; the host has access to the page. */
     uint8_t saved[PRESENCE_IMAGE_BYTES(N)];
+    uint8_t page[PRESENCE_PAGE_BYTES];
 };
 
 static uint32_t card_view(const struct card *c)
@@ -90,8 +93,40 @@ static void act_on_view(struct card *c)
         c->outputs |= EVERYBODY & ~view;
 }
 
-/* Power on.  Goes on from the saved state if it is accepted and is of this
-   setup and slot (bits 20..16 of the word after the setup), else opens. */
+/* The interrupt line follows the page. */
+static void set_line(struct card *c)
+{
+    presence_word w = presence_page_interrupt(c->page, sizeof c->page);
+
+    if (w.number != PRESENCE_ACCEPTED)
+        c->refused++;
+    c->line = w.word;
+}
+
+/* The host's accesses to the page, word by word. */
+static uint32_t page_read(struct card *c, uint32_t offset)
+{
+    presence_word w = presence_page_read(c->page, sizeof c->page, offset);
+
+    if (w.number != PRESENCE_ACCEPTED)
+        c->refused++;
+    return w.word;
+}
+
+static void page_write(struct card *c, uint32_t offset, uint32_t value)
+{
+    presence_word w = presence_page_write(c->page, sizeof c->page, offset,
+                                          value);
+
+    if (w.number != PRESENCE_ACCEPTED)
+        c->refused++;
+    else
+        c->line = w.word;
+}
+
+/* Power on.  Goes on from the saved state and the page if the state is
+   accepted and is of this setup and slot (bits 20..16 of the word after the
+   setup), else opens both. */
 static void card_start(struct card *c, uint32_t own)
 {
     presence_answer a;
@@ -103,12 +138,13 @@ static void card_start(struct card *c, uint32_t own)
     if (a.number != PRESENCE_ACCEPTED ||
         memcmp(c->saved, setup, sizeof setup) != 0 ||
         (c->saved[sizeof setup + 1u] & 0x1Fu) != own) {
-        a = presence_open(setup, sizeof setup, own, c->image[0],
-                          sizeof c->image[0]);
+        a = presence_page_open(setup, sizeof setup, own, c->image[0],
+                               sizeof c->image[0], c->page, sizeof c->page);
         if (a.number != PRESENCE_ACCEPTED)
             c->refused++;
     }
     act_on_view(c);
+    set_line(c);
 }
 
 /* Power goes: the state goes into the memory that stays. */
@@ -142,13 +178,14 @@ static void card_begin_round(struct card *c)
 static void card_step(struct card *c)
 {
     unsigned next = 1u - c->current;
-    presence_answer a = presence_step(c->image[c->current],
-                                      sizeof c->image[0], c->received,
-                                      sizeof c->received, c->valid,
-                                      c->image[next], sizeof c->image[0]);
+    presence_answer a = presence_page_step(c->image[c->current],
+                                           sizeof c->image[0], c->received,
+                                           sizeof c->received, c->valid,
+                                           c->image[next], sizeof c->image[0],
+                                           c->page, sizeof c->page);
 
     if (a.number != PRESENCE_ACCEPTED) {
-        c->refused++; /* the current image stays the state */
+        c->refused++; /* the current image stays the state, the page as it is */
         return;
     }
     c->current = next;
@@ -156,11 +193,8 @@ static void card_step(struct card *c)
     if (has_send_mark(c->own))
         take_word(c); /* the word of this step goes out in this round */
     act_on_view(c);
+    set_line(c);
 }
-
-/* ================= simulated bus ================= */
-
-#define ROUNDS 40u
 
 static struct card cards[N];
 
@@ -175,6 +209,37 @@ static const char *printed(uint32_t vector)
         text[turn][j] = (vector >> j & 1) ? '1' : '0';
     return text[turn];
 }
+
+/* ================= host ================= */
+
+/* Asks card 1 to interrupt on either flag. */
+static void host_start(void)
+{
+    page_write(&cards[0], PRESENCE_PAGE_ENABLE,
+               PRESENCE_PAGE_VIEW_CHANGED | PRESENCE_PAGE_CHARGED);
+}
+
+/* While the line is on: takes the flags, and clears those that it took. */
+static void host_serve(uint32_t round)
+{
+    struct card *c = &cards[0];
+    uint32_t flags;
+
+    while (c->line != 0) {
+        flags = page_read(c, PRESENCE_PAGE_FLAGS);
+        page_write(c, PRESENCE_PAGE_FLAGS, flags);
+        printf("round %2u: interrupt to the host,%s%s health %s, view %s\n",
+               (unsigned)round,
+               flags & PRESENCE_PAGE_VIEW_CHANGED ? " view changed," : "",
+               flags & PRESENCE_PAGE_CHARGED ? " somebody charged," : "",
+               printed(page_read(c, PRESENCE_PAGE_HEALTH)),
+               printed(page_read(c, PRESENCE_PAGE_VIEW)));
+    }
+}
+
+/* ================= simulated bus ================= */
+
+#define ROUNDS 40u
 
 /* Card 3 is silent in rounds 5 and 6 and again from 20 to 26. */
 static int silent(uint32_t card, uint32_t round)
@@ -199,8 +264,8 @@ static void send(uint32_t j, uint32_t round)
     }
 }
 
-/* Memory is lost; the saved state and the bus controller's buffer stay.  It
-   all takes place between two rounds, so the card misses no step. */
+/* Memory is lost; the saved state, the page and the bus controller's buffer
+   stay.  It all takes place between two rounds, so the card misses no step. */
 static void restart(struct card *c)
 {
     struct card kept = *c;
@@ -209,6 +274,7 @@ static void restart(struct card *c)
     memset(c, 0xFF, sizeof *c);
     memcpy(c->received, kept.received, sizeof c->received);
     memcpy(c->saved, kept.saved, sizeof c->saved);
+    memcpy(c->page, kept.page, sizeof c->page);
     c->valid = kept.valid;
     c->health = kept.health;
     c->refused = kept.refused;
@@ -281,14 +347,16 @@ static void print_changes(uint32_t round)
         }
 }
 
-/* All cards have the same health vector and view. */
+/* All cards have the same health vector and view, on their pages too. */
 static int all_agree(void)
 {
     uint32_t i;
 
-    for (i = 1; i < N; i++)
+    for (i = 0; i < N; i++)
         if (cards[i].health != cards[0].health ||
-            card_view(&cards[i]) != card_view(&cards[0]))
+            card_view(&cards[i]) != card_view(&cards[0]) ||
+            page_read(&cards[i], PRESENCE_PAGE_HEALTH) != cards[0].health ||
+            page_read(&cards[i], PRESENCE_PAGE_VIEW) != card_view(&cards[0]))
             return 0;
     return 1;
 }
@@ -312,11 +380,13 @@ int main(void)
     int agreed = 1;
 
     open_cards();
+    host_start();
     for (round = 1; round <= ROUNDS; round++) {
         disturb(round);
         play(round);
         agreed = all_agree() && agreed;
         print_changes(round);
+        host_serve(round);
     }
     agreed = all_driven() && agreed;
     printf("%u rounds, %s\n", ROUNDS,

@@ -1,14 +1,14 @@
 /*
  * check.c - tests the functions of presence.h.
  *
- *   check [CALLS ...]  files of calls, default harness/data/calls.txt and
- *                      harness/data/own-calls.txt
+ *   check [CALLS ...]  files of calls, default harness/data/calls.txt,
+ *                      own-calls.txt and e01-calls.txt beside it
  *
  * Each call is made with every block in memory of exactly its length, at
  * changing addresses (all of 0..7 modulo 8).  After each call the inputs and
- * the bytes around the output must be as before, and after a refused call the
- * output too.  Results are compared with plain.c, and where a test knows the
- * answer from document 01, with that.
+ * the bytes around output and page must be as before, and after a refused call
+ * output and page too.  Results are compared with plain.c and plain_page.c, and
+ * where a test knows the answer from document 01 or 02, with that.
  *
  * Prints one line per group with the number of calls and of differences;
  * exit status 0 only if there are no differences.  Answer 11 cannot be
@@ -23,15 +23,15 @@
 
 #define MAX_N PRESENCE_MAX_MODULES
 #define IMAGE_MAX PRESENCE_MAX_IMAGE_BYTES
-#define OUT_MAX 1024 /* longest output that a test lends */
-#define GUARD 16     /* bytes watched on each side of the output */
+#define OUT_MAX 1024 /* longest output or page that a test lends */
+#define GUARD 16     /* bytes watched on each side of output and page */
 #define COUNT(array) (sizeof (array) / sizeof (array)[0])
 
 /* ---- counting and reporting ---- */
 
 static const char *group_name;
 static unsigned long calls, differences, all_calls, all_differences;
-static unsigned long answered[12]; /* calls of the library by answer number */
+static unsigned long answered[19]; /* calls of the library by answer number */
 
 static void begin(const char *name)
 {
@@ -107,7 +107,10 @@ static uint32_t ones(uint32_t n)
 
 /* ---- one call ---- */
 
-enum op { SETUP, OPEN, STEP, SAVE, OUTGOING };
+enum op {
+    SETUP, OPEN, STEP, SAVE, OUTGOING,
+    PAGE_OPEN, PAGE_STEP, PAGE_READ, PAGE_WRITE, INTERRUPT
+};
 
 struct call {
     enum op op;
@@ -115,14 +118,18 @@ struct call {
     size_t in_len;
     const uint8_t *read;
     size_t read_len;
-    uint32_t argument; /* own number or controller bits */
+    uint32_t argument; /* own number, controller bits or offset */
     size_t out_len;
+    const uint8_t *page; /* what the lent page holds */
+    size_t page_len;
+    uint32_t value; /* what the host writes */
 };
 
 struct result {
     uint32_t number, index;
     uint32_t value; /* health or word */
     uint8_t out[OUT_MAX];
+    uint8_t page[OUT_MAX];
 };
 
 /* A block of exactly len bytes at an address of off modulo 8. */
@@ -154,24 +161,43 @@ struct functions {
                             uint32_t, uint8_t *, size_t);
     presence_answer (*save)(const uint8_t *, size_t, uint8_t *, size_t);
     presence_word (*outgoing)(const uint8_t *, size_t);
+    presence_answer (*page_open)(const uint8_t *, size_t, uint32_t, uint8_t *,
+                                 size_t, uint8_t *, size_t);
+    presence_answer (*page_step)(const uint8_t *, size_t, const uint8_t *,
+                                 size_t, uint32_t, uint8_t *, size_t,
+                                 uint8_t *, size_t);
+    presence_word (*page_read)(const uint8_t *, size_t, uint32_t);
+    presence_word (*page_write)(uint8_t *, size_t, uint32_t, uint32_t);
+    presence_word (*page_interrupt)(const uint8_t *, size_t);
 };
 
 static const struct functions of_library = {
     presence_check_setup, presence_open, presence_step, presence_save,
-    presence_outgoing
+    presence_outgoing, presence_page_open, presence_page_step,
+    presence_page_read, presence_page_write, presence_page_interrupt
 };
 
 static const struct functions of_plain = {
-    plain_check_setup, plain_open, plain_step, plain_save, plain_outgoing
+    plain_check_setup, plain_open, plain_step, plain_save, plain_outgoing,
+    plain_page_open, plain_page_step, plain_page_read, plain_page_write,
+    plain_page_interrupt
 };
 
-/* Makes the call; an outgoing word is answered in the place of health. */
-static presence_answer make(const struct functions *f, const struct call *c,
-                            uint8_t *out)
+/* The word in the place of health. */
+static presence_answer of_word(presence_word w)
 {
-    presence_answer a = {0, 0, 0};
-    presence_word w;
+    presence_answer a;
 
+    a.number = w.number;
+    a.index = w.index;
+    a.health = w.word;
+    return a;
+}
+
+/* Makes the call, on the output and the page lent. */
+static presence_answer make(const struct functions *f, const struct call *c,
+                            uint8_t *out, uint8_t *page)
+{
     switch (c->op) {
     case SETUP:
         return f->check_setup(c->in, c->in_len);
@@ -183,13 +209,21 @@ static presence_answer make(const struct functions *f, const struct call *c,
     case SAVE:
         return f->save(c->in, c->in_len, out, c->out_len);
     case OUTGOING:
-        w = f->outgoing(c->in, c->in_len);
-        a.number = w.number;
-        a.index = w.index;
-        a.health = w.word;
+        return of_word(f->outgoing(c->in, c->in_len));
+    case PAGE_OPEN:
+        return f->page_open(c->in, c->in_len, c->argument, out, c->out_len,
+                            page, c->page_len);
+    case PAGE_STEP:
+        return f->page_step(c->in, c->in_len, c->read, c->read_len, c->argument,
+                            out, c->out_len, page, c->page_len);
+    case PAGE_READ:
+        return of_word(f->page_read(page, c->page_len, c->argument));
+    case PAGE_WRITE:
+        return of_word(f->page_write(page, c->page_len, c->argument, c->value));
+    case INTERRUPT:
         break;
     }
-    return a;
+    return of_word(f->page_interrupt(page, c->page_len));
 }
 
 /* Number, index, and health or word. */
@@ -226,34 +260,67 @@ static void same_outside(const uint8_t *bytes, size_t out_len, uint8_t pattern,
     }
 }
 
+/* The same of a page, which holds what the call gave; the host's questions do
+   not write at all. */
+static void same_outside_page(const uint8_t *bytes, const struct call *c,
+                              uint8_t pattern, int accepted)
+{
+    int asks = c->op == PAGE_READ || c->op == INTERRUPT;
+    size_t i;
+
+    for (i = 0; i < GUARD; i++)
+        if (bytes[i] != pattern || bytes[GUARD + c->page_len + i] != pattern) {
+            differ("byte written outside the page", i, 0);
+            break;
+        }
+    if ((!accepted || asks) && c->page_len > 0 &&
+        memcmp(bytes + GUARD, c->page, c->page_len) != 0)
+        differ("page written by a refused call or by a question", 1, 0);
+}
+
+/* A block with a pattern before, in and after a lent buffer of len bytes. */
+static struct block lent_block(size_t len, size_t off, uint8_t pattern)
+{
+    struct block b = block(NULL, len + 2 * GUARD, off);
+
+    memset(b.bytes, pattern, len + 2 * GUARD);
+    return b;
+}
+
 static void place_call(const struct call *c, size_t in_off, size_t read_off,
                        size_t out_off, struct result *r)
 {
     static uint8_t pattern = 0x5A;
     struct block in = block(c->in, c->in_len, in_off);
     struct block read = block(c->read, c->read_len, read_off);
-    struct block out = block(NULL, c->out_len + 2 * GUARD, out_off);
+    struct block out, page;
     struct call placed = *c;
     presence_answer a;
 
     pattern = (uint8_t)(pattern * 5 + 1);
-    memset(out.bytes, pattern, c->out_len + 2 * GUARD);
+    out = lent_block(c->out_len, out_off, pattern);
+    page = lent_block(c->page_len, (in_off + out_off) % 8, pattern);
+    if (c->page_len > 0)
+        memcpy(page.bytes + GUARD, c->page, c->page_len);
     placed.in = in.bytes;
     placed.read = read.bytes;
     calls++;
-    a = make(&of_library, &placed, out.bytes + GUARD);
-    if (a.number < 12)
+    a = make(&of_library, &placed, out.bytes + GUARD, page.bytes + GUARD);
+    if (a.number < COUNT(answered))
         answered[a.number]++;
     same_inputs(c, &placed);
     same_outside(out.bytes, c->out_len, pattern, a.number == 0);
+    same_outside_page(page.bytes, c, pattern, a.number == 0);
     if (a.number != 0)
         same("health or word of a refused call", a.health, 0);
 
     set_answer(r, a);
     memcpy(r->out, out.bytes + GUARD, c->out_len);
+    memcpy(r->page, page.bytes + GUARD, c->page_len);
     free(in.memory);
     free(read.memory);
     free(out.memory);
+    free(page.memory);
 }
 
 /* The library, at the next three addresses modulo 8. */
@@ -267,7 +334,9 @@ static void library(const struct call *c, struct result *r)
 
 static void plain(const struct call *c, struct result *r)
 {
-    set_answer(r, make(&of_plain, c, r->out));
+    if (c->page_len > 0)
+        memcpy(r->page, c->page, c->page_len);
+    set_answer(r, make(&of_plain, c, r->out, r->page));
 }
 
 /* The library and plain.c; both must agree.  The result is the library's. */
@@ -281,9 +350,10 @@ static void both(const struct call *c, struct result *r)
     same("index, against plain.c", r->index, p.index);
     same("health or word, against plain.c", r->value, p.value);
     if (r->number == 0 && p.number == 0 &&
-        (c->op == OPEN || c->op == STEP || c->op == SAVE) &&
         memcmp(r->out, p.out, c->out_len) != 0)
         differ("image, against plain.c", 1, 0);
+    if (memcmp(r->page, p.page, c->page_len) != 0)
+        differ("page, against plain_page.c", 1, 0);
 }
 
 /* As both, and number and index must be those given. */
@@ -298,7 +368,7 @@ static void expect(const struct call *c, uint32_t number, uint32_t index,
 static void check_setup(const uint8_t *in, size_t in_len, uint32_t number,
                         uint32_t index)
 {
-    struct call c = {SETUP, in, in_len, NULL, 0, 0, 0};
+    struct call c = {.op = SETUP, .in = in, .in_len = in_len};
     struct result r;
 
     expect(&c, number, index, &r);
@@ -309,7 +379,8 @@ static void open_module(const uint8_t *in, size_t in_len, uint32_t own,
                         size_t out_len, uint32_t number, uint32_t index,
                         uint8_t *image)
 {
-    struct call c = {OPEN, in, in_len, NULL, 0, own, out_len};
+    struct call c = {.op = OPEN, .in = in, .in_len = in_len, .argument = own,
+                     .out_len = out_len};
     struct result r;
 
     expect(&c, number, index, &r);
@@ -321,7 +392,8 @@ static void open_module(const uint8_t *in, size_t in_len, uint32_t own,
 static void save(const uint8_t *in, size_t in_len, size_t out_len,
                  uint32_t number, uint32_t index)
 {
-    struct call c = {SAVE, in, in_len, NULL, 0, 0, out_len};
+    struct call c = {.op = SAVE, .in = in, .in_len = in_len,
+                     .out_len = out_len};
     struct result r;
 
     expect(&c, number, index, &r);
@@ -334,7 +406,7 @@ static void save(const uint8_t *in, size_t in_len, size_t out_len,
 static uint32_t outgoing(const uint8_t *in, size_t in_len, uint32_t number,
                          uint32_t index)
 {
-    struct call c = {OUTGOING, in, in_len, NULL, 0, 0, 0};
+    struct call c = {.op = OUTGOING, .in = in, .in_len = in_len};
     struct result r;
 
     expect(&c, number, index, &r);
@@ -346,7 +418,9 @@ static uint32_t step(const uint8_t *in, size_t in_len, const uint8_t *read,
                      size_t read_len, uint32_t controller, size_t out_len,
                      uint32_t number, uint32_t index, uint8_t *image)
 {
-    struct call c = {STEP, in, in_len, read, read_len, controller, out_len};
+    struct call c = {.op = STEP, .in = in, .in_len = in_len, .read = read,
+                     .read_len = read_len, .argument = controller,
+                     .out_len = out_len};
     struct result r;
 
     expect(&c, number, index, &r);
@@ -986,7 +1060,7 @@ static void group_image_bits(void)
 {
     uint8_t s[PRESENCE_MAX_SETUP_BYTES], image[IMAGE_MAX];
     uint8_t read[PRESENCE_MAX_READ_BYTES];
-    struct call c = {OUTGOING, NULL, 0, NULL, 0, 0, 0};
+    struct call c = {.op = OUTGOING};
     struct result r;
     uint32_t n, u, at, b;
 
@@ -1365,7 +1439,7 @@ static void word_follows(const uint8_t *setup, uint32_t n, uint32_t own,
 /* The image is saved, lost and taken from what was saved. */
 static void restart(uint8_t *image, size_t len)
 {
-    struct call c = {SAVE, image, len, NULL, 0, 0, len};
+    struct call c = {.op = SAVE, .in = image, .in_len = len, .out_len = len};
     struct result r;
 
     expect(&c, 0, 0, &r);
@@ -1436,6 +1510,7 @@ static void group_nothing_kept(void)
     }
     for (k = 0; k < 300; k++)
         for (i = 0; i < 2; i++) {
+            memset(&c[i], 0, sizeof c[i]);
             c[i].op = STEP;
             c[i].in = image[i];
             c[i].in_len = PRESENCE_IMAGE_BYTES(n[i]);
@@ -1462,7 +1537,7 @@ static void group_addresses(void)
 {
     uint8_t s[PRESENCE_MAX_SETUP_BYTES], image[IMAGE_MAX];
     uint8_t read[PRESENCE_MAX_READ_BYTES];
-    struct call c = {STEP, NULL, 0, NULL, 0, 0, 0};
+    struct call c = {.op = STEP};
     struct result wanted, r;
     uint32_t n, op;
     size_t in_off, read_off, out_off;
@@ -1494,6 +1569,201 @@ static void group_addresses(void)
                             differ("image", 1, 0);
                     }
         }
+    }
+    end();
+}
+
+/* ---- pages ---- */
+
+/* The host's call, which must answer number; returns the word. */
+static uint32_t host(enum op op, uint8_t *page, size_t page_len,
+                     uint32_t offset, uint32_t value, uint32_t number)
+{
+    struct call c = {.op = op, .argument = offset, .page = page,
+                     .page_len = page_len, .value = value};
+    struct result r;
+
+    expect(&c, number, 0, &r);
+    if (page_len > 0)
+        memcpy(page, r.page, page_len);
+    return r.value;
+}
+
+/* Opening with a page; the page is any bytes before it. */
+static void open_paged(const uint8_t *setup, uint32_t n, uint32_t own,
+                       size_t page_len, uint32_t number, uint8_t *image,
+                       uint8_t *page)
+{
+    struct call c = {.op = PAGE_OPEN, .in = setup,
+                     .in_len = PRESENCE_SETUP_BYTES(n), .argument = own,
+                     .out_len = PRESENCE_IMAGE_BYTES(n), .page = page,
+                     .page_len = page_len};
+    struct result r;
+
+    expect(&c, number, 0, &r);
+    same("health of an opening", r.value, 0);
+    if (r.number == 0) {
+        memcpy(image, r.out, c.out_len);
+        memcpy(page, r.page, page_len);
+    }
+}
+
+/* A step with a page; image and page are those after it if it is accepted. */
+static uint32_t step_paged(uint32_t n, uint8_t *image, const uint8_t *read,
+                           uint32_t controller, uint8_t *page, size_t page_len,
+                           uint32_t number)
+{
+    struct call c = {.op = PAGE_STEP, .in = image,
+                     .in_len = PRESENCE_IMAGE_BYTES(n), .read = read,
+                     .read_len = PRESENCE_READ_BYTES(n),
+                     .argument = controller,
+                     .out_len = PRESENCE_IMAGE_BYTES(n), .page = page,
+                     .page_len = page_len};
+    struct result r;
+
+    expect(&c, number, 0, &r);
+    if (r.number == 0) {
+        memcpy(image, r.out, c.out_len);
+        memcpy(page, r.page, page_len);
+    }
+    return r.value;
+}
+
+static void random_page(uint8_t *page, size_t len)
+{
+    size_t i;
+
+    for (i = 0; i < len; i++)
+        page[i] = (uint8_t)random32();
+}
+
+/* Words 0 to 3 of the page, and the rest, which must be as in wanted. */
+static void page_is(const uint8_t *page, const uint32_t *words,
+                    const uint8_t *rest)
+{
+    uint32_t at;
+
+    for (at = 0; at < 4; at++)
+        same("word of the page", get(page, at), words[at]);
+    if (memcmp(page + 16, rest + 16, PRESENCE_PAGE_BYTES - 16) != 0)
+        differ("rest of the page", 1, 0);
+}
+
+static void group_pages_opened(void)
+{
+    static const uint8_t zeros[PRESENCE_PAGE_BYTES];
+    uint8_t s[PRESENCE_MAX_SETUP_BYTES], image[IMAGE_MAX], wanted[IMAGE_MAX];
+    uint8_t page[OUT_MAX];
+    uint32_t n, own;
+    size_t len;
+
+    begin("pages opened");
+    for (n = 2; n <= MAX_N; n++) {
+        uint32_t words[4] = {ones(n), ones(n), 0, 0};
+
+        random_setup(s, n, n % 2, 5, 3);
+        for (own = 1; own <= n; own++) {
+            random_page(page, sizeof page);
+            open_paged(s, n, own, PRESENCE_PAGE_BYTES, 0, image, page);
+            page_is(page, words, zeros);
+            fresh_image(wanted, s, n, own);
+            if (memcmp(image, wanted, PRESENCE_IMAGE_BYTES(n)) != 0)
+                differ("fresh image with a page", 1, 0);
+        }
+        for (len = 0; len <= 2 * PRESENCE_PAGE_BYTES; len++)
+            if (len != PRESENCE_PAGE_BYTES)
+                open_paged(s, n, 1, len, 9, image, page);
+        open_paged(s, n, n + 1, 63, 7, image, page);
+    }
+    end();
+}
+
+/* A step with a page by what the header says of it. */
+static void page_follows(uint32_t n, uint8_t *image, const uint8_t *read,
+                         uint32_t controller, uint8_t *page)
+{
+    uint8_t old[PRESENCE_PAGE_BYTES];
+    uint32_t found = PRESENCE_VIEW(image, n), words[4], j;
+
+    memcpy(old, page, sizeof old);
+    words[0] = step_paged(n, image, read, controller, page, sizeof old, 0);
+    words[1] = PRESENCE_VIEW(image, n);
+    words[2] = get(old, 2) | (words[1] != get(old, 1));
+    for (j = 0; j < n; j++)
+        if ((found >> j & 1) == 1 && (words[0] >> j & 1) == 0)
+            words[2] |= 2;
+    words[3] = get(old, 3);
+    page_is(page, words, old);
+}
+
+static void page_life(uint32_t n, uint32_t u, uint32_t steps)
+{
+    uint8_t s[PRESENCE_MAX_SETUP_BYTES], read[PRESENCE_MAX_READ_BYTES];
+    uint8_t image[IMAGE_MAX], page[PRESENCE_PAGE_BYTES];
+    uint32_t controller, k, flags;
+
+    random_page(page, sizeof page);
+    random_setup(s, n, u, 20, 3);
+    open_paged(s, n, 1 + below(n), sizeof page, 0, image, page);
+    host(PAGE_WRITE, page, sizeof page, PRESENCE_PAGE_ENABLE, below(4), 0);
+    for (k = 0; k < steps; k++) {
+        controller = random_read(read, n, below(9));
+        page_follows(n, image, read, controller, page);
+        flags = host(PAGE_READ, page, sizeof page, PRESENCE_PAGE_FLAGS, 0, 0);
+        same("interrupt", host(INTERRUPT, page, sizeof page, 0, 0, 0),
+             (flags & get(page, 3)) != 0);
+        if (below(4) == 0)
+            host(PAGE_WRITE, page, sizeof page, PRESENCE_PAGE_FLAGS, flags, 0);
+        if (below(8) == 0)
+            random_page(page, sizeof page);
+        if (below(4) == 0) /* refused steps between */
+            step_paged(n, image, read, 1u << n, page, sizeof page, 10);
+        if (below(4) == 0)
+            step_paged(n, image, read, 1u << n, page, below(64), 9);
+    }
+}
+
+static void group_page_lives(void)
+{
+    uint32_t n, u;
+
+    begin("lives with a page");
+    for (n = 2; n <= MAX_N; n++)
+        for (u = 0; u < 2; u++)
+            page_life(n, u, 300);
+    end();
+}
+
+/* Every offset near the page's, and offsets that a cut number would allow. */
+static void group_page_words(void)
+{
+    static const uint32_t far[] = {256, 264, 0x10008, 0x80000008, 0xFFFFFFFC,
+                                   0xFFFFFFFF};
+    uint8_t page[PRESENCE_PAGE_BYTES + 8], old[PRESENCE_PAGE_BYTES];
+    uint32_t offset, value, i, is_word;
+    size_t len = PRESENCE_PAGE_BYTES;
+
+    begin("words of a page");
+    for (i = 0; i < 80 + COUNT(far); i++) {
+        offset = i < 80 ? i : far[i - 80];
+        is_word = offset < 64 && offset % 4 == 0;
+        random_page(page, sizeof page);
+        value = host(PAGE_READ, page, len, offset, 0, is_word ? 0 : 17);
+        if (is_word)
+            same("word read", value, get(page, offset / 4));
+        memcpy(old, page, len);
+        value = random32();
+        host(PAGE_WRITE, page, len, offset, value,
+             !is_word ? 17 : offset == 8 || offset == 12 ? 0 : 18);
+        if (offset == 8)
+            put(old, 2, get(old, 2) & ~value);
+        if (offset == 12)
+            put(old, 3, value);
+        if (memcmp(page, old, len) != 0)
+            differ("page written", offset, 0);
+        host(PAGE_READ, page, len - 1, offset, 0, 9);
+        host(PAGE_WRITE, page, len + 1, offset, value, 9);
+        host(INTERRUPT, page, i % 64, 0, 0, 9);
     }
     end();
 }
@@ -1544,7 +1814,13 @@ static const struct form forms[] = {
     {"state", OUTGOING, 1, 2},
     {"open", OPEN, 3, 4},
     {"step", STEP, 4, 4},
-    {"save", SAVE, 2, 4}
+    {"save", SAVE, 2, 4},
+    {"pageopen", PAGE_OPEN, 4, 5},
+    {"pagestep", PAGE_STEP, 5, 5},
+    {"pageread", PAGE_READ, 2, 3},
+    {"pagewrite", PAGE_WRITE, 3, 4},
+    {"pagewrite", PAGE_WRITE, 3, 3}, /* refused */
+    {"interrupt", INTERRUPT, 1, 3}
 };
 
 /* The form of a line that is split into its fields, NULL if it has none. */
@@ -1560,78 +1836,166 @@ static const struct form *form_of(char **field, int fields)
     return NULL;
 }
 
+/* Bytes of a line in memory of their own.  Returns 0 if malformed. */
+static int parse_block(const char *text, const uint8_t **bytes, size_t *len)
+{
+    static uint8_t blocks[3][LINE_MAX_CHARS];
+    static unsigned turn;
+    uint8_t *b = blocks[turn++ % COUNT(blocks)];
+    long found = parse_bytes(text, b, sizeof blocks[0]);
+
+    *bytes = b;
+    *len = (size_t)found;
+    return found >= 0;
+}
+
+static int parse_length(const char *text, size_t *len)
+{
+    uint32_t value;
+
+    if (!parse_number(text, 10, &value))
+        return 0;
+    *len = value;
+    return value <= OUT_MAX;
+}
+
+/* The arguments of a call on a page.  Returns 0 if malformed. */
+static int parse_page_call(char **field, struct call *c)
+{
+    static uint8_t any[OUT_MAX]; /* what a page holds before it is opened */
+
+    switch (c->op) {
+    case PAGE_OPEN:
+        memset(any, 0xA5, sizeof any);
+        c->page = any;
+        return parse_block(field[1], &c->in, &c->in_len) &&
+               parse_number(field[2], 10, &c->argument) &&
+               parse_length(field[3], &c->out_len) &&
+               parse_length(field[4], &c->page_len);
+    case PAGE_STEP:
+        return parse_block(field[1], &c->in, &c->in_len) &&
+               parse_block(field[2], &c->read, &c->read_len) &&
+               parse_number(field[3], 16, &c->argument) &&
+               parse_length(field[4], &c->out_len) &&
+               parse_block(field[5], &c->page, &c->page_len);
+    case PAGE_WRITE:
+        return parse_block(field[1], &c->page, &c->page_len) &&
+               parse_number(field[2], 10, &c->argument) &&
+               parse_number(field[3], 16, &c->value);
+    case PAGE_READ:
+        return parse_block(field[1], &c->page, &c->page_len) &&
+               parse_number(field[2], 10, &c->argument);
+    default:
+        return parse_block(field[1], &c->page, &c->page_len);
+    }
+}
+
 /* The arguments of a call; field 0 is its name.  Returns 0 if malformed. */
 static int parse_call(char **field, const struct form *form, struct call *c)
 {
-    static uint8_t in[LINE_MAX_CHARS], read[LINE_MAX_CHARS];
-    long in_len = parse_bytes(field[1], in, sizeof in), read_len = 0;
-    uint32_t out_len = 0;
-
     memset(c, 0, sizeof *c);
-    if (form->op == OPEN && !parse_number(field[2], 10, &c->argument))
-        return 0;
-    if (form->op == STEP) {
-        read_len = parse_bytes(field[2], read, sizeof read);
-        if (!parse_number(field[3], 16, &c->argument))
-            return 0;
-    }
-    /* Whatever answers an image takes the output's length last. */
-    if (form->answers == 4 &&
-        !parse_number(field[form->arguments], 10, &out_len))
-        return 0;
     c->op = form->op;
-    c->in = in;
-    c->in_len = (size_t)in_len;
-    c->read = read;
-    c->read_len = (size_t)read_len;
-    c->out_len = out_len;
-    return in_len >= 0 && read_len >= 0 && out_len <= OUT_MAX;
+    if (c->op >= PAGE_OPEN)
+        return parse_page_call(field, c);
+    if (!parse_block(field[1], &c->in, &c->in_len))
+        return 0;
+    if (c->op == OPEN && !parse_number(field[2], 10, &c->argument))
+        return 0;
+    if (c->op == STEP && (!parse_block(field[2], &c->read, &c->read_len) ||
+                          !parse_number(field[3], 16, &c->argument)))
+        return 0;
+    /* Whatever answers an image takes the output's length last. */
+    return form->answers != 4 ||
+           parse_length(field[form->arguments], &c->out_len);
 }
 
-/* What comes out of a call: an image of image_len bytes if it is accepted. */
+/* What comes out of a call: an image of image_len bytes if it is accepted, and
+   a page of page_len bytes where the line gives one. */
 struct answer {
     uint32_t number, index, health;
-    uint8_t image[LINE_MAX_CHARS];
-    long image_len;
+    uint8_t image[LINE_MAX_CHARS], page[LINE_MAX_CHARS];
+    long image_len, page_len;
 };
 
-/* The fields after "=".  Returns 0 if malformed. */
-static int parse_answer(char **field, const struct form *form, size_t out_len,
-                        struct answer *a)
+/* Health or a word; what a refused call does not tell is 0. */
+static int parse_told(const char *text, int refused, uint32_t *value)
 {
-    a->health = 0;
-    a->image_len = 0;
-    if (!parse_number(field[0], 10, &a->number) ||
-        !parse_number(field[1], 10, &a->index))
-        return 0;
-    if (form->answers == 2)
-        return 1;
-    if (!parse_number(field[2], 16, &a->health))
-        return 0;
-    a->image_len = parse_bytes(field[3], a->image, sizeof a->image);
-    return a->image_len == (a->number == 0 ? (long)out_len : 0);
+    *value = 0;
+    return refused && strcmp(text, "-") == 0 ? 1 : parse_number(text, 16, value);
 }
 
-/* Compares with what a line says; names are those of number, index, health and
-   image in a report. */
+/* The fields after number and index.  Returns 0 if malformed. */
+static int parse_results(char **field, const struct form *form,
+                         struct answer *a)
+{
+    int refused = a->number != 0;
+
+    switch (form->op) {
+    case SETUP:
+    case OUTGOING:
+        return 1;
+    case PAGE_READ:
+    case INTERRUPT:
+        return parse_told(field[0], refused, &a->health);
+    case PAGE_WRITE:
+        if (form->answers == 3)
+            return refused && strcmp(field[0], "-") == 0;
+        a->page_len = parse_bytes(field[0], a->page, sizeof a->page);
+        return parse_told(field[1], refused, &a->health);
+    case PAGE_OPEN:
+    case PAGE_STEP:
+        a->page_len = parse_bytes(field[2], a->page, sizeof a->page);
+        break;
+    default:
+        break;
+    }
+    a->image_len = parse_bytes(field[1], a->image, sizeof a->image);
+    return parse_told(field[0], refused, &a->health);
+}
+
+/* The fields after "=".  Returns 0 if malformed. */
+static int parse_answer(char **field, const struct form *form,
+                        const struct call *c, struct answer *a)
+{
+    int writes_page = form->op == PAGE_OPEN || form->op == PAGE_STEP ||
+                      form->op == PAGE_WRITE;
+
+    a->health = 0;
+    a->image_len = 0;
+    a->page_len = 0;
+    if (!parse_number(field[0], 10, &a->number) ||
+        !parse_number(field[1], 10, &a->index) ||
+        !parse_results(field + 2, form, a))
+        return 0;
+    return a->image_len == (a->number == 0 ? (long)c->out_len : 0) &&
+           a->page_len == (a->number == 0 && writes_page ? (long)c->page_len
+                                                         : 0);
+}
+
+/* Compares with what a line says; names are those of number, index, health,
+   image and page in a report. */
 static void same_answer(const struct result *r, const struct answer *a,
-                        const char *const names[4])
+                        const char *const names[5])
 {
     same(names[0], r->number, a->number);
     same(names[1], r->index, a->index);
     same(names[2], r->value, a->health);
     if (a->image_len > 0 && memcmp(r->out, a->image, (size_t)a->image_len) != 0)
         differ(names[3], 1, 0);
+    if (a->page_len > 0 && memcmp(r->page, a->page, (size_t)a->page_len) != 0)
+        differ(names[4], 1, 0);
 }
 
 /* One line, already split.  Returns 0 if the line is malformed. */
 static int do_line(char **field, int fields)
 {
     static const char *const library_names[] = {
-        "number, library", "index, library", "health, library", "image, library"
+        "number, library", "index, library", "health, library",
+        "image, library", "page, library"
     };
     static const char *const plain_names[] = {
-        "number, plain.c", "index, plain.c", "health, plain.c", "image, plain.c"
+        "number, plain.c", "index, plain.c", "health, plain.c",
+        "image, plain.c", "page, plain_page.c"
     };
     static struct answer a;
     const struct form *form = form_of(field, fields);
@@ -1639,7 +2003,7 @@ static int do_line(char **field, int fields)
     struct result r, r_plain;
 
     if (form == NULL || !parse_call(field, form, &c) ||
-        !parse_answer(field + form->arguments + 2, form, c.out_len, &a))
+        !parse_answer(field + form->arguments + 2, form, &c, &a))
         return 0;
     if (form->op == OUTGOING) {
         outgoing(c.in, c.in_len, a.number, a.index);
@@ -1722,17 +2086,22 @@ int main(int argc, char **argv)
     group_lives();
     group_nothing_kept();
     group_addresses();
+    group_pages_opened();
+    group_page_lives();
+    group_page_words();
     if (argc == 1) {
         group_calls_file("harness/data/calls.txt");
         group_calls_file("harness/data/own-calls.txt");
+        group_calls_file("harness/data/e01-calls.txt");
     }
     for (int i = 1; i < argc; i++)
         group_calls_file(argv[i]);
     printf("%-28s %8lu calls %6lu differences\n", "total", all_calls,
            all_differences);
     printf("answers");
-    for (number = 0; number < 12; number++)
-        printf(" %d:%lu", number, answered[number]);
+    for (number = 0; number < (int)COUNT(answered); number++)
+        if (answered[number] > 0)
+            printf(" %d:%lu", number, answered[number]);
     printf("\n");
     return all_differences == 0 ? 0 : 1;
 }

@@ -22,4 +22,22 @@ presence_answer plain_save(const uint8_t *state, size_t state_len,
 
 presence_word plain_outgoing(const uint8_t *state, size_t state_len);
 
+presence_answer plain_page_open(const uint8_t *setup, size_t setup_len,
+                                uint32_t own, uint8_t *out, size_t out_len,
+                                uint8_t *page, size_t page_len);
+
+presence_answer plain_page_step(const uint8_t *state, size_t state_len,
+                                const uint8_t *read, size_t read_len,
+                                uint32_t controller,
+                                uint8_t *out, size_t out_len,
+                                uint8_t *page, size_t page_len);
+
+presence_word plain_page_read(const uint8_t *page, size_t page_len,
+                              uint32_t offset);
+
+presence_word plain_page_write(uint8_t *page, size_t page_len, uint32_t offset,
+                               uint32_t value);
+
+presence_word plain_page_interrupt(const uint8_t *page, size_t page_len);
+
 #endif

@@ -1,5 +1,5 @@
 #!/usr/bin/env python3
-"""Writes own-calls.txt: calls with the answers that document 01 gives.
+"""Writes own-calls.txt: calls with the answers that document 01 gives, and E1 of document 02 for pages.
 
     python3 make_own_calls.py > own-calls.txt
 
@@ -187,6 +187,61 @@ def step_refused(data, read, controller, out, number, index):
 
 def buses(*syndromes):
     return [bus(bits) for bits in syndromes]
+
+
+# ---- lines of pages ----
+
+
+def page_words(health, view, flags=0, enable=0, rest=0):
+    """rest: words 4 to 15, each that number and its place; 0 for zeros."""
+    return [health, view, flags, enable] + [rest + at if rest else 0 for at in range(4, 16)]
+
+
+def page_opened(words, own, page):
+    image = State(words, own)
+    print(f"pageopen {text(words)} {own} {image_bytes(image.n)} 64 = 0 0 0000 {text(image)} {text(page)}")
+
+
+def page_open_refused(data, own, out, page, number, index):
+    print(f"pageopen {text(data)} {own} {out} {page} = {number} {index} 0000 - -")
+
+
+def page_stepped(image, page, after_page, read, controller, health, rows, latest, **fields):
+    """As stepped, with the page before and after; answers the new state."""
+    after = image.but(row=list(rows), latest=latest, before=image.latest, **fields)
+    print(
+        f"pagestep {text(image)} {text(read)} {controller:X} {image_bytes(image.n)} {text(page)}"
+        f" = 0 0 {health:04X} {text(after)} {text(after_page)}"
+    )
+    return after
+
+
+def page_step_refused(data, read, controller, out, page, number, index):
+    print(f"pagestep {text(data)} {text(read)} {controller:X} {out} {text(page)} = {number} {index} 0000 - -")
+
+
+def page_read(page, offset, word):
+    print(f"pageread {text(page)} {offset} = 0 0 {word:08X}")
+
+
+def page_read_refused(page, offset, number):
+    print(f"pageread {text(page)} {offset} = {number} 0 -")
+
+
+def page_written(page, offset, value, after, on):
+    print(f"pagewrite {text(page)} {offset} {value:X} = 0 0 {text(after)} {on}")
+
+
+def page_write_refused(page, offset, value, number):
+    print(f"pagewrite {text(page)} {offset} {value:X} = {number} 0 -")
+
+
+def interrupt(page, on):
+    print(f"interrupt {text(page)} = 0 0 {on}")
+
+
+def interrupt_refused(page):
+    print(f"interrupt {text(page)} = 9 0 -")
 
 
 # ---- setup ----
@@ -703,7 +758,152 @@ def steps_with_u_1():
     stepped(before, buses(*rows), 0xFFFF, lack, rows, 0xFFFF, penalty={9: 1})
 
 
-print("# Calls and their answers after document 01, in the format of calls.txt.")
+# ---- register pages ----
+
+FRESH_PAGE = page_words(0xF, 0xF)
+ANY_PAGE = page_words(0x01234567, 0x89ABCDEF, 0xFEDCBA98, 0x76543210, 0xC0DE0000)
+
+
+def page_openings():
+    note("A page opened with a module: health all ones, its view, no flags, enable 0, the rest 0.")
+    page_opened(SHEET, 1, FRESH_PAGE)
+    page_opened(TWO, 2, page_words(0x3, 0x3))
+    page_opened(SIXTEEN_MARKED, 16, page_words(0xFFFF, 0xFFFF))
+    note("9: a page of 0, 60, 63, 65 and 68 bytes; an output of another length; both.")
+    for length in (0, 60, 63, 65, 68):
+        page_open_refused(SHEET, 1, 88, length, 9, 0)
+    page_open_refused(SHEET, 1, 87, 64, 9, 0)
+    page_open_refused(SHEET, 1, 0, 4, 9, 0)
+    also("1, 4, 6 and 7 before 9.")
+    page_open_refused(b"", 1, 88, 63, 1, 0)
+    page_open_refused(put(SHEET, {1: limit_p(0)}), 1, 88, 63, 4, 1)
+    page_open_refused(put(SHEET, {3: module(1, 0, 1, 1)}), 1, 88, 0, 6, 3)
+    page_open_refused(SHEET, 5, 88, 65, 7, 0)
+
+
+def page_steps():
+    seen = buses(0xD, 0xD, 0xD, 0xD)
+    note("The sheet with a page, both flags enabled. Round 1, 2 is unheard: nobody charged, no flag.")
+    quiet = page_words(0xF, 0xF, 0, 3)
+    one = page_stepped(SHEET_1, quiet, quiet, ALL_ONES, 0xD, 0xF, [0xF, None, 0xF, 0xF], 0xD)
+    also("Round 2: health 1011, 2 is charged and stays in the view: bit 1. Round 3: a second charge, 2")
+    also("leaves: bits 0 and 1. Rule 8 found it in the view.")
+    charged = page_words(0xD, 0xF, 2, 3)
+    two = page_stepped(one, quiet, charged, seen, 0xF, 0xD, [0xD] * 4, 0xF, penalty={2: 1})
+    left = page_words(0xD, 0xD, 3, 3)
+    out = page_stepped(two, charged, left, seen, 0xF, 0xD, [0xD] * 4, 0xF, penalty={2: 2}, view=0xD)
+    also("2 is out of the view, health 0 charges nobody: flags stay as they are, set or cleared.")
+    page_stepped(out, left, left, seen, 0xF, 0xD, [0xD] * 4, 0xF)
+    clear = page_words(0xD, 0xD, 0, 3)
+    page_stepped(out, clear, clear, seen, 0xF, 0xD, [0xD] * 4, 0xF)
+    also("Health 1 again: word 0 follows, no flag.")
+    page_stepped(out, clear, page_words(0xF, 0xD, 0, 3), ALL_ONES, 0xF, 0xF, [0xF] * 4, 0xF)
+
+
+def page_steps_on_any_page():
+    note("Any bytes in the page: word 1 changes, so bit 0; the other flags, enable and the rest stay.")
+    ones = [0xF] * 4
+    page_stepped(SHEET_1, ANY_PAGE, page_words(0xF, 0xF, 0xFEDCBA99, 0x76543210, 0xC0DE0000),
+                 ALL_ONES, 0xF, 0xF, ones, 0xF)
+    also("Only bits above the view differ in word 1: it changed. Word 1 is the view already: it did not,")
+    also("whatever the view in the image was.")
+    page_stepped(SHEET_1, page_words(0xF, 0x8000000F), page_words(0xF, 0xF, 1), ALL_ONES, 0xF, 0xF, ones, 0xF)
+    at_p = SHEET_1.but(penalty={2: 1})
+    page_stepped(at_p, page_words(0x0, 0xD), page_words(0xD, 0xD, 2), buses(0xD, 0xD, 0xD, 0xD), 0xF,
+                 0xD, [0xD] * 4, 0xF, penalty={2: 2}, view=0xD)
+    also("Nobody heard, latest syndrome 0000, only 2 in the view: all have health 0, 2 is charged.")
+    alone = SHEET_1.but(latest=0x0, view=0x2, penalty={1: 2, 3: 2, 4: 2})
+    page_stepped(alone, page_words(0xF, 0x2, 4, 0), page_words(0x0, 0x2, 6, 0), ALL_ONES, 0x0, 0x0,
+                 [None] * 4, 0x0, penalty={2: 1})
+    also("Nobody is in the view: nobody is charged.")
+    nobody = SHEET_1.but(latest=0x0, view=0x0, penalty={1: 2, 2: 2, 3: 2, 4: 2})
+    page_stepped(nobody, page_words(0xF, 0x0, 4, 0), page_words(0x0, 0x0, 4, 0), ALL_ONES, 0x0, 0x0,
+                 [None] * 4, 0x0)
+    also("N = 16, 16 leaves.")
+    lack = 0x7FFF
+    page_stepped(State(SIXTEEN, 5).but(penalty={16: 1}), page_words(0xFFFF, 0xFFFF), page_words(lack, lack, 3),
+                 buses(*[lack] * 16), 0xFFFF, lack, [lack] * 16, 0xFFFF, penalty={16: 2}, view=lack)
+
+
+def page_steps_refused():
+    note("9: a page of 0, 60, 63, 65 and 68 bytes; a read or an output of another length; all of them.")
+    for length in (0, 60, 63, 65, 68):
+        page_step_refused(SHEET_1, ALL_ONES, 0xF, 88, (raw(ANY_PAGE) + bytes(4))[:length], 9, 0)
+    page_step_refused(SHEET_1, ALL_ONES[:3], 0xF, 88, ANY_PAGE, 9, 0)
+    page_step_refused(SHEET_1, ALL_ONES, 0xF, 84, ANY_PAGE, 9, 0)
+    page_step_refused(SHEET_1, ALL_ONES[:3], 0x10, 84, raw(ANY_PAGE)[:63], 9, 0)
+    also("1, 2, 3 and 8 before 9; 9 for the page before 10; 10 with a page of 64 bytes.")
+    page_step_refused(b"", ALL_ONES, 0xF, 88, raw(ANY_PAGE)[:63], 1, 0)
+    page_step_refused(put(SHEET_1.words(), {0: head(17)}), ALL_ONES, 0xF, 88, raw(ANY_PAGE)[:63], 2, 0)
+    page_step_refused(SHEET_1.words()[:-1], ALL_ONES, 0xF, 88, b"", 3, 0)
+    page_step_refused(SHEET_1.but(penalty={1: 2}), ALL_ONES, 0xF, 88, b"", 8, 14)
+    page_step_refused(SHEET_1, ALL_ONES, 0x10, 88, raw(ANY_PAGE)[:60], 9, 0)
+    page_step_refused(SHEET_1, ALL_ONES, 0x10, 88, ANY_PAGE, 10, 0)
+
+
+def page_reads():
+    note("Every word of a page.")
+    for at, word in enumerate(ANY_PAGE):
+        page_read(ANY_PAGE, 4 * at, word)
+    note("17: within a word, at 64 and above.")
+    for offset in (1, 2, 3, 5, 10, 59, 61, 62, 63, 64, 65, 68, 256, 1 << 16, (1 << 32) - 4, (1 << 32) - 1):
+        page_read_refused(ANY_PAGE, offset, 17)
+    also("9: no bytes, 63, 65 and 68 bytes, also with an offset that is wrong.")
+    page_read_refused(b"", 0, 9)
+    page_read_refused(raw(ANY_PAGE)[:63], 0, 9)
+    page_read_refused(raw(ANY_PAGE) + bytes(1), 0, 9)
+    page_read_refused(ANY_PAGE + [0], 64, 9)
+    page_read_refused(ANY_PAGE[:15], 1, 9)
+
+
+def page_writes():
+    def page(flags, enable):
+        return page_words(0xD, 0xD, flags, enable, 0xC0DE0000)
+
+    note("Word 2: the flags written as ones are cleared, the others stay; word 2 is not stored.")
+    for flags, value, after in ((3, 1, 2), (3, 2, 1), (3, 3, 0), (3, 0, 3), (1, 2, 1), (2, 0xFFFFFFFD, 2),
+                                (0xFFFFFFFF, 0x80000001, 0x7FFFFFFE), (0, 0xFFFFFFFF, 0)):
+        page_written(page(flags, 0), 8, value, page(after, 0), 0)
+    also("With enable: the interrupt after the write.")
+    page_written(page(3, 3), 8, 1, page(2, 3), 1)
+    page_written(page(3, 1), 8, 1, page(2, 1), 0)
+    page_written(page(3, 2), 8, 1, page(2, 2), 1)
+    page_written(page(0x80000003, 0x80000000), 8, 3, page(0x80000000, 0x80000000), 1)
+    note("Word 3: stored whole, ones and zeros.")
+    page_written(page(0, 0), 12, 3, page(0, 3), 0)
+    page_written(page(2, 3), 12, 1, page(2, 1), 0)
+    page_written(page(2, 0), 12, 2, page(2, 2), 1)
+    page_written(page(1, 0), 12, 0xFFFFFFFF, page(1, 0xFFFFFFFF), 1)
+    page_written(page(1, 0xFFFFFFFF), 12, 0, page(1, 0), 0)
+    page_written(page(1, 1), 12, 1, page(1, 1), 1)
+    note("18: every other word.")
+    for at in (0, 1, 4, 5, 8, 14, 15):
+        page_write_refused(page(3, 3), 4 * at, 3, 18)
+    also("17 before 18: within a word, those of the flags and enable too, at 64 and above.")
+    for offset in (1, 7, 9, 10, 11, 13, 15, 63, 64, 72, 76, 264, (1 << 32) - 4):
+        page_write_refused(page(3, 3), offset, 3, 17)
+    also("9 before 17 and 18.")
+    page_write_refused(b"", 8, 3, 9)
+    page_write_refused(raw(page(3, 3))[:63], 8, 3, 9)
+    page_write_refused(raw(page(3, 3)) + bytes(1), 12, 3, 9)
+    page_write_refused(page(3, 3) + [0], 0, 3, 9)
+    page_write_refused(page(3, 3)[:15], 64, 3, 9)
+
+
+def page_interrupts():
+    note("The interrupt is on exactly while flags and enable share a set bit.")
+    for flags, enable, on in ((0, 0, 0), (1, 1, 1), (2, 2, 1), (1, 2, 0), (2, 1, 0), (3, 2, 1), (0, 3, 0),
+                              (3, 0, 0), (0xFFFFFFFF, 0, 0), (0x80000000, 0x80000000, 1),
+                              (0xAAAAAAAA, 0x55555555, 0), (0x00010000, 0xFFFFFFFF, 1)):
+        interrupt(page_words(0xF, 0xF, flags, enable), on)
+    also("Words 0, 1 and 4 to 15 have no say.")
+    interrupt(page_words(0xFFFFFFFF, 0xFFFFFFFF, 0, 0xFFFFFFFF, 0xC0DE0000), 0)
+    also("9.")
+    for length in (0, 16, 63, 65):
+        interrupt_refused((raw(ANY_PAGE) + bytes(4))[:length])
+
+
+print("# Calls and their answers after document 01 and E1 of document 02, in the format of calls.txt and e01-calls.txt.")
 print("# A number before a colon or a comma at the start of a comment is the answer's number.")
 print("# Vectors in the comments are as printed: module 1 stands leftmost.")
 setups_accepted()
@@ -732,3 +932,10 @@ steps_of_other_votes()
 steps_of_the_counters()
 steps_of_other_n()
 steps_with_u_1()
+page_openings()
+page_steps()
+page_steps_on_any_page()
+page_steps_refused()
+page_reads()
+page_writes()
+page_interrupts()

@@ -1,7 +1,7 @@
 //! The calls file: one call a line with the answer it must give. Besides the calls named at the
 //! top of that file, `outgoing STATE = NUMBER INDEX WORD` is understood.
 
-use crate::call::{Call, Lent, Reply};
+use crate::call::{Buffers, Call, Reply};
 use crate::hex::{from_hex, to_hex};
 use crate::model::calls::Functions;
 
@@ -11,10 +11,12 @@ pub struct Case {
     pub call: Call,
     pub number: u32,
     pub index: u32,
-    /// Health, or the outgoing word; `None` if the line does not say it.
+    /// Health, a word or the interrupt; `None` if the line does not say it.
     pub value: Option<u32>,
     /// The output after the call; `None` if it stays as given.
     pub output: Option<Vec<u8>>,
+    /// The page after the call; `None` if it stays as given.
+    pub page: Option<Vec<u8>>,
 }
 
 /// The cases of a line: none for comments and empty lines, else one, but two for reading a
@@ -58,8 +60,65 @@ fn cases(call: &[&str], answer: &[&str]) -> Result<Vec<Case>, String> {
             let call = Call::Save { state: bytes(state)?, out_len: decimal(out_len)? as usize };
             Ok(vec![case(call, number, index, Some(health), output)?])
         }
+        _ => Ok(vec![page_case(call, answer)?]),
+    }
+}
+
+/// The case of a line on a page. Where the call is refused, `-` stands for all that it would tell.
+fn page_case(call: &[&str], answer: &[&str]) -> Result<Case, String> {
+    match (call, answer) {
+        (["pageopen", setup, own, out_len, page_len], [number, index, health, output, page]) => {
+            let out_len = decimal(out_len)? as usize;
+            let page_len = decimal(page_len)? as usize;
+            let call = Call::PageOpen { setup: bytes(setup)?, own: decimal(own)?, out_len, page_len };
+            with_page(case(call, number, index, Some(health), output)?, page_len, page)
+        }
+        (["pagestep", state, read, controller, out_len, given], [number, index, health, output, page]) => {
+            let controller = hexadecimal(controller)?;
+            let out_len = decimal(out_len)? as usize;
+            let given = bytes(given)?;
+            let page_len = given.len();
+            let call = Call::PageStep { state: bytes(state)?, read: bytes(read)?, controller, out_len, page: given };
+            with_page(case(call, number, index, Some(health), output)?, page_len, page)
+        }
+        (["pageread", page, offset], [number, index, word]) => {
+            let call = Call::PageRead { page: bytes(page)?, offset: decimal(offset)? };
+            case(call, number, index, Some(told(word)), "-")
+        }
+        (["pagewrite", given, offset, value], [number, index, told @ ..]) => {
+            let (page, interrupt) = match told {
+                ["-"] => ("-", "0"),
+                [page, interrupt] => (*page, *interrupt),
+                _ => return Err("unknown answer of a write".to_string()),
+            };
+            let given = bytes(given)?;
+            let page_len = given.len();
+            let call = Call::PageWrite { page: given, offset: decimal(offset)?, value: hexadecimal(value)? };
+            with_page(case(call, number, index, Some(interrupt), "-")?, page_len, page)
+        }
+        (["interrupt", page], [number, index, interrupt]) => {
+            let call = Call::Interrupt { page: bytes(page)? };
+            case(call, number, index, Some(told(interrupt)), "-")
+        }
         _ => Err("unknown call, or arguments missing".to_string()),
     }
+}
+
+/// A word that a refused call does not tell is answered as 0.
+fn told(word: &str) -> &str {
+    if word == "-" {
+        "0"
+    } else {
+        word
+    }
+}
+
+fn with_page(mut case: Case, page_len: usize, page: &str) -> Result<Case, String> {
+    case.page = if page == "-" { None } else { Some(bytes(page)?) };
+    if case.page.as_ref().is_some_and(|page| page.len() != page_len) {
+        return Err("the page after = is not of the lent page's length".to_string());
+    }
+    Ok(case)
 }
 
 /// Reading a state, by saving and by the outgoing word. The line does not say the word of an
@@ -80,7 +139,7 @@ fn case(call: Call, number: &str, index: &str, value: Option<&str>, output: &str
     if output.as_ref().is_some_and(|output| output.len() != call.out_len()) {
         return Err("the image after = is not of the output's length".to_string());
     }
-    Ok(Case { call, number: decimal(number)?, index: decimal(index)?, value, output })
+    Ok(Case { call, number: decimal(number)?, index: decimal(index)?, value, output, page: None })
 }
 
 fn bytes(text: &str) -> Result<Vec<u8>, String> {
@@ -115,15 +174,27 @@ pub fn answered(text: &str, on: &dyn Functions) -> Result<String, String> {
     let Some(case) = cases.first() else {
         return Ok(text.to_string());
     };
-    let given = Lent::new(case.call.out_len(), PATTERNS[0]);
+    let given = Buffers::of(&case.call, PATTERNS[0]);
     let mut lent = given.clone();
-    let Reply { number, index, value } = case.call.make(on, lent.output());
+    let Reply { number, index, value } = case.call.make(on, &mut lent);
     let output = written(&lent, &given);
+    let accepted = number == 0;
+    let page = if accepted { to_hex(lent.page.written()) } else { "-".to_string() };
+    let text = case.call.text();
     let line = match &case.call {
-        Call::CheckSetup { .. } => format!("{} = {number} {index}", case.call.text()),
+        Call::CheckSetup { .. } => format!("{text} = {number} {index}"),
         Call::Save { state, .. } if cases.len() == 2 => format!("state {} = {number} {index}", to_hex(state)),
-        Call::Outgoing { .. } => format!("{} = {number} {index} {value:08X}", case.call.text()),
-        _ => format!("{} = {number} {index} {value:04X} {output}", case.call.text()),
+        Call::Outgoing { .. } => format!("{text} = {number} {index} {value:08X}"),
+        Call::PageOpen { .. } | Call::PageStep { .. } => {
+            format!("{text} = {number} {index} {value:04X} {output} {page}")
+        }
+        Call::PageRead { .. } if accepted => format!("{text} = {number} {index} {value:08X}"),
+        Call::PageWrite { .. } if accepted => format!("{text} = {number} {index} {page} {value}"),
+        Call::Interrupt { .. } if accepted => format!("{text} = {number} {index} {value}"),
+        Call::PageRead { .. } | Call::PageWrite { .. } | Call::Interrupt { .. } => {
+            format!("{text} = {number} {index} -")
+        }
+        _ => format!("{text} = {number} {index} {value:04X} {output}"),
     };
     match compare_all(&parse(&line)?, on) {
         Ok(()) => Ok(line),
@@ -132,29 +203,33 @@ pub fn answered(text: &str, on: &dyn Functions) -> Result<String, String> {
 }
 
 /// What the output holds; `-` if it is as given.
-fn written(lent: &Lent, given: &Lent) -> String {
-    if lent.written() == given.written() {
+fn written(lent: &Buffers, given: &Buffers) -> String {
+    if lent.out.written() == given.out.written() {
         "-".to_string()
     } else {
-        to_hex(lent.written())
+        to_hex(lent.out.written())
     }
 }
 
-/// Makes the call and compares number, index, health or word, and the whole lent buffer.
+/// Makes the call and compares number, index, health or word, and the whole lent buffers.
 /// The error says what came out instead.
 pub fn compare(case: &Case, on: &dyn Functions, pattern: u32) -> Result<(), String> {
-    let given = Lent::new(case.call.out_len(), pattern);
+    let given = Buffers::of(&case.call, pattern);
     let mut wanted = given.clone();
     if let Some(output) = &case.output {
-        wanted.output().copy_from_slice(output);
+        wanted.out.output().copy_from_slice(output);
+    }
+    if let Some(page) = &case.page {
+        wanted.page.output().copy_from_slice(page);
     }
     let mut lent = given.clone();
-    let reply = case.call.make(on, lent.output());
+    let reply = case.call.make(on, &mut lent);
     let value_right = case.value.is_none_or(|value| value == reply.value);
     if reply.number == case.number && reply.index == case.index && value_right && lent == wanted {
         return Ok(());
     }
     let output = written(&lent, &given);
-    let outside = if lent.same_margins(&given) { "" } else { ", and wrote outside the output" };
-    Err(format!("{} {} {:04X} {output}{outside}", reply.number, reply.index, reply.value))
+    let page = to_hex(lent.page.written());
+    let outside = if lent.same_margins(&given) { "" } else { ", and wrote outside what was lent" };
+    Err(format!("{} {} {:04X} {output} page {page}{outside}", reply.number, reply.index, reply.value))
 }

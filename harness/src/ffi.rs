@@ -38,6 +38,29 @@ extern "C" {
     ) -> PresenceAnswer;
     fn presence_save(state: *const u8, state_len: usize, out: *mut u8, out_len: usize) -> PresenceAnswer;
     fn presence_outgoing(state: *const u8, state_len: usize) -> PresenceWord;
+    fn presence_page_open(
+        setup: *const u8,
+        setup_len: usize,
+        own: u32,
+        out: *mut u8,
+        out_len: usize,
+        page: *mut u8,
+        page_len: usize,
+    ) -> PresenceAnswer;
+    fn presence_page_step(
+        state: *const u8,
+        state_len: usize,
+        read: *const u8,
+        read_len: usize,
+        controller: u32,
+        out: *mut u8,
+        out_len: usize,
+        page: *mut u8,
+        page_len: usize,
+    ) -> PresenceAnswer;
+    fn presence_page_read(page: *const u8, page_len: usize, offset: u32) -> PresenceWord;
+    fn presence_page_write(page: *mut u8, page_len: usize, offset: u32, value: u32) -> PresenceWord;
+    fn presence_page_interrupt(page: *const u8, page_len: usize) -> PresenceWord;
 }
 
 /// The linked library.
@@ -68,9 +91,49 @@ impl Functions for Library {
         from_c(unsafe { presence_save(state.as_ptr(), state.len(), out.as_mut_ptr(), out.len()) })
     }
     fn outgoing(&self, state: &[u8]) -> WordAnswer {
-        let answer = unsafe { presence_outgoing(state.as_ptr(), state.len()) };
-        WordAnswer { number: answer.number, index: answer.index, word: answer.word }
+        word_from_c(unsafe { presence_outgoing(state.as_ptr(), state.len()) })
     }
+    fn page_open(&self, setup: &[u8], own: u32, out: &mut [u8], page: &mut [u8]) -> Answer {
+        from_c(unsafe {
+            presence_page_open(
+                setup.as_ptr(),
+                setup.len(),
+                own,
+                out.as_mut_ptr(),
+                out.len(),
+                page.as_mut_ptr(),
+                page.len(),
+            )
+        })
+    }
+    fn page_step(&self, state: &[u8], read: &[u8], controller: u32, out: &mut [u8], page: &mut [u8]) -> Answer {
+        from_c(unsafe {
+            presence_page_step(
+                state.as_ptr(),
+                state.len(),
+                read.as_ptr(),
+                read.len(),
+                controller,
+                out.as_mut_ptr(),
+                out.len(),
+                page.as_mut_ptr(),
+                page.len(),
+            )
+        })
+    }
+    fn page_read(&self, page: &[u8], offset: u32) -> WordAnswer {
+        word_from_c(unsafe { presence_page_read(page.as_ptr(), page.len(), offset) })
+    }
+    fn page_write(&self, page: &mut [u8], offset: u32, value: u32) -> WordAnswer {
+        word_from_c(unsafe { presence_page_write(page.as_mut_ptr(), page.len(), offset, value) })
+    }
+    fn page_interrupt(&self, page: &[u8]) -> WordAnswer {
+        word_from_c(unsafe { presence_page_interrupt(page.as_ptr(), page.len()) })
+    }
+}
+
+fn word_from_c(answer: PresenceWord) -> WordAnswer {
+    WordAnswer { number: answer.number, index: answer.index, word: answer.word }
 }
 
 fn from_c(answer: PresenceAnswer) -> Answer {

@@ -1,6 +1,7 @@
-//! Document 01 as plain code: words, setups, states, the step and the calls from C.
+//! Document 01 as plain code: words, setups, states, the step and the calls from C; the register page of document 02.
 
 pub mod calls;
+pub mod page;
 pub mod setup;
 pub mod state;
 pub mod step;

@@ -4,6 +4,7 @@ mod common;
 
 use harness::calls_file::{answered, compare, parse};
 use harness::model::calls::Model;
+use std::collections::BTreeSet;
 use std::fs;
 use std::path::PathBuf;
 
@@ -11,7 +12,7 @@ fn data(name: &str) -> PathBuf {
     PathBuf::from(env!("CARGO_MANIFEST_DIR")).join("data").join(name)
 }
 
-const CALLS: [&str; 2] = ["calls.txt", "own-calls.txt"];
+const CALLS: [&str; 3] = ["calls.txt", "own-calls.txt", "e01-calls.txt"];
 
 #[test]
 fn calls() {
@@ -49,6 +50,11 @@ fn wrong_calls_written_anew() {
         ("step 00000000 - F 0 = 9 0 000F -", "step 00000000 - F 0 = 2 0 0000 -"),
         ("save 1000 0 = 0 0 0000 -", "save 1000 0 = 1 0 0000 -"),
         ("outgoing - = 0 0 5000000F", "outgoing - = 1 0 00000000"),
+        ("pageopen - 1 0 64 = 0 0 0000 - -", "pageopen - 1 0 64 = 1 0 0000 - -"),
+        ("pagestep - - 0 0 0000 = 9 0 000F - 0000", "pagestep - - 0 0 0000 = 1 0 0000 - -"),
+        ("pageread 0000 64 = 17 0 -", "pageread 0000 64 = 9 0 -"),
+        ("pagewrite 0000 8 3 = 0 0 0000 1", "pagewrite 0000 8 3 = 9 0 -"),
+        ("interrupt - = 0 0 1", "interrupt - = 9 0 -"),
     ] {
         assert_eq!(answered(wrong, &Model).as_deref(), Ok(right));
     }
@@ -58,13 +64,11 @@ fn wrong_calls_written_anew() {
 /// Own calls hold every answer number that the calls can give, but 11.
 #[test]
 fn own_calls_hold_every_number() {
-    let mut count = [0; 11];
+    let mut found = BTreeSet::new();
     for text in fs::read_to_string(data("own-calls.txt")).unwrap().lines() {
-        if let Some(case) = parse(text).unwrap().first() {
-            count[case.number as usize] += 1;
-        }
+        found.extend(parse(text).unwrap().iter().map(|case| case.number));
     }
-    assert!(count.iter().all(|&count| count > 0), "{count:?}");
+    assert_eq!(found, (0..=10).chain(17..=18).collect());
 }
 
 /// Every script of a folder with its output; answers the outputs.

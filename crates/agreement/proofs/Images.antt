@@ -28,7 +28,7 @@ use Rattle.agreement.specs.Demand.{KeptTo}
 use Rattle.agreement.specs.Images.{ImageLife, opens as image-opens, steps as image-steps, saves, refused-opening, refused-step, refused-saving, Kept, Demand3C}
 use Rattle.agreement.proofs.Steps.{held, state-zero, state-suc, taken}
 use Rattle.agreement.proofs.Demand.{demand-3}
-use Rattle.agreement.proofs.CallAnswers.{open-writes, open-keeps, step-writes, step-keeps, step-passes, save-writes, save-keeps}
+use Rattle.presence.proofs.CallAnswers.{open-writes, open-keeps, step-writes, step-keeps, step-passes, save-writes, save-keeps}
 
 -- ---- the states of a session have arrays of 16
 

@@ -7,6 +7,5 @@ pub mod Meets
 pub mod Ledger
 pub mod Demand
 pub mod Existence
-pub mod CallAnswers
 pub mod Images
 pub mod Stars

@@ -7,3 +7,4 @@ pub mod LoadLaws
 pub mod AnswerLaws
 pub mod RoundTrip
 pub mod CallLaws
+pub mod CallAnswers

@@ -2,10 +2,12 @@
 //! Usage: differential ROUNDS SEED
 //!
 //! A round is one of: a setup with openings, a state with its calls, a damaged state, any bytes,
-//! or a life of many steps in which each output image is the next input. All calls follow from
-//! the seed. The first difference is shown with all arguments and ends the run.
+//! a page with the host's calls, or a life of many steps in which each output image is the next
+//! input. Openings and steps are made with a page too; in a life the page goes on as the image does,
+//! and the host reads and writes it between steps. All calls follow from the seed. The first
+//! difference is shown with all arguments and ends the run.
 
-use harness::call::{Call, Lent, Reply};
+use harness::call::{Buffers, Call, Reply};
 use harness::ffi::Library;
 use harness::hex::to_hex;
 use harness::model::calls::Model;
@@ -13,6 +15,7 @@ use harness::model::setup::Setup;
 use harness::model::state::{image_length, image_words, State};
 use harness::model::words::{bytes_of, words_of};
 use harness::random::damage::{any_bytes, damaged};
+use harness::random::pages::{offset, page, page_length, value};
 use harness::random::reads::{read, spoiled_controller};
 use harness::random::scripts::{script, script_bytes, WAYS};
 use harness::random::setups::{lively_setup, setup};
@@ -53,13 +56,14 @@ fn main() -> ExitCode {
 
 impl Comparison {
     fn round(&mut self) {
-        match self.random.below(10) {
+        match self.random.below(11) {
             0 => self.setups(),
             1 => self.damaged_setups(),
             2 => self.states(),
             3 | 4 => self.damaged_states(),
             5 => self.any_bytes(),
             6 => self.wrong_lengths(),
+            7 => self.pages(),
             _ => self.life(),
         }
     }
@@ -86,12 +90,12 @@ impl Comparison {
         let bytes = bytes_of(&setup.words());
         self.compare(Call::CheckSetup { setup: bytes.clone() });
         for own in 1..=setup.n as u32 {
-            self.compare(Call::Open { setup: bytes.clone(), own, out_len: 4 * image_length(setup.n) });
+            self.open(bytes.clone(), own, 4 * image_length(setup.n));
         }
         for _ in 0..3 {
             let own = self.own_number(setup.n);
             let out_len = self.out_length(setup.n);
-            self.compare(Call::Open { setup: bytes.clone(), own, out_len });
+            self.open(bytes.clone(), own, out_len);
         }
     }
 
@@ -106,7 +110,7 @@ impl Comparison {
             self.compare(Call::CheckSetup { setup: bytes.clone() });
             let own = self.own_number(setup.n);
             let out_len = self.out_length(setup.n);
-            self.compare(Call::Open { setup: bytes, own, out_len });
+            self.open(bytes, own, out_len);
         }
     }
 
@@ -119,12 +123,7 @@ impl Comparison {
         self.compare(Call::Save { state: bytes.clone(), out_len: bytes.len() });
         for _ in 0..6 {
             let (words, controller) = read(&mut self.random, &setup, &state);
-            self.compare(Call::Step {
-                state: bytes.clone(),
-                read: bytes_of(&words),
-                controller,
-                out_len: bytes.len(),
-            });
+            self.step(bytes.clone(), bytes_of(&words), controller, bytes.len());
         }
     }
 
@@ -156,10 +155,10 @@ impl Comparison {
             let controller = self.random.word();
             let read = any_bytes(&mut self.random);
             self.compare(Call::CheckSetup { setup: bytes.clone() });
-            self.compare(Call::Open { setup: bytes.clone(), own, out_len });
+            self.open(bytes.clone(), own, out_len);
             self.compare(Call::Outgoing { state: bytes.clone() });
             self.compare(Call::Save { state: bytes.clone(), out_len });
-            self.compare(Call::Step { state: bytes, read, controller, out_len });
+            self.step(bytes, read, controller, out_len);
         }
     }
 
@@ -187,39 +186,107 @@ impl Comparison {
             read.resize(length, 0x55);
         }
         let out_len = self.out_length(setup.n);
-        self.compare(Call::Step { state: bytes, read, controller, out_len });
+        self.step(bytes, read, controller, out_len);
     }
 
-    /// Opening and many steps; each output image is the next input. Refused calls lie between.
-    fn life(&mut self) {
-        let setup = self.setup();
-        let n = setup.n;
-        let own = self.random.between(1, n as u32);
-        let out_len = 4 * image_length(n);
-        let opened = self.compare(Call::Open { setup: bytes_of(&setup.words()), own, out_len });
-        let mut image = opened.expect("opening an accepted setup is accepted");
-        let steps = if self.random.chance(1, 200) { 2_000 } else { 5 + self.random.below(60) };
-        for _ in 0..steps {
-            let (_, state) =
-                harness::model::state::read_image(&image).expect("an image of a life is accepted");
-            if self.random.chance(1, 15) {
-                self.any_step(&setup, &state, image.clone());
-            }
-            if self.random.chance(1, 15) {
-                let words = words_of(&image).expect("an image is whole words");
-                let spoiled = damaged(&mut self.random, &words);
-                self.any_step(&setup, &state, spoiled);
-            }
-            let (words, controller) = read(&mut self.random, &setup, &state);
-            let stepped =
-                self.compare(Call::Step { state: image, read: bytes_of(&words), controller, out_len });
-            image = stepped.expect("a step of a life is accepted");
-            if self.random.chance(1, 10) {
-                self.compare(Call::Outgoing { state: image.clone() });
+    /// An opening, at times with a page.
+    fn open(&mut self, setup: Vec<u8>, own: u32, out_len: usize) {
+        if self.random.chance(1, 2) {
+            let page_len = page_length(&mut self.random);
+            self.compare(Call::PageOpen { setup: setup.clone(), own, out_len, page_len });
+        }
+        self.compare(Call::Open { setup, own, out_len });
+    }
+
+    /// A step, at times with a page.
+    fn step(&mut self, state: Vec<u8>, read: Vec<u8>, controller: u32, out_len: usize) {
+        if self.random.chance(1, 2) {
+            let page = self.any_page();
+            self.compare(Call::PageStep { state: state.clone(), read: read.clone(), controller, out_len, page });
+        }
+        self.compare(Call::Step { state, read, controller, out_len });
+    }
+
+    /// A page, at times of another length.
+    fn any_page(&mut self) -> Vec<u8> {
+        let mut bytes = page(&mut self.random);
+        bytes.resize(page_length(&mut self.random), 0x33);
+        bytes
+    }
+
+    /// The host's calls on several pages.
+    fn pages(&mut self) {
+        for _ in 0..8 {
+            let mut page = self.any_page();
+            for _ in 0..3 {
+                page = self.host(page);
             }
         }
+    }
+
+    /// The host reads, writes and asks for the interrupt; the answer is the page after it.
+    fn host(&mut self, page: Vec<u8>) -> Vec<u8> {
+        let (read_at, write_at) = (offset(&mut self.random), offset(&mut self.random));
+        let value = value(&mut self.random);
+        self.compare(Call::PageRead { page: page.clone(), offset: read_at });
+        self.compare(Call::Interrupt { page: page.clone() });
+        let written = self.compare(Call::PageWrite { page: page.clone(), offset: write_at, value });
+        written.map_or(page, |lent| lent.page.written().to_vec())
+    }
+
+    /// Opening and many steps; each output image is the next input, with the page beside it in half
+    /// of the lives. Refused calls and calls of the host lie between.
+    fn life(&mut self) {
+        let setup = self.setup();
+        let own = self.random.between(1, setup.n as u32);
+        let out_len = 4 * image_length(setup.n);
+        let bytes = bytes_of(&setup.words());
+        let paged = self.random.chance(1, 2);
+        let call = if paged {
+            Call::PageOpen { setup: bytes, own, out_len, page_len: 64 }
+        } else {
+            Call::Open { setup: bytes, own, out_len }
+        };
+        let mut held = self.compare(call).expect("opening an accepted setup is accepted");
+        let steps = if self.random.chance(1, 200) { 2_000 } else { 5 + self.random.below(60) };
+        for _ in 0..steps {
+            held = self.life_step(&setup, held, paged);
+        }
+        let image = held.out.written().to_vec();
         self.compare(Call::Save { state: image.clone(), out_len });
         self.compare(Call::Outgoing { state: image });
+    }
+
+    /// One round of a life, from image and page to image and page.
+    fn life_step(&mut self, setup: &Setup, held: Buffers, paged: bool) -> Buffers {
+        let state_bytes = held.out.written().to_vec();
+        let out_len = state_bytes.len();
+        let (_, state) =
+            harness::model::state::read_image(&state_bytes).expect("an image of a life is accepted");
+        if self.random.chance(1, 15) {
+            self.any_step(setup, &state, state_bytes.clone());
+        }
+        if self.random.chance(1, 15) {
+            let words = words_of(&state_bytes).expect("an image is whole words");
+            let spoiled = damaged(&mut self.random, &words);
+            self.any_step(setup, &state, spoiled);
+        }
+        let (words, controller) = read(&mut self.random, setup, &state);
+        let read = bytes_of(&words);
+        let call = if paged {
+            let mut page = held.page.written().to_vec();
+            if self.random.chance(1, 4) {
+                page = self.host(page);
+            }
+            Call::PageStep { state: state_bytes, read, controller, out_len, page }
+        } else {
+            Call::Step { state: state_bytes, read, controller, out_len }
+        };
+        let stepped = self.compare(call).expect("a step of a life is accepted");
+        if self.random.chance(1, 10) {
+            self.compare(Call::Outgoing { state: stepped.out.written().to_vec() });
+        }
+        stepped
     }
 
     /// Mostly 1..N.
@@ -272,16 +339,16 @@ impl Comparison {
         }
     }
 
-    /// Makes the call on model and library. The answer is the output if the call is accepted.
-    fn compare(&mut self, call: Call) -> Option<Vec<u8>> {
+    /// Makes the call on model and library. The answer is what was lent if the call is accepted.
+    fn compare(&mut self, call: Call) -> Option<Buffers> {
         self.calls += 1;
         let pattern = self.random.word();
-        let given = Lent::new(call.out_len(), pattern);
+        let given = Buffers::of(&call, pattern);
         let mut by_model = given.clone();
         let mut by_library = given.clone();
-        let model = call.make(&Model, by_model.output());
+        let model = call.make(&Model, &mut by_model);
         let lent_call = call.clone();
-        let library = lent_call.make(&Library, by_library.output());
+        let library = lent_call.make(&Library, &mut by_library);
 
         let refused_but_written = model.number != 0 && by_library != given;
         if model != library || by_model != by_library || refused_but_written || lent_call != call {
@@ -289,16 +356,16 @@ impl Comparison {
             exit(1);
         }
         *self.numbers.entry(model.number).or_insert(0) += 1;
-        (model.number == 0).then(|| by_model.written().to_vec())
+        (model.number == 0).then_some(by_model)
     }
 
     fn show(
         &self,
         call: &Call,
         pattern: u32,
-        model: (Reply, &Lent),
-        library: (Reply, &Lent),
-        given: &Lent,
+        model: (Reply, &Buffers),
+        library: (Reply, &Buffers),
+        given: &Buffers,
         input_changed: bool,
     ) {
         println!(
@@ -309,7 +376,7 @@ impl Comparison {
         println!("  model   {}", answer_text(model, given));
         println!("  library {}", answer_text(library, given));
         if !library.1.same_margins(given) {
-            println!("  the library wrote outside its output");
+            println!("  the library wrote outside what it was lent");
         }
         if input_changed {
             println!("  the library changed its input");
@@ -317,12 +384,13 @@ impl Comparison {
     }
 }
 
-/// Number, index, health or word, and what the output then holds.
-fn answer_text((reply, lent): (Reply, &Lent), given: &Lent) -> String {
-    let output = if lent.written() == given.written() {
+/// Number, index, health or word, and what output and page then hold.
+fn answer_text((reply, lent): (Reply, &Buffers), given: &Buffers) -> String {
+    let output = if lent.out.written() == given.out.written() {
         "output as given".to_string()
     } else {
-        to_hex(lent.written())
+        to_hex(lent.out.written())
     };
-    format!("{} {} {:08X} {output}", reply.number, reply.index, reply.value)
+    let page = to_hex(lent.page.written());
+    format!("{} {} {:08X} {output} page {page}", reply.number, reply.index, reply.value)
 }

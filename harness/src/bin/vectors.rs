@@ -1,6 +1,6 @@
 //! Runs every line of calls files through the model and the library.
 //! Usage: vectors [--print] [CALLS_FILE...]
-//! Without files: data/calls.txt and data/own-calls.txt.
+//! Without files: data/calls.txt, data/own-calls.txt and data/e01-calls.txt.
 //! With --print every line is written anew with the answer of the library, and the model is not
 //! asked. The output is the file, byte for byte, if all answers are right.
 
@@ -11,9 +11,10 @@ use std::env;
 use std::fs;
 use std::process::ExitCode;
 
-const FILES: [&str; 2] = [
+const FILES: [&str; 3] = [
     concat!(env!("CARGO_MANIFEST_DIR"), "/data/calls.txt"),
     concat!(env!("CARGO_MANIFEST_DIR"), "/data/own-calls.txt"),
+    concat!(env!("CARGO_MANIFEST_DIR"), "/data/e01-calls.txt"),
 ];
 
 fn main() -> ExitCode {

@@ -1,5 +1,6 @@
 //! The calls as C makes them: numbers and byte slices. A refused call writes nothing.
 
+use super::page::Page;
 use super::setup::{read_setup, Holds};
 use super::state::{fresh, handed_out, image_length, image_words, read_image};
 use super::step::step;
@@ -14,7 +15,8 @@ pub struct Answer {
     pub health: u32,
 }
 
-/// Number, index and the word handed out; the word is 0 if refused.
+/// Number, index and a word: the word handed out, a word of the page, or the interrupt as 1 or 0.
+/// The word is 0 if refused.
 #[derive(Clone, Copy, PartialEq, Eq, Debug)]
 pub struct WordAnswer {
     pub number: u32,
@@ -29,6 +31,11 @@ pub trait Functions {
     fn step(&self, state: &[u8], read: &[u8], controller: u32, out: &mut [u8]) -> Answer;
     fn save(&self, state: &[u8], out: &mut [u8]) -> Answer;
     fn outgoing(&self, state: &[u8]) -> WordAnswer;
+    fn page_open(&self, setup: &[u8], own: u32, out: &mut [u8], page: &mut [u8]) -> Answer;
+    fn page_step(&self, state: &[u8], read: &[u8], controller: u32, out: &mut [u8], page: &mut [u8]) -> Answer;
+    fn page_read(&self, page: &[u8], offset: u32) -> WordAnswer;
+    fn page_write(&self, page: &mut [u8], offset: u32, value: u32) -> WordAnswer;
+    fn page_interrupt(&self, page: &[u8]) -> WordAnswer;
 }
 
 pub struct Model;
@@ -47,10 +54,22 @@ impl Functions for Model {
         answer(try_save(state, out))
     }
     fn outgoing(&self, state: &[u8]) -> WordAnswer {
-        match read_image(state) {
-            Ok((setup, state)) => WordAnswer { number: 0, index: 0, word: handed_out(&setup, &state) },
-            Err(refused) => WordAnswer { number: refused.number, index: refused.index as u32, word: 0 },
-        }
+        word(read_image(state).map(|(setup, state)| handed_out(&setup, &state)))
+    }
+    fn page_open(&self, setup: &[u8], own: u32, out: &mut [u8], page: &mut [u8]) -> Answer {
+        answer(try_page_open(setup, own, out, page))
+    }
+    fn page_step(&self, state: &[u8], read: &[u8], controller: u32, out: &mut [u8], page: &mut [u8]) -> Answer {
+        answer(try_page_step(state, read, controller, out, page))
+    }
+    fn page_read(&self, page: &[u8], offset: u32) -> WordAnswer {
+        word(Page::read(page).and_then(|page| page.word(offset)))
+    }
+    fn page_write(&self, page: &mut [u8], offset: u32, value: u32) -> WordAnswer {
+        word(try_page_write(page, offset, value))
+    }
+    fn page_interrupt(&self, page: &[u8]) -> WordAnswer {
+        word(Page::read(page).map(|page| u32::from(page.interrupt())))
     }
 }
 
@@ -58,6 +77,13 @@ fn answer(result: Result<u32, Refusal>) -> Answer {
     match result {
         Ok(health) => Answer { number: 0, index: 0, health },
         Err(refused) => Answer { number: refused.number, index: refused.index as u32, health: 0 },
+    }
+}
+
+fn word(result: Result<u32, Refusal>) -> WordAnswer {
+    match result {
+        Ok(word) => WordAnswer { number: 0, index: 0, word },
+        Err(refused) => WordAnswer { number: refused.number, index: refused.index as u32, word: 0 },
     }
 }
 
@@ -101,4 +127,40 @@ fn try_save(state: &[u8], out: &mut [u8]) -> Result<u32, Refusal> {
     }
     out.copy_from_slice(&bytes_of(&image_words(&setup, &state)));
     Ok(0)
+}
+
+/// Numbers 1 to 6, 7, 9 for the output or the page.
+fn try_page_open(setup: &[u8], own: u32, out: &mut [u8], page: &mut [u8]) -> Result<u32, Refusal> {
+    let mut image = out.to_vec();
+    let health = try_open(setup, own, &mut image)?;
+    Page::read(page)?;
+    let (setup, state) = read_image(&image)?;
+    page.copy_from_slice(&Page::opened(setup.n, state.view).bytes());
+    out.copy_from_slice(&image);
+    Ok(health)
+}
+
+/// Numbers 1 to 8, 9 for the read, the output or the page, 10, 11.
+fn try_page_step(
+    state: &[u8],
+    read: &[u8],
+    controller: u32,
+    out: &mut [u8],
+    page: &mut [u8],
+) -> Result<u32, Refusal> {
+    let (setup, before) = read_image(state)?;
+    let mut after = Page::read(page)?;
+    let health = try_step(state, read, controller, out)?;
+    let (_, left) = read_image(out)?;
+    after.step(setup.n, before.view, health, left.view);
+    page.copy_from_slice(&after.bytes());
+    Ok(health)
+}
+
+/// Numbers 9, 17, 18; the interrupt after the write.
+fn try_page_write(page: &mut [u8], offset: u32, value: u32) -> Result<u32, Refusal> {
+    let mut after = Page::read(page)?;
+    after.write(offset, value)?;
+    page.copy_from_slice(&after.bytes());
+    Ok(u32::from(after.interrupt()))
 }

@@ -6,18 +6,18 @@ use mathlib.Core.Logic.{_≢_}
 use mathlib.Core.List.{List}
 use native.Mathlib.Omega.{arith}
 use lib.Dec.{eqb}
-use borrow.Author.Tests.{eq-eqb, eqb-false}
+use borrow.Author.Tests.{eq-eqb, eqb-true, eqb-false}
 use Rattle.words.proofs.Truth.{cond-true}
 use Rattle.setup.specs.Verdict.{isAccepted}
 use Rattle.setup.specs.Setup.{setupOf}
 use Rattle.setup.specs.Check.{checkSetup}
 use Rattle.setup.specs.declared.Verdict.{Verdict}
 use Rattle.image.specs.Check.{checkImage}
 use Rattle.presence.specs.Opening.{openOf}
 use Rattle.presence.specs.Step.{stepOf}
 use Rattle.presence.specs.Image.{imageOf, stateOf, roomFor}
 use Rattle.presence.specs.Calls.{Called, answer, refusedCall, wrote, openCall, stepCall, saveCall}
 use Rattle.presence.specs.declared.State.{State}
 
 -- ---- what a call of three tests gives: of what it reads, of what it makes, of the room in its output
 
@@ -39,6 +39,13 @@ module _ (v : Verdict) (number index health : ℕ) (st : State) (out : List ℕ)
   opening-wrote true false c p q z = absurd (eqb-false number 0 q z)
   opening-wrote false b c p q z = absurd (eqb-false (v .number) 0 p z)
 
+  -- each test of an accepted call came out true
+  opening-tests : (a b c : Bool) → isAccepted v ≡ a → eqb number 0 ≡ b → opening a b c .answer .number ≡ 0 → (a ≡ true) × (b ≡ true)
+  unfolding opening wrote refusedCall
+  opening-tests true true c p q z = (refl, refl)
+  opening-tests true false c p q z = absurd (eqb-false number 0 q z)
+  opening-tests false b c p q z = absurd (eqb-false (v .number) 0 p z)
+
   opening-kept : (a b c : Bool) → opening a b c .answer .number ≢ 0 → opening a b c .out ≡ out
   unfolding opening wrote refusedCall
   opening-kept true true true f = absurd (f refl)
@@ -52,6 +59,13 @@ module _ (v : Verdict) (number index health : ℕ) (st : State) (out : List ℕ)
   step-wrote true b false p q z = absurd (omega arith)
   step-wrote true false true p q z = absurd (eqb-false number 0 q z)
   step-wrote false b c p q z = absurd (eqb-false (v .number) 0 p z)
+
+  step-tests : (a b c : Bool) → isAccepted v ≡ a → eqb number 0 ≡ b → step a b c .answer .number ≡ 0 → (a ≡ true) × (b ≡ true)
+  unfolding step wrote refusedCall
+  step-tests true true c p q z = (refl, refl)
+  step-tests true false true p q z = absurd (eqb-false number 0 q z)
+  step-tests true false false p q z = absurd (omega arith)
+  step-tests false b c p q z = absurd (eqb-false (v .number) 0 p z)
 
   step-kept : (a b c : Bool) → step a b c .answer .number ≢ 0 → step a b c .out ≡ out
   unfolding step wrote refusedCall
@@ -69,6 +83,14 @@ module _ (setup : List ℕ) (own : ℕ) (out : List ℕ) where
       (openOf (setupOf setup) own .state) out (isAccepted (checkSetup setup)) (eqb (openOf (setupOf setup) own .number) 0) (roomFor (openOf (setupOf setup) own .state) out)
       refl refl z .0
 
+  pub open-passed : openCall setup own out .answer .number ≡ 0 → (checkSetup setup .number ≡ 0) × (openOf (setupOf setup) own .number ≡ 0)
+  unfolding openCall opening
+  open-passed z =
+      let (v, o) = opening-tests (checkSetup setup) (openOf (setupOf setup) own .number) (openOf (setupOf setup) own .index) 0
+      (openOf (setupOf setup) own .state) out (isAccepted (checkSetup setup)) (eqb (openOf (setupOf setup) own .number) 0) (roomFor (openOf (setupOf setup) own .state) out)
+      refl refl z in
+      (eqb-true (checkSetup setup .number) 0 v, eqb-true (openOf (setupOf setup) own .number) 0 o)
+
   pub open-keeps : openCall setup own out .answer .number ≢ 0 → openCall setup own out .out ≡ out
   unfolding openCall opening
   open-keeps f = opening-kept (checkSetup setup) (openOf (setupOf setup) own .number) (openOf (setupOf setup) own .index) 0
@@ -85,6 +107,15 @@ module _ (image read : List ℕ) (controller : ℕ) (out : List ℕ) where
       step-wrote (checkImage image) (stepOf (stateOf image) read controller .number) (stepOf (stateOf image) read controller .index)
       (stepOf (stateOf image) read controller .health) (stepOf (stateOf image) read controller .state) out (isAccepted (checkImage image))
       (eqb (stepOf (stateOf image) read controller .number) 0) (roomFor (stateOf image) out) refl refl z
+
+  pub step-passed : stepCall image read controller out .answer .number ≡ 0
+      → (checkImage image .number ≡ 0) × (stepOf (stateOf image) read controller .number ≡ 0)
+  unfolding stepCall step
+  step-passed z =
+      let (v, t) = step-tests (checkImage image) (stepOf (stateOf image) read controller .number) (stepOf (stateOf image) read controller .index)
+      (stepOf (stateOf image) read controller .health) (stepOf (stateOf image) read controller .state) out (isAccepted (checkImage image))
+      (eqb (stepOf (stateOf image) read controller .number) 0) (roomFor (stateOf image) out) refl refl z in
+      (eqb-true (checkImage image .number) 0 v, eqb-true (stepOf (stateOf image) read controller .number) 0 t)
 
   pub step-keeps : stepCall image read controller out .answer .number ≢ 0 → stepCall image read controller out .out ≡ out
   unfolding stepCall step

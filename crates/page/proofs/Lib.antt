@@ -1,0 +1,11 @@
+pub mod FlagLaws
+pub mod RaisedLaws
+pub mod PageLaws
+pub mod PageWords
+pub mod HostLaws
+pub mod CallLaws
+pub mod OpenLaws
+pub mod StepLaws
+pub mod EitherLaws
+pub mod ChargeLaws
+pub mod Promise

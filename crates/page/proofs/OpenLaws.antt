@@ -1,0 +1,129 @@
+-- An opening with a page, by what the opening without one has answered.
+use mathlib.Core.Path.{_≡_, ap, ap₂, _∙_, sym}
+use mathlib.Core.Bool.{true, false}
+use mathlib.Core.Logic.{⊎-elim}
+use mathlib.Core.List.{List, [], _++_}
+use Prim.Native.Nat.{ℕ, _+_, _*_, _≤_}
+use native.Mathlib.Omega.{arith}
+use lib.ListN.{length}
+use lib.Dec.{eqb}
+use borrow.Author.Tests.{eq-eqb, ne-eqb, eqb-false}
+use Rattle.words.specs.Word.{wordAt}
+use Rattle.words.proofs.Truth.{which, cond-true, cond-false}
+use Rattle.setup.specs.Verdict.{isAccepted}
+use Rattle.setup.specs.Setup.{sizeIn, setupOf}
+use Rattle.setup.specs.Check.{checkSetup}
+use Rattle.setup.proofs.CheckLaws.{BytesFit, setup-pass}
+use Rattle.image.specs.Words.{viewIn, imageLength}
+use Rattle.presence.specs.Valid.{Valid}
+use Rattle.presence.specs.Opening.{fresh, blank, openOf}
+use Rattle.presence.specs.Image.{imageOf, roomFor}
+use Rattle.presence.specs.Calls.{Called, called, refusedCall, wrote, openCall}
+use Rattle.presence.specs.declared.Answer.{Answer}
+use Rattle.presence.specs.declared.State.{State}
+use Rattle.presence.specs.declared.Opened.{Opened}
+use Rattle.presence.proofs.StepLaws.{open-valid}
+use Rattle.presence.proofs.CallAnswers.{open-writes, open-passed}
+use Rattle.page.specs.Page.{pageOpened}
+use Rattle.page.specs.Calls.{pageCalled, pageOpenCall}
+use Rattle.page.proofs.CallLaws.{with-accepted, with-refused, with-before, with-nine, moved, refused-by, no-room, image-view, image-length}
+
+module _ (setup : List ℕ) (own : ℕ) where
+  abbrev opened : Opened
+  opened = openOf (setupOf setup) own
+
+  bad-setup : (out : List ℕ) → isAccepted (checkSetup setup) ≡ false
+      → openCall setup own out ≡ refusedCall (checkSetup setup .number) (checkSetup setup .index) out
+  unfolding openCall
+  bad-setup out f = cond-false _ _ f
+
+  bad-own : (out : List ℕ) → isAccepted (checkSetup setup) ≡ true → eqb (opened .number) 0 ≡ false
+      → openCall setup own out ≡ refusedCall (opened .number) (opened .index) out
+  unfolding openCall
+  bad-own out t f = cond-true _ _ t ∙ cond-false _ _ f
+
+  bad-output : (out : List ℕ) → isAccepted (checkSetup setup) ≡ true → eqb (opened .number) 0 ≡ true → roomFor (opened .state) out ≡ false
+      → openCall setup own out ≡ refusedCall 9 0 out
+  unfolding openCall
+  bad-output out t n f = cond-true _ _ t ∙ cond-true _ _ n ∙ cond-false _ _ f
+
+  opens : (out : List ℕ) → isAccepted (checkSetup setup) ≡ true → eqb (opened .number) 0 ≡ true → roomFor (opened .state) out ≡ true
+      → openCall setup own out .answer .number ≡ 0
+  unfolding openCall wrote
+  opens out t n m = ap (λ (c : Called). c .answer .number) (cond-true _ _ t ∙ cond-true _ _ n ∙ cond-true _ _ m)
+
+  module _ (out page : List ℕ) {r : Answer} {l : List ℕ} (e : called r l ≡ openCall setup own []) (f : length page ≡ 64 → ⊥) where
+    -- the same refusal by both
+    as-lent : (number index : ℕ) → openCall setup own [] ≡ refusedCall number index [] → openCall setup own out ≡ refusedCall number index out
+        → (number ≡ 0 → ⊥) → pageCalled (called r (l ++ out)) page ≡ pageOpenCall setup own out page
+    unfolding pageOpenCall
+    as-lent number index g h n =
+        moved out page number index (e ∙ g) ∙ ap (λ (c : Called). pageCalled c page) (sym h)
+        ∙ with-before _ (openCall setup own out) out page _ (ne-eqb _ 0 (refused-by number index out h n)) (refused-by number index out h n)
+
+    -- the page alone is refused
+    page-alone : openCall setup own [] ≡ refusedCall 9 0 [] → openCall setup own out .answer .number ≡ 0
+        → pageCalled (called r (l ++ out)) page ≡ pageOpenCall setup own out page
+    unfolding pageOpenCall
+    page-alone g z = moved out page 9 0 (e ∙ g) ∙ with-nine _ (openCall setup own out) out page _ (eq-eqb _ 0 z) f
+
+    -- asked with an output of no bytes, an opening answers what goes before 9, or 9
+    pub open-no-page : pageCalled (called r (l ++ out)) page ≡ pageOpenCall setup own out page
+    open-no-page =
+        ⊎-elim
+        (λ (t : isAccepted (checkSetup setup) ≡ true). ⊎-elim
+        (λ (n : eqb (opened .number) 0 ≡ true).
+        let g = bad-output [] t n (no-room (opened .state)) in
+        ⊎-elim (λ (m : roomFor (opened .state) out ≡ true). page-alone g (opens out t n m))
+        (λ (m : roomFor (opened .state) out ≡ false). as-lent 9 0 g (bad-output out t n m) (λ x. omega arith))
+        (which (roomFor (opened .state) out)))
+        (λ (n : eqb (opened .number) 0 ≡ false). as-lent _ _ (bad-own [] t n) (bad-own out t n) (eqb-false (opened .number) 0 n))
+        (which (eqb (opened .number) 0)))
+        (λ (n : isAccepted (checkSetup setup) ≡ false). as-lent _ _ (bad-setup [] n) (bad-setup out n) (eqb-false (checkSetup setup .number) 0 n))
+        (which (isAccepted (checkSetup setup)))
+
+  module _ (out : List ℕ) {r : Answer} {b : List ℕ} (e : called r b ≡ openCall setup own out) where
+    pub open-refused : (page : List ℕ) → length page ≡ 64 → (r .number ≡ 0 → ⊥) → pageCalled (called r b) page ≡ pageOpenCall setup own out page
+    unfolding pageOpenCall
+    open-refused page l f =
+        ap (λ (c : Called). pageCalled c page) e
+        ∙ with-refused _ (openCall setup own out) out page _ l (λ z. f (ap (λ (c : Called). c .answer .number) e ∙ z))
+
+    module _ (z : r .number ≡ 0) where
+      answered : openCall setup own out .answer .number ≡ 0
+      answered = ap (λ (c : Called). c .answer .number) (sym e) ∙ z
+
+      fits : BytesFit setup
+      fits = setup-pass setup (open-passed setup own out answered .0)
+
+      fresh-valid : Valid (opened .state)
+      fresh-valid = open-valid (setupOf setup) own (open-passed setup own out answered .1)
+
+      wrote-image : b ≡ imageOf (opened .state)
+      wrote-image = ap (λ (c : Called). c .out) e ∙ open-writes setup own out answered
+
+      pub setup-room : 4 ≤ length setup
+      setup-room = fits .front .room
+
+      module _ {n : ℕ} (size : n ≡ sizeIn (wordAt setup 0)) where
+        size-is : n ≡ opened .state .setup .n
+        unfolding openOf fresh setupOf
+        size-is =
+            size
+            ∙ ap (λ (x : State). x .setup .n)
+            (sym (cond-true (fresh (setupOf setup) own) blank (eq-eqb (opened .number) 0 (open-passed setup own out answered .1))))
+
+        pub in-fresh : (n ≤ 16) × ((n + 3) * 4 + 4 ≤ length b)
+        in-fresh =
+            let f = fits .front .most in
+            let l : length b ≡ imageLength n = ap length wrote-image ∙ image-length (opened .state) fresh-valid ∙ ap imageLength (sym size-is) in
+            (omega arith, omega arith)
+
+        pub open-paged : (page : List ℕ) {w : ℕ} {p : List ℕ} → length page ≡ 64 → w ≡ viewIn (wordAt b (n + 3)) → p ≡ pageOpened n w
+            → pageCalled (called r b) p ≡ pageOpenCall setup own out page
+        unfolding pageOpenCall
+        open-paged page {w} {p} l view h =
+            let a : w ≡ opened .state .counters .view =
+            view ∙ ap₂ (λ (x : List ℕ) (k : ℕ). viewIn (wordAt x (k + 3))) wrote-image size-is ∙ image-view (opened .state) fresh-valid
+            in
+            ap₂ pageCalled e (h ∙ ap₂ pageOpened size-is a) ∙ with-accepted _ (openCall setup own out) out page _ l answered

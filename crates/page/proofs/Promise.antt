@@ -1,0 +1,213 @@
+-- What a page promises beside the equations of its calls.
+use mathlib.Core.Path.{_≡_, ap, _∙_, sym, subst}
+use mathlib.Core.Logic.{_≢_, ⊎-elim}
+use mathlib.Core.Bool.{Bool, true, false, not, _&&_}
+use mathlib.Core.List.{List}
+use Prim.Native.Nat.{ℕ, _+_, _<_}
+use native.Mathlib.Omega.{arith}
+use lib.ListN.{length}
+use lib.Dec.{eqb}
+use borrow.Author.Tests.{eq-eqb, ne-eqb}
+use Rattle.words.specs.Word.{wordAt}
+use Rattle.words.specs.Bits.{bit}
+use Rattle.words.proofs.Truth.{which, cond-true, cond-false}
+use Rattle.words.proofs.WordLaws.{read-put, read-put-other}
+use Rattle.setup.specs.Verdict.{isAccepted}
+use Rattle.setup.specs.Setup.{setupOf}
+use Rattle.image.specs.Words.{viewIn}
+use Rattle.image.specs.Check.{checkImage}
+use Rattle.presence.specs.Valid.{Valid}
+use Rattle.presence.specs.Opening.{openOf}
+use Rattle.presence.specs.Step.{stepOf}
+use Rattle.presence.specs.Image.{imageOf, stateOf}
+use Rattle.presence.specs.Calls.{openCall, stepCall}
+use Rattle.presence.specs.declared.State.{State}
+use Rattle.presence.specs.declared.Stepped.{Stepped}
+use Rattle.presence.proofs.ValidLaws.{valid-fits}
+use Rattle.presence.proofs.StepLaws.{step-valid, open-valid}
+use Rattle.presence.proofs.ImageLaws.{load-valid}
+use Rattle.presence.proofs.CallAnswers.{open-writes, open-passed, step-writes, step-passed}
+use Rattle.page.specs.Flags.{cleared}
+use Rattle.page.specs.Page.{isPage, pageOpened, somebodyCharged, raised, pageStepped, pageWritten, interruptOn}
+use Rattle.page.specs.Host.{writeCall}
+use Rattle.page.specs.Calls.{PageCalled, pageCalled, pageOpenCall, pageStepCall}
+use Rattle.page.specs.Promise.{Paged, opens, steps, refused-step, writes, Unnamed, here, stepped, written, Promise}
+use Rattle.page.proofs.CallLaws.{image-view, image-size}
+use Rattle.page.proofs.RaisedLaws.{raised-kept, raised-changed, raised-charged, cleared-kept, turns-on}
+use Rattle.page.proofs.PageWords.{opened-1, written-1, word-0, word-1, word-2, word-3}
+use Rattle.page.proofs.EitherLaws.{lent, goes-on, with-zero, with-either, with-kept, write-either}
+use Rattle.page.proofs.ChargeLaws.{charged-grows}
+
+-- the view of a state is read back from its image
+view-read : (st : State) → Valid st → stateOf (imageOf st) .counters .view ≡ st .counters .view
+unfolding stateOf
+view-read st v =
+    ap (λ (k : ℕ). viewIn (wordAt (imageOf st) (k + 3))) (image-size st v) ∙ image-view st v
+
+-- ---- an accepted step
+
+module _ (image read : List ℕ) (controller : ℕ) (out : List ℕ) where
+  abbrev st : State
+  st = stateOf image
+
+  abbrev s : Stepped
+  s = stepOf st read controller
+
+  abbrev next : List ℕ → List ℕ
+  next page = pageStepped (st .setup .n) (st .counters .view) (s .health) (s .state .counters .view) page
+
+  passes : stepCall image read controller out .answer .number ≡ 0 → isAccepted (checkImage image) ≡ true
+  passes z = eq-eqb (checkImage image .number) 0 (step-passed image read controller out z .0)
+
+  -- what becomes of a page
+  step-either : (P : List ℕ → Type 0) (page : List ℕ) → P page → (length page ≡ 64 → P (next page)) → P (pageStepCall image read controller out page .page)
+  unfolding pageStepCall
+  step-either P page p q = with-either _ (stepCall image read controller out) out page (next page) P passes p q
+
+  module _ (page : List ℕ) (z : pageStepCall image read controller out page .call .answer .number ≡ 0) where
+    abbrev after : PageCalled
+    after = pageStepCall image read controller out page
+
+    zero : (isAccepted (checkImage image) && not (isPage page) ≡ false) × (stepCall image read controller out .answer .number ≡ 0)
+    unfolding pageStepCall
+    zero = with-zero _ (stepCall image read controller out) out page (next page) z
+
+    long : length page ≡ 64
+    long = lent _ (stepCall image read controller out) out page (next page) (passes (zero .1)) (zero .0)
+
+    made : after ≡ pageCalled (stepCall image read controller out) (next page)
+    unfolding pageStepCall
+    made =
+        goes-on _ (stepCall image read controller out) out page (next page) (zero .0)
+        ∙ ap (pageCalled (stepCall image read controller out)) (cond-true (next page) page (eq-eqb _ 0 (zero .1)))
+
+    same-step : after .call ≡ stepCall image read controller out
+    same-step = ap (λ (x : PageCalled). x .call) made
+
+    page-is : after .page ≡ next page
+    page-is = ap (λ (x : PageCalled). x .page) made
+
+    health-is : after .call .answer .health ≡ s .health
+    health-is = ap (λ (x : PageCalled). x .call .answer .health) made ∙ step-writes image read controller out (zero .1) .1
+
+    view-is : stateOf (after .call .out) .counters .view ≡ s .state .counters .view
+    view-is =
+        ap (λ (x : PageCalled). stateOf (x .call .out) .counters .view) made
+        ∙ ap (λ (x : List ℕ). stateOf x .counters .view) (step-writes image read controller out (zero .1) .0)
+        ∙ view-read (s .state) (step-valid st read controller (step-passed image read controller out (zero .1) .1))
+
+    health-word : wordAt (after .page) 0 ≡ after .call .answer .health
+    health-word = ap (λ (x : List ℕ). wordAt x 0) page-is ∙ word-0 _ _ _ _ page long ∙ sym health-is
+
+    view-word : wordAt (after .page) 1 ≡ stateOf (after .call .out) .counters .view
+    view-word = ap (λ (x : List ℕ). wordAt x 1) page-is ∙ word-1 _ _ _ _ page long ∙ sym view-is
+
+    enable-stays : wordAt (after .page) 3 ≡ wordAt page 3
+    enable-stays = ap (λ (x : List ℕ). wordAt x 3) page-is ∙ word-3 _ _ _ _ page long
+
+    flags-are : wordAt (after .page) 2 ≡ raised (wordAt page 2) (not (eqb (wordAt page 1) (s .state .counters .view)))
+        (somebodyCharged (st .setup .n) (st .counters .view) (s .health))
+    flags-are = ap (λ (x : List ℕ). wordAt x 2) page-is ∙ word-2 _ _ _ _ page long
+
+    enabled : (j : ℕ) → j < 32 → bit (wordAt (after .page) 2) j ≡ true → bit (wordAt page 3) j ≡ true → interruptOn (after .page) ≡ true
+    enabled j h t u = turns-on (after .page) j h t (ap (λ (x : ℕ). bit x j) enable-stays ∙ u)
+
+    change-on : wordAt page 1 ≢ stateOf (after .call .out) .counters .view → bit (wordAt page 3) 0 ≡ true → interruptOn (after .page) ≡ true
+    change-on f u =
+        let t : not (eqb (wordAt page 1) (s .state .counters .view)) ≡ true = ap not (ne-eqb _ _ (λ e. f (e ∙ sym view-is))) in
+        let c = somebodyCharged (st .setup .n) (st .counters .view) (s .health) in
+        enabled 0 (omega arith)
+        (ap (λ (x : ℕ). bit x 0) flags-are ∙ ap (λ (b : Bool). bit (raised (wordAt page 2) b c) 0) t ∙ raised-changed (wordAt page 2) c) u
+
+    charge-on : somebodyCharged (st .setup .n) (st .counters .view) (after .call .answer .health) ≡ true → bit (wordAt page 3) 1 ≡ true
+        → interruptOn (after .page) ≡ true
+    charge-on c u =
+        let t : somebodyCharged (st .setup .n) (st .counters .view) (s .health) ≡ true =
+        ap (somebodyCharged (st .setup .n) (st .counters .view)) (sym health-is) ∙ c
+        in
+        enabled 1 (omega arith)
+        (ap (λ (x : ℕ). bit x 1) flags-are ∙ ap (λ (b : Bool). bit (raised (wordAt page 2) (not (eqb (wordAt page 1) (s .state .counters .view))) b) 1) t
+        ∙ raised-charged (wordAt page 2) _) u
+
+-- ---- a page shows its module's view
+
+module _ (setup : List ℕ) (own : ℕ) (out page : List ℕ) (z : pageOpenCall setup own out page .call .answer .number ≡ 0) where
+  abbrev opening : PageCalled
+  opening = pageOpenCall setup own out page
+
+  abbrev fresh : State
+  fresh = openOf (setupOf setup) own .state
+
+  opens-zero : (eqb (openCall setup own out .answer .number) 0 && not (isPage page) ≡ false) × (openCall setup own out .answer .number ≡ 0)
+  unfolding pageOpenCall
+  opens-zero = with-zero _ (openCall setup own out) out page (pageOpened (fresh .setup .n) (fresh .counters .view)) z
+
+  opens-made : opening ≡ pageCalled (openCall setup own out) (pageOpened (fresh .setup .n) (fresh .counters .view))
+  unfolding pageOpenCall
+  opens-made =
+      goes-on _ (openCall setup own out) out page (pageOpened (fresh .setup .n) (fresh .counters .view)) (opens-zero .0)
+      ∙ ap (pageCalled (openCall setup own out)) (cond-true _ page (eq-eqb _ 0 (opens-zero .1)))
+
+  same-opening : opening .call ≡ openCall setup own out
+  same-opening = ap (λ (x : PageCalled). x .call) opens-made
+
+  opened-view : wordAt (opening .page) 1 ≡ stateOf (opening .call .out) .counters .view
+  opened-view =
+      ap (λ (x : PageCalled). wordAt (x .page) 1) opens-made ∙ opened-1 (fresh .setup .n) (fresh .counters .view)
+      ∙ sym (ap (λ (x : PageCalled). stateOf (x .call .out) .counters .view) opens-made
+      ∙ ap (λ (x : List ℕ). stateOf x .counters .view) (open-writes setup own out (opens-zero .1))
+      ∙ view-read fresh (open-valid (setupOf setup) own (open-passed setup own out (opens-zero .1) .1)))
+
+shows : (image page : List ℕ) → Paged image page → wordAt page 1 ≡ stateOf image .counters .view
+unfolding pageStepCall
+shows _ _ (opens setup own out page z) = opened-view setup own out page z
+shows _ _ (steps {image} {page} p read controller out z) = view-word image read controller out page z
+shows image _ (refused-step {page = page} p other read controller out f) =
+    ap (λ (x : List ℕ). wordAt x 1) (with-kept _ (stepCall other read controller out) out page (next other read controller out page) f) ∙ shows image page p
+shows image _ (writes {page = page} p offset value) =
+    write-either page offset value (λ x. wordAt x 1 ≡ stateOf image .counters .view) (shows image page p)
+    (λ l. written-1 offset value page l ∙ shows image page p)
+
+-- ---- a flag is lost only by a write that names it
+
+module _ (j : ℕ) (h : j < 32) where
+  abbrev Set : List ℕ → Type 0
+  Set page = bit (wordAt page 2) j ≡ true
+
+  step-kept : (image read : List ℕ) (controller : ℕ) (out page : List ℕ) → Set page → Set (pageStepCall image read controller out page .page)
+  step-kept image read controller out page t =
+      step-either image read controller out Set page t
+      (λ l. ap (λ (x : ℕ). bit x j) (word-2 _ _ _ _ page l) ∙ raised-kept (wordAt page 2) j _ _ h t)
+
+  written-kept : (offset value : ℕ) (page : List ℕ) → length page ≡ 64 → eqb offset 8 && bit value j ≡ false → Set page → Set (pageWritten offset value page)
+  unfolding pageWritten
+  written-kept offset value page l f t =
+      ⊎-elim
+      (λ (e : eqb offset 8 ≡ true).
+      subst Set (sym (cond-true _ _ e))
+      (ap (λ (x : ℕ). bit x j) (read-put page 2 (cleared (wordAt page 2) value) (omega arith))
+      ∙ cleared-kept (wordAt page 2) value j h (sym (ap (λ (b : Bool). b && bit value j) e) ∙ f) t))
+      (λ (e : eqb offset 8 ≡ false).
+      subst Set (sym (cond-false _ _ e)) (ap (λ (x : ℕ). bit x j) (read-put-other page 3 2 value (omega arith) (λ i. omega arith)) ∙ t))
+      (which (eqb offset 8))
+
+  write-kept : (page : List ℕ) (offset value : ℕ) → eqb offset 8 && bit value j ≡ false → Set page → Set (writeCall page offset value .page)
+  write-kept page offset value f t = write-either page offset value Set t (λ l. written-kept offset value page l f t)
+
+  pub stays-set : (page now : List ℕ) → Unnamed j page now → Set page → Set now
+  stays-set page _ here t = t
+  stays-set page _ (stepped {now} u image read controller out) t = step-kept image read controller out now (stays-set page now u t)
+  stays-set page _ (written {now} u offset value f) t = write-kept now offset value f (stays-set page now u t)
+
+pub promise : Promise
+promise = record {
+  same-opening = same-opening;
+  same-step = same-step;
+  health = health-word;
+  view = view-word;
+  shown = shows;
+  grew = λ image health z. charged-grows (stateOf image .setup) (stateOf image .counters) health (valid-fits (stateOf image) (load-valid image z) .setup);
+  kept = λ j page now h u t. stays-set j h page now u t;
+  changed = change-on;
+  charged = charge-on;
+}

@@ -1,0 +1,50 @@
+-- Health and view are written, and the flags are raised.
+use Rattle.page.proofs.PageLaws.{stepped-made}
+use borrow.Author.Needs.{needs}
+use Rattle.page.proofs.registers.step_page.Statement.{statement}
+use Rattle.page.proofs.registers.step_page.Tie as tie
+
+word-at-requires : tie.Need-word-at-requires
+word-at-requires c κs = search needs
+
+somebody-charged-requires : tie.Need-somebody-charged-requires
+somebody-charged-requires c κs = search needs
+
+word-at-requires-2 : tie.Need-word-at-requires-2
+word-at-requires-2 c κs = search needs
+
+raise-requires : tie.Need-raise-requires
+raise-requires c κs = search needs
+
+put-word-requires : tie.Need-put-word-requires
+put-word-requires c κs = search needs
+
+put-word-requires-2 : tie.Need-put-word-requires-2
+put-word-requires-2 c κs = search needs
+
+put-word-requires-3 : tie.Need-put-word-requires-3
+put-word-requires-3 c κs = search needs
+
+same-length : tie.Need-same-length
+same-length c = search needs
+
+returns : tie.Need-returns
+returns c =
+    let w = c .before .before .before .before .before .before .before .before .before .before .before .before in
+    stepped-made _ _ _ _ _ (w .before .before .before .before .word-at .ensures) (w .before .word-at2 .ensures) (w .before .before .before .somebody-charged .ensures)
+    (w .raise .ensures) (c .before .before .before .before .before .before .before .before .before .before .put-word .ensures)
+    (c .before .before .before .before .before .before .put-word2 .ensures) (c .before .before .put-word3 .ensures)
+
+pub step-page-spec : {M : Type 1} → statement M
+step-page-spec =
+    tie.close
+    (tie.spec
+    word-at-requires
+    somebody-charged-requires
+    word-at-requires-2
+    raise-requires
+    put-word-requires
+    put-word-requires-2
+    put-word-requires-3
+    same-length
+    returns)

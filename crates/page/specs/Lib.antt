@@ -1,0 +1,5 @@
+pub mod Flags
+pub mod Page
+pub mod Host
+pub mod Calls
+pub mod Promise

@@ -1,0 +1,51 @@
+-- The register page: 16 words, 0 health, 1 view, 2 flags (bit 0 view changed, bit 1 somebody charged), 3 enable, the rest 0.
+-- (document 02, E1)
+use Prim.Native.Nat.{ℕ, _+_, _*_, _%_}
+use mathlib.Core.Bool.{Bool, cond, not, _&&_}
+use mathlib.Core.List.{List}
+use lib.ListN.{length}
+use lib.Dec.{eqb, ltb}
+use Rattle.words.specs.Word.{wordAt, putWord, bytesOf}
+use Rattle.words.specs.Bits.{bit, b2n, full}
+use Rattle.words.specs.Count.{any}
+use Rattle.page.specs.Flags.{joined, cleared, shared}
+
+abbrev pub isPage : List ℕ → Bool
+isPage page = eqb (length page) 64
+
+-- a byte offset that is the start of one of the 16 words
+abbrev pub startsWord : ℕ → Bool
+startsWord offset = eqb (offset % 4) 0 && ltb offset 64
+
+-- ---- opened: health all ones, the module's view, no flags, enable 0
+
+unfoldable pub openedWord : ℕ → ℕ → ℕ → ℕ
+openedWord n view i = cond (eqb i 0) (full n) (cond (eqb i 1) view 0)
+
+unfoldable pub pageOpened : ℕ → ℕ → List ℕ
+pageOpened n view = bytesOf 16 (openedWord n view)
+
+-- ---- a step of n modules, by the view that rule 8 found, the health vector and the view after it
+
+-- a module that rule 8 found in the view had health 0
+unfoldable pub somebodyCharged : ℕ → ℕ → ℕ → Bool
+somebodyCharged n view health = any n (λ j. bit view j && not (bit health j))
+
+-- flags stay, bit 0 is set where the view changed, bit 1 where somebody was charged
+unfoldable pub raised : ℕ → Bool → Bool → ℕ
+raised flags changed charged = joined flags (b2n changed + b2n charged * 2)
+
+unfoldable pub pageStepped : ℕ → ℕ → ℕ → ℕ → List ℕ → List ℕ
+pageStepped n before health after page =
+    let changed = not (eqb (wordAt page 1) after) in
+    putWord (putWord (putWord page 0 health) 1 after) 2 (raised (wordAt page 2) changed (somebodyCharged n before health))
+
+-- ---- the host
+
+-- a write of word 2, at offset 8, clears the flags written as ones; word 3 is stored whole
+unfoldable pub pageWritten : ℕ → ℕ → List ℕ → List ℕ
+pageWritten offset value page = cond (eqb offset 8) (putWord page 2 (cleared (wordAt page 2) value)) (putWord page 3 value)
+
+-- on exactly while flags and enable share a set bit
+unfoldable pub interruptOn : List ℕ → Bool
+interruptOn page = shared (wordAt page 2) (wordAt page 3)

@@ -1,0 +1,66 @@
+-- What a page promises beside the equations of its calls. Proved in proofs/Promise.antt. (document 02, E1)
+use Prim.Native.Nat.{ℕ, _<_}
+use mathlib.Core.Path.{_≡_}
+use mathlib.Core.Logic.{_≢_}
+use mathlib.Core.Bool.{true, false, _&&_}
+use mathlib.Core.List.{List}
+use lib.ListN.{getD}
+use lib.Dec.{eqb, ltb}
+use Rattle.words.specs.Word.{wordAt}
+use Rattle.words.specs.Bits.{bit}
+use Rattle.words.specs.Count.{any}
+use Rattle.rules.specs.Account.{countersOf}
+use Rattle.image.specs.Check.{checkImage}
+use Rattle.presence.specs.Image.{stateOf}
+use Rattle.presence.specs.Calls.{openCall, stepCall}
+use Rattle.page.specs.Page.{somebodyCharged, interruptOn}
+use Rattle.page.specs.Host.{writeCall}
+use Rattle.page.specs.Calls.{pageOpenCall, pageStepCall}
+
+-- A module's image and its page: opened together, stepped together; refused steps that were lent the page, and writes of the host, lie between.
+pub data Paged : List ℕ → List ℕ → Type 0 where
+  opens : (setup : List ℕ) (own : ℕ) (out page : List ℕ) → pageOpenCall setup own out page .call .answer .number ≡ 0
+      → Paged (pageOpenCall setup own out page .call .out) (pageOpenCall setup own out page .page)
+  steps : {image page : List ℕ} → Paged image page → (read : List ℕ) (controller : ℕ) (out : List ℕ)
+      → pageStepCall image read controller out page .call .answer .number ≡ 0
+      → Paged (pageStepCall image read controller out page .call .out) (pageStepCall image read controller out page .page)
+  refused-step : {image page : List ℕ} → Paged image page → (other read : List ℕ) (controller : ℕ) (out : List ℕ)
+      → pageStepCall other read controller out page .call .answer .number ≢ 0 → Paged image (pageStepCall other read controller out page .page)
+  writes : {image page : List ℕ} → Paged image page → (offset value : ℕ) → Paged image (writeCall page offset value .page)
+
+-- What becomes of a page by steps, accepted or refused, and by writes of the host, accepted or refused, none of which names flag j:
+-- a write names it where it is one of word 2, at offset 8, with bit j set. (Reading changes nothing.)
+pub data Unnamed (j : ℕ) (page : List ℕ) : List ℕ → Type 0 where
+  here : Unnamed j page page
+  stepped : {now : List ℕ} → Unnamed j page now → (image read : List ℕ) (controller : ℕ) (out : List ℕ)
+      → Unnamed j page (pageStepCall image read controller out now .page)
+  written : {now : List ℕ} → Unnamed j page now → (offset value : ℕ) → eqb offset 8 && bit value j ≡ false
+      → Unnamed j page (writeCall now offset value .page)
+
+pub record Promise : Type 0 where
+  -- An accepted call with a page is the call without it, so what is proved of images (agreement/specs/Images.antt) holds of these too.
+  pub same-opening : (setup : List ℕ) (own : ℕ) (out page : List ℕ) → pageOpenCall setup own out page .call .answer .number ≡ 0
+      → pageOpenCall setup own out page .call ≡ openCall setup own out
+  pub same-step : (image read : List ℕ) (controller : ℕ) (out page : List ℕ) → pageStepCall image read controller out page .call .answer .number ≡ 0
+      → pageStepCall image read controller out page .call ≡ stepCall image read controller out
+  -- Words 0 and 1 are the health vector that an accepted step answers and the view in the image that it leaves.
+  pub health : (image read : List ℕ) (controller : ℕ) (out page : List ℕ) → pageStepCall image read controller out page .call .answer .number ≡ 0
+      → wordAt (pageStepCall image read controller out page .page) 0 ≡ pageStepCall image read controller out page .call .answer .health
+  pub view : (image read : List ℕ) (controller : ℕ) (out page : List ℕ) → pageStepCall image read controller out page .call .answer .number ≡ 0
+      → wordAt (pageStepCall image read controller out page .page) 1 ≡ stateOf (pageStepCall image read controller out page .call .out) .counters .view
+  -- So a page that goes along with its module shows its view at all times; word 1 before a step is the view before it.
+  pub shown : (image page : List ℕ) → Paged image page → wordAt page 1 ≡ stateOf image .counters .view
+  -- Somebody was charged exactly if rule 8 made a penalty grow.
+  pub grew : (image : List ℕ) (health : ℕ) → checkImage image .number ≡ 0
+      → somebodyCharged (stateOf image .setup .n) (stateOf image .counters .view) health
+      ≡ any (stateOf image .setup .n)
+      (λ j. ltb (getD (stateOf image .counters .penalty) j 0) (getD (countersOf (stateOf image .setup) health (stateOf image .counters) .penalty) j 0))
+  -- A flag that is set is lost only by a write that names it.
+  pub kept : (j : ℕ) (page now : List ℕ) → j < 32 → Unnamed j page now → bit (wordAt page 2) j ≡ true → bit (wordAt now 2) j ≡ true
+  -- No interrupt is lost: a view that changes, or a charge, turns it on where its flag is enabled.
+  pub changed : (image read : List ℕ) (controller : ℕ) (out page : List ℕ) → pageStepCall image read controller out page .call .answer .number ≡ 0
+      → wordAt page 1 ≢ stateOf (pageStepCall image read controller out page .call .out) .counters .view → bit (wordAt page 3) 0 ≡ true
+      → interruptOn (pageStepCall image read controller out page .page) ≡ true
+  pub charged : (image read : List ℕ) (controller : ℕ) (out page : List ℕ) → pageStepCall image read controller out page .call .answer .number ≡ 0
+      → somebodyCharged (stateOf image .setup .n) (stateOf image .counters .view) (pageStepCall image read controller out page .call .answer .health) ≡ true
+      → bit (wordAt page 3) 1 ≡ true → interruptOn (pageStepCall image read controller out page .page) ≡ true

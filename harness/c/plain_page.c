@@ -1,0 +1,137 @@
+/*
+ * plain_page.c - the register page of presence.h by hand in plain C99, after
+ * E1 of document 02.  Apart from plain.c, whose instructions are counted.
+ */
+#include <string.h>
+
+#include "plain.h"
+
+enum word { HEALTH, VIEW, FLAGS, ENABLE };
+
+static uint32_t get_word(const uint8_t *page, enum word at)
+{
+    const uint8_t *b = page + 4 * at;
+
+    return (uint32_t)b[0] << 24 | (uint32_t)b[1] << 16 | (uint32_t)b[2] << 8 |
+           (uint32_t)b[3];
+}
+
+static void put_word(uint8_t *page, enum word at, uint32_t value)
+{
+    uint8_t *b = page + 4 * at;
+
+    b[0] = (uint8_t)(value >> 24);
+    b[1] = (uint8_t)(value >> 16);
+    b[2] = (uint8_t)(value >> 8);
+    b[3] = (uint8_t)value;
+}
+
+static presence_answer refused(uint32_t number, uint32_t index)
+{
+    presence_answer a;
+
+    a.number = number;
+    a.index = index;
+    a.health = 0;
+    return a;
+}
+
+static presence_word told(uint32_t number, uint32_t word)
+{
+    presence_word w;
+
+    w.number = number;
+    w.index = 0;
+    w.word = word;
+    return w;
+}
+
+static uint32_t interrupt_of(const uint8_t *page)
+{
+    return (get_word(page, FLAGS) & get_word(page, ENABLE)) != 0;
+}
+
+presence_answer plain_page_open(const uint8_t *setup, size_t setup_len,
+                                uint32_t own, uint8_t *out, size_t out_len,
+                                uint8_t *page, size_t page_len)
+{
+    presence_answer a = plain_check_setup(setup, setup_len);
+    uint32_t n;
+
+    if (a.number != 0)
+        return a;
+    n = setup[3] & 31u;
+    if (own < 1 || own > n)
+        return refused(7, 0);
+    if (out_len != PRESENCE_IMAGE_BYTES(n) || page_len != PRESENCE_PAGE_BYTES)
+        return refused(9, 0);
+    a = plain_open(setup, setup_len, own, out, out_len);
+    memset(page, 0, page_len);
+    put_word(page, HEALTH, (1u << n) - 1);
+    put_word(page, VIEW, PRESENCE_VIEW(out, n));
+    return a;
+}
+
+presence_answer plain_page_step(const uint8_t *state, size_t state_len,
+                                const uint8_t *read, size_t read_len,
+                                uint32_t controller,
+                                uint8_t *out, size_t out_len,
+                                uint8_t *page, size_t page_len)
+{
+    presence_word checked = plain_outgoing(state, state_len);
+    presence_answer a;
+    uint32_t n, flags, found, left;
+
+    if (checked.number != 0)
+        return refused(checked.number, checked.index);
+    if (page_len != PRESENCE_PAGE_BYTES)
+        return refused(9, 0);
+    a = plain_step(state, state_len, read, read_len, controller, out, out_len);
+    if (a.number != 0)
+        return a;
+    n = state[3] & 31u;
+    found = PRESENCE_VIEW(state, n);
+    left = PRESENCE_VIEW(out, n);
+    flags = get_word(page, FLAGS);
+    if (left != get_word(page, VIEW))
+        flags |= PRESENCE_PAGE_VIEW_CHANGED;
+    if ((found & ~a.health) != 0)
+        flags |= PRESENCE_PAGE_CHARGED;
+    put_word(page, HEALTH, a.health);
+    put_word(page, VIEW, left);
+    put_word(page, FLAGS, flags);
+    return a;
+}
+
+presence_word plain_page_read(const uint8_t *page, size_t page_len,
+                              uint32_t offset)
+{
+    if (page_len != PRESENCE_PAGE_BYTES)
+        return told(9, 0);
+    if (offset % 4 != 0 || offset > 60)
+        return told(17, 0);
+    return told(0, get_word(page, (enum word)(offset / 4)));
+}
+
+presence_word plain_page_write(uint8_t *page, size_t page_len, uint32_t offset,
+                               uint32_t value)
+{
+    presence_word w = plain_page_read(page, page_len, offset);
+
+    if (w.number != 0)
+        return w;
+    if (offset == PRESENCE_PAGE_FLAGS)
+        put_word(page, FLAGS, w.word & ~value);
+    else if (offset == PRESENCE_PAGE_ENABLE)
+        put_word(page, ENABLE, value);
+    else
+        return told(18, 0);
+    return told(0, interrupt_of(page));
+}
+
+presence_word plain_page_interrupt(const uint8_t *page, size_t page_len)
+{
+    if (page_len != PRESENCE_PAGE_BYTES)
+        return told(9, 0);
+    return told(0, interrupt_of(page));
+}
