@@ -159,7 +159,7 @@ module _ (p : ℕ → Bool) (j : ℕ) where
 -- ---- votes by counts
 
 module _ (n voters : ℕ) (rows : List ℕ) (small : n ≤ 16) where
-  ones-le : (j : ℕ) → onesOn n voters rows j ≤ count n (λ l. not (eqb l j) && bit voters l)
+  pub ones-le : (j : ℕ) → onesOn n voters rows j ≤ count n (λ l. not (eqb l j) && bit voters l)
   unfolding onesOn
   ones-le j = count-mono n _ _ (λ l h e. and-l (not (eqb l j) && bit voters l) _ e)
 
@@ -181,27 +181,34 @@ module _ (n voters : ℕ) (rows : List ℕ) (small : n ≤ 16) where
       go (yes l) = omega (arith, ones-le j, votes-le j l)
       go (no l) = omega (arith, count-le n (λ l. (not (eqb l j) && bit voters l) && bit (getD rows l 0) j))
 
-  module _ (t : Tally) (w : t ≡ tallyOf n voters rows) (j : ℕ) (h : j < n) where
-    present-by : t .present ≡ count n (bit voters)
+  module _ (t : Tally) (w : t ≡ tallyOf n voters rows) where
+    pub present-by : t .present ≡ count n (bit voters)
     unfolding tallyOf
     present-by = ap (λ (x : Tally). x .present) w
 
-    ones-by : columnOf (t .ones) j ≡ onesOn n voters rows j
+    pub ones-by : (j : ℕ) → j < 16 → columnOf (t .ones) j ≡ onesOn n voters rows j
     unfolding tallyOf
-    ones-by = ap (λ (x : Tally). columnOf (x .ones) j) w ∙ column-at (onesOn n voters rows) ones-small j (omega arith)
+    ones-by j h = ap (λ (x : Tally). columnOf (x .ones) j) w ∙ column-at (onesOn n voters rows) ones-small j h
+
+  module _ (t : Tally) (w : t ≡ tallyOf n voters rows) (j : ℕ) (h : j < n) where
+    ones-here : columnOf (t .ones) j ≡ onesOn n voters rows j
+    ones-here = ones-by t w j (omega arith)
 
     votes-by : votesBut (t .present) voters j ≡ count n (λ l. not (eqb l j) && bit voters l)
-    votes-by = omega (arith, present-by, count-others (bit voters) j n h)
+    votes-by = omega (arith, present-by t w, count-others (bit voters) j n h)
 
     pub ones-fit : columnOf (t .ones) j ≤ votesBut (t .present) voters j
-    ones-fit = omega (arith, ones-by, votes-by, ones-le j)
+    ones-fit = omega (arith, ones-here, votes-by, ones-le j)
+
+    pub votes-fit : votesBut (t .present) voters j ≤ 15
+    votes-fit = omega (arith, votes-by, votes-le j h)
 
     pub own-counted : b2n (bit voters j) ≤ t .present
-    own-counted = omega (arith, present-by, count-others (bit voters) j n h)
+    own-counted = omega (arith, present-by t w, count-others (bit voters) j n h)
 
     vote-by : (own : ℕ) → decision (votesBut (t .present) voters j) (columnOf (t .ones) j) (bit own j) ≡ voteOf n voters rows own j
     unfolding voteOf tally onesOn
-    vote-by own = rw (ones-by, votes-by)
+    vote-by own = rw (ones-here, votes-by)
 
   -- the votes by the counts, packed, are the health vector
   pub health-by : (t : Tally) → t ≡ tallyOf n voters rows → (own : ℕ)

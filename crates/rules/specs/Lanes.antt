@@ -1,12 +1,13 @@
 -- Counting the votes on all modules at once: sixteen counts of at most 15, in four lanes of four.
-use Prim.Native.Nat.{ℕ, _+_, _-_, _*_, _/_, _%_, _^_}
-use mathlib.Core.Bool.{cond, not, _&&_}
+use Prim.Native.Nat.{ℕ, _+_, _-_, _*_, _/_, _%_, _^_, _≤_}
+use mathlib.Core.Bool.{Bool, cond, not, _&&_}
 use mathlib.Core.List.{List, [], _∷_}
 use lib.ListN.{getD}
 use lib.Dec.{eqb}
 use Rattle.words.specs.Bits.{bit, b2n}
 use Rattle.words.specs.Count.{count}
 use Rattle.rules.specs.Mask.{without}
+use Rattle.rules.specs.Vote.{decision}
 use Rattle.rules.specs.declared.vote.Tally.{Tally}
 
 -- the votes of l: bit j is its vote on j, 0 where it has none
@@ -32,6 +33,15 @@ columnOf lanes j = columnIn (getD lanes (j % 4) 0) j
 -- the rows present without that of j
 abbrev pub votesBut : ℕ → ℕ → ℕ → ℕ
 votesBut present voters j = present - b2n (bit voters j)
+
+-- the decision on j by the rows present and the counts in the lanes
+unfoldable pub decidedBy : ℕ → List ℕ → ℕ → ℕ → ℕ → Bool
+decidedBy present lanes voters own j = decision (votesBut present voters j) (columnOf lanes j) (bit own j)
+
+-- counts that are those of some votes on j: the table has an entry for them
+abbrev pub Countable : ℕ → List ℕ → ℕ → ℕ → Type 0
+Countable present lanes voters j =
+    (b2n (bit voters j) ≤ present) × (votesBut present voters j ≤ 15) × (columnOf lanes j ≤ votesBut present voters j)
 
 -- the counts of n rows
 unfoldable pub tallyOf : ℕ → ℕ → List ℕ → Tally

@@ -3,6 +3,7 @@ pub mod Hearing
 pub mod Alignment
 pub mod Mask
 pub mod Vote
+pub mod VoteTable
 pub mod Lanes
 pub mod Accusation
 pub mod Syndrome

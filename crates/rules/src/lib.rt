@@ -9,6 +9,7 @@ pub mod judge;
 pub mod lag;
 pub mod mask;
 pub mod vote;
+mod vote_table;
 
 // What became of one module's bus word: whether it is heard, and its row, 0 if it is not.
 pub struct Entry {

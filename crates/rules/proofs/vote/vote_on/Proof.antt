@@ -21,13 +21,16 @@ bit-at-requires-2 : tie.Need-bit-at-requires-2
 bit-at-requires-2 c κs = search needs
 
 decide-requires : tie.Need-decide-requires
-decide-requires c κs = omega (arith, ap b2n (c .before .before .bit-at .ensures))
+decide-requires c κs =
+    let s = c .before .before .before .before in
+    let b = ap b2n (c .before .before .bit-at .ensures) in
+    (s .pre .0, omega (arith, b), omega (arith, b))
 
 returns : tie.Need-returns
 returns c =
     let f = c .before .before in
     let v = f .flag .ensures .0 ∙ ap b2n (f .before .bit-at .ensures) in
-    let a = f .before .before .args in
+    let a = f .before .before .before .args in
     c .decide .ensures
     ∙ ap₂ (λ x b. decision (a .present - x) (a .ones) b) v (c .before .bit-at2 .ensures)
 

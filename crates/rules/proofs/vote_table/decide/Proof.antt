@@ -1,0 +1,28 @@
+-- What stands in the table for the votes and ones is their decision.
+use mathlib.Core.Path.{ap, _∙_}
+use Prim.Native.Nat.{ℕ}
+use mathlib.Core.List.{List}
+use native.Mathlib.Omega.{arith}
+use lib.ListN.{length}
+use borrow.Author.Needs.{needs}
+use Rattle.rules.proofs.VoteTableLaws.{vote-table-length, decided}
+use Rattle.rules.proofs.vote_table.decide.Statement.{statement}
+use Rattle.rules.proofs.vote_table.decide.Tie as tie
+
+mul-entry : tie.Need-mul-entry
+mul-entry c = search needs
+
+add-entry : tie.Need-add-entry
+add-entry c = search needs
+
+cast-entry : tie.Need-cast-entry
+cast-entry c = search needs
+
+shared-slice-read-entry : tie.Need-shared-slice-read-entry
+shared-slice-read-entry c = omega (arith, ap (λ (l : List ℕ). length l) (c .before .pre .0) ∙ vote-table-length)
+
+returns : tie.Need-returns
+returns c = decided _ _ _ (c .before .pre .0) (c .before .pre .1) (c .before .pre .2)
+
+pub decide-spec : {M : Type 1} → statement M
+decide-spec = tie.close (tie.spec mul-entry add-entry cast-entry shared-slice-read-entry returns)
