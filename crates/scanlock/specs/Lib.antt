@@ -1,0 +1,4 @@
+pub mod Axis
+pub mod Locks
+pub mod Image
+pub mod Calls
