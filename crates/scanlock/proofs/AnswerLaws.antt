@@ -10,13 +10,15 @@ use native.Mathlib.Nat.{le-refl}
 use lib.Dec.{eqb, leb, ltb}
 use lib.ListN.{getD}
 use lib.Pow.{pow-mono}
-use Rattle.words.specs.Bits.{bit}
+use Rattle.words.specs.Bits.{bit, b2n}
 use Rattle.words.proofs.Truth.{which, and-l, and-r, cond-true, cond-false}
 use Rattle.words.specs.Table.{updated}
 use Rattle.words.proofs.BitLaws.{bit-high}
 use Rattle.words.proofs.TableLaws.{updated-above}
 use Rattle.scanlock.specs.Axis.{free, axis, turned, present, shallower}
-use Rattle.scanlock.specs.Locks.{onAxis, admits, axisAt, settledOf, putOf}
+use Rattle.scanlock.specs.Locks.{onAxis, admits, axisAt, settledOf, putOf, joystickOf}
+use Rattle.scanlock.specs.Image.{axisWord, axisIn, fits, axisOk, answer}
+use Rattle.scanlock.specs.Calls.{answerOf}
 use Rattle.scanlock.specs.declared.Axis.{Axis}
 use Rattle.scanlock.specs.declared.Turned.{Turned}
 use Rattle.scanlock.specs.declared.Locks.{Locks}
@@ -83,3 +85,12 @@ end-made x e = ap (λ (h : ℕ). turned 0 (axis h (x .depth - 1) (x .moving) (x 
 -- an axis that a loop has not come to is as it was
 pub not-yet-seen : (i : ℕ) (f : ℕ → Axis) (l : List Axis) {m : List Axis} → m ≡ updated i f l → getD m i free ≡ getD l i free
 not-yet-seen i f l e = rw e (updated-above i f l i free (le-refl i))
+
+-- ---- words and answers, put together
+
+pub axis-tested : (view w : ℕ) {x : Axis} {v : ℕ} {b : Bool} → x ≡ axisIn w → v ≡ axisWord x → b ≡ fits view x → eqb v w && b ≡ axisOk view w
+unfolding axisOk
+axis-tested view w e h k = rw (k, h, e)
+
+pub answer-made : (number : ℕ) (st : Locks) {b : Bool} {j : ℕ} → b ≡ joystickOf st → j ≡ b2n b → answer number 0 j ≡ answerOf number st
+answer-made number st e h = ap (λ (j : ℕ). answer number 0 j) (h ∙ ap b2n e)

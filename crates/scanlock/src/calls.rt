@@ -5,21 +5,9 @@ use crate::Locks;
 use crate::check::check_image;
 use crate::check::plain;
 use crate::load::locks_in;
-use words::bits::flag;
 ghost use mathlib.Core.Path.{_≡_};
 ghost use Rattle.scanlock.specs.declared.Event.the-variants.{View, Begin, End, Start, Abort, Finished, Stopped};
-ghost use Rattle.scanlock.specs.Calls.{answerOf, called, openCall, eventCall, joystickCall};
-
-// The answer to an event that is refused by a number: the joystick is that of the locks as they were.
-fn unchanged(number: u32, locks: Locks) -> Answer
-    ensures { λ r. ⌜ r ≡ answerOf number locks ⌝ }
-{
-    Answer {
-        number,
-        index: 0,
-        joystick: flag(locks.joystick()),
-    }
-}
+ghost use Rattle.scanlock.specs.Calls.{called, openCall, eventCall, joystickCall};
 
 // Any event, from image to image: 1, 2, 3, 8 for the image, 9 for the output, then the event's own numbers.
 fn call(image: &[u8], event: Event, out: &mut [u8]) -> Answer
@@ -35,7 +23,7 @@ fn call(image: &[u8], event: Event, out: &mut [u8]) -> Answer
     let locks = locks_in(image);
     let a = locks.handle(event);
     if a.number != 0 {
-        return unchanged(a.number, locks);
+        return locks.answering(a.number);
     }
     let next = a.locks;
     next.save(out)
@@ -120,5 +108,5 @@ pub extern "C" fn scanlock_joystick(image: &[u8]) -> Answer
         return v;
     }
     let locks = locks_in(image);
-    locks.accepted()
+    locks.answering(0)
 }

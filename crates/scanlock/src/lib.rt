@@ -6,11 +6,9 @@
 pub mod after_step;
 pub mod calls;
 pub mod check;
-
 pub mod events;
 pub mod joystick;
 pub mod load;
-
 pub mod on_axis;
 pub mod opening;
 pub mod save;

@@ -35,12 +35,12 @@ impl Locks {
         }
     }
 
-    // The answer to an accepted event.
-    pub fn accepted(self) -> Answer
-        ensures { λ r. ⌜ r ≡ answerOf 0 self ⌝ }
+    // An answer with the joystick of these locks.
+    pub fn answering(self, number: u32) -> Answer
+        ensures { λ r. ⌜ r ≡ answerOf number self ⌝ }
     {
         Answer {
-            number: 0,
+            number,
             index: 0,
             joystick: flag(self.joystick()),
         }
@@ -54,6 +54,6 @@ impl Locks {
             return plain(9, 0);
         }
         self.save_words(out);
-        self.accepted()
+        self.answering(0)
     }
 }

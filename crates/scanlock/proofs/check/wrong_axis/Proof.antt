@@ -1,55 +1,58 @@
+-- As long as the search goes on, no word of an axis below i is wrong; it stops at the first that is, or at the last.
+use Prim.Native.Nat.{_+_, _-_, _≤_}
+use mathlib.Core.Path.{_≡_, refl, ap, sym, _∙_}
+use mathlib.Core.Bool.{not}
+use native.Mathlib.Omega.{arith}
+use borrow.Author.Needs.{needs}
+use Rattle.words.specs.Word.{wordAt}
+use Rattle.words.specs.Count.{lowest}
+use Rattle.words.proofs.LowestLaws.{lowest-none, lowest-found, lowest-ends}
+use Rattle.scanlock.specs.Image.{axisOk}
 use Rattle.scanlock.proofs.check.wrong_axis.Statement.{statement}
 use Rattle.scanlock.proofs.check.wrong_axis.Tie as tie
-use Rattle.scanlock.proofs.check.wrong_axis.Reads as reads
-use Rattle.scanlock.proofs.check.wrong_axis.Lts as lts
-use Rattle.scanlock.proofs.word.axis_ok.Reads as axis-ok-reads
-use Rattle.words.proofs.word.word_at.Reads as word-at-reads
 
 abbrev Inv-loop : tie.InvT-loop
-Inv-loop image view i₀ i = ?
+Inv-loop image view i₀ i = (i ≤ 8) × (lowest i (λ k. not (axisOk view (wordAt image (k + 1)))) ≡ 0)
 
 abbrev μ-loop : tie.MeasureT-loop
-μ-loop image view i₀ i = ?
+μ-loop image view i₀ i = 8 - i
 
--- src/check.rt:31:9
 loop-holds : tie.Need-loop-holds Inv-loop μ-loop
-loop-holds c = ?
+unfolding lowest
+loop-holds c = (omega arith, refl)
 
--- src/check.rt:35:42
 add-word-at : tie.Need-add-word-at Inv-loop μ-loop
-add-word-at c = ?
+add-word-at c = omega arith
 
--- src/check.rt:35:27
 word-at-requires : tie.Need-word-at-requires Inv-loop μ-loop
-word-at-requires c κs = ?
+word-at-requires c κs = omega arith
 
--- src/check.rt:35:13
 axis-ok-requires : tie.Need-axis-ok-requires Inv-loop μ-loop
-axis-ok-requires c κs = ?
+axis-ok-requires c κs = search needs
 
--- src/check.rt:36:19
 add-first : tie.Need-add-first Inv-loop μ-loop
-add-first c = ?
+add-first c = omega arith
 
--- src/check.rt:38:9
 add-i : tie.Need-add-i Inv-loop μ-loop
-add-i c = ?
+add-i c = omega arith
 
--- src/check.rt:31:9
 loop-less : tie.Need-loop-less Inv-loop μ-loop
-loop-less c = ?
+loop-less c = omega arith
 
--- src/check.rt:31:9
 loop-again : tie.Need-loop-again Inv-loop μ-loop
-loop-again c = ?
+loop-again c =
+    let l = c .before .before .before .before .loop in
+    let e = c .before .axis-ok .ensures ∙ ap (axisOk _) (c .before .before .word-at .ensures) in
+    (omega arith, lowest-none _ _ (l .inv .1) (ap not (sym e) ∙ c .if2 .left))
 
--- src/check.rt:26:1
 returns : tie.Need-returns Inv-loop μ-loop
-returns c = ?
+returns c = lowest-ends _ _ _ (c .before .loop .inv .1) (omega arith) (omega arith)
 
--- src/check.rt:26:1
 returns-2 : tie.Need-returns-2 Inv-loop μ-loop
-returns-2 c = ?
+returns-2 c =
+    let l = c .before .before .before .before .loop in
+    let e = c .before .axis-ok .ensures ∙ ap (axisOk _) (c .before .before .word-at .ensures) in
+    lowest-found _ _ _ (l .inv .1) (ap not (sym e) ∙ c .if2 .taken) (omega arith)
 
 pub wrong-axis-spec : {M : Type 1} → statement M
 wrong-axis-spec =

@@ -1,11 +1,12 @@
+-- The code and the definition are the same.
+use mathlib.Core.Path.{refl}
+use Rattle.scanlock.specs.Image.{axisIn}
 use Rattle.scanlock.proofs.word.axis_in.Statement.{statement}
 use Rattle.scanlock.proofs.word.axis_in.Tie as tie
-use Rattle.scanlock.proofs.word.axis_in.Reads as reads
-use Rattle.scanlock.proofs.word.axis_in.Lts as lts
 
--- src/word.rt:22:1
 returns : tie.Need-returns
-returns c = ?
+unfolding axisIn
+returns c = refl
 
 pub axis-in-spec : {M : Type 1} → statement M
 axis-in-spec = tie.close (tie.spec returns)
