@@ -15,8 +15,8 @@ use Rattle.words.proofs.Truth.{which, and-l, and-r, cond-true, cond-false}
 use Rattle.words.specs.Table.{updated}
 use Rattle.words.proofs.BitLaws.{bit-high}
 use Rattle.words.proofs.TableLaws.{updated-above}
-use Rattle.scanlock.specs.Axis.{free, axis, turned, present, shallower}
-use Rattle.scanlock.specs.Locks.{onAxis, admits, axisAt, settledOf, putOf, joystickOf}
+use Rattle.scanlock.specs.Axis.{free, axis, turned, present, onAxis, shallower}
+use Rattle.scanlock.specs.Locks.{admits, axisAt, settledOf, putOf, joystickOf}
 use Rattle.scanlock.specs.Image.{axisWord, axisIn, fits, axisOk, answer}
 use Rattle.scanlock.specs.Calls.{answerOf}
 use Rattle.scanlock.specs.declared.Axis.{Axis}

@@ -73,16 +73,17 @@ good-axes s e =
     (λ (t : eqb (length s) 36 ≡ true). (
       eqb-true _ 36 t,
       ⊎-elim (λ (u : eqb (firstWrong (wordAt s 0 % 2 ^ 16) s) 0 ≡ true). eqb-true _ 0 u)
-      (λ (f : eqb (firstWrong (wordAt s 0 % 2 ^ 16) s) 0 ≡ false). absurd (eight (rw (t, f) at e)))
-      (which (eqb (firstWrong (wordAt s 0 % 2 ^ 16) s) 0)),
+          (λ (f : eqb (firstWrong (wordAt s 0 % 2 ^ 16) s) 0 ≡ false). absurd (eight (rw (t, f) at e)))
+          (which (eqb (firstWrong (wordAt s 0 % 2 ^ 16) s) 0)),
     ))
     (λ (f : eqb (length s) 36 ≡ false). absurd (three (rw f at e)))
     (which (eqb (length s) 36))
-    where
-      eight : (_≡_ {A = ℕ} 8 0) → ⊥
-      eight h = omega arith
-      three : (_≡_ {A = ℕ} 3 0) → ⊥
-      three h = omega arith
+  where
+    eight : (_≡_ {A = ℕ} 8 0) → ⊥
+    eight h = omega arith
+
+    three : (_≡_ {A = ℕ} 3 0) → ⊥
+    three h = omega arith
 
 pub image-good : (s : List ℕ) → checkImage s .number ≡ 0 → Good s
 unfolding checkImage
@@ -97,11 +98,12 @@ image-good s e =
     (λ (g : headOk (wordAt s 0) ≡ false). absurd (two (rw (f, g) at e)))
     (which (headOk (wordAt s 0))))
     (which (ragged s))
-    where
-      one : (_≡_ {A = ℕ} 1 0) → ⊥
-      one h = omega arith
-      two : (_≡_ {A = ℕ} 2 0) → ⊥
-      two h = omega arith
+  where
+    one : (_≡_ {A = ℕ} 1 0) → ⊥
+    one h = omega arith
+
+    two : (_≡_ {A = ℕ} 2 0) → ⊥
+    two h = omega arith
 
 -- ---- reading
 

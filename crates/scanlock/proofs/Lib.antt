@@ -1,2 +1,4 @@
 pub mod AnswerLaws
 pub mod CallLaws
+pub mod AxisHistory
+pub mod ByHistory

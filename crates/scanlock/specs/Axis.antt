@@ -20,6 +20,10 @@ free = axis 0 0 false false
 unfoldable pub present : ℕ → ℕ → Bool
 present view by = leb 1 by && bit view (by - 1)
 
+-- there are axes 1..8
+unfoldable pub onAxis : ℕ → Bool
+onAxis a = leb 1 a && leb a 8
+
 -- 20: held by another, or stopping
 unfoldable pub barred : Axis → ℕ → Bool
 barred x by = (not (eqb (x .holder) 0) && not (eqb (x .holder) by)) || x .stopping

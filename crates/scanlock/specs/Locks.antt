@@ -8,7 +8,7 @@ use lib.ListN.{getD, set, replicate}
 use Rattle.words.specs.Bits.{full}
 use Rattle.words.specs.Count.{all}
 use Rattle.words.specs.Table.{updated}
-use Rattle.scanlock.specs.Axis.{free, present, begunOf, endedOf, startedOf, abortedOf, finishedOf, stoppedOf, lostOf, idle}
+use Rattle.scanlock.specs.Axis.{free, present, onAxis, begunOf, endedOf, startedOf, abortedOf, finishedOf, stoppedOf, lostOf, idle}
 use Rattle.scanlock.specs.declared.Axis.{Axis}
 use Rattle.scanlock.specs.declared.Turned.{Turned}
 use Rattle.scanlock.specs.declared.Locks.{Locks}
@@ -34,9 +34,6 @@ unfoldable pub openOf : ℕ → Answered
 openOf n = cond (leb 2 n && leb n 16) (answered 0 (opened n)) (answered 2 blank)
 
 -- ---- the axis that an event names
-
-unfoldable pub onAxis : ℕ → Bool
-onAxis a = leb 1 a && leb a 8
 
 abbrev pub axisAt : Locks → ℕ → Axis
 axisAt st a = getD (st .axes) (a - 1) free

@@ -11,7 +11,8 @@ ghost use mathlib.Core.Path.{_≡_};
 ghost use Prim.Native.Nat.{_≤_, _^_};
 ghost use lib.Dec.{ltb};
 ghost use Rattle.words.specs.Table.{updated};
-ghost use Rattle.scanlock.specs.Locks.{onAxis, admits, axisAt, seenAxes, refusedOf, putOf, settledOf, setViewOf, beginOf, endOf, startOf, abortOf, finishedBy, stoppedBy, eventOf};
+ghost use Rattle.scanlock.specs.Axis.{onAxis};
+ghost use Rattle.scanlock.specs.Locks.{admits, axisAt, seenAxes, refusedOf, putOf, settledOf, setViewOf, beginOf, endOf, startOf, abortOf, finishedBy, stoppedBy, eventOf};
 
 // Whether there is such an axis.
 fn on_axis(axis: u32) -> bool

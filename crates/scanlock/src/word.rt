@@ -1,7 +1,7 @@
 // The words of a saved scan lock: a head, then one word for each axis.
 use crate::Axis;
-use crate::on_axis::is_present;
 use crate::events::names;
+use crate::on_axis::is_present;
 use words::bits::flag;
 ghost use mathlib.Core.Path.{_≡_};
 ghost use Rattle.scanlock.specs.Image.{headWord, headOk, axisWord, axisIn, heldWell, fits, axisOk};

@@ -1,6 +1,6 @@
 -- The code and the definition are the same.
 use mathlib.Core.Path.{refl}
-use Rattle.scanlock.specs.Locks.{onAxis}
+use Rattle.scanlock.specs.Axis.{onAxis}
 use Rattle.scanlock.proofs.events.on_axis.Statement.{statement}
 use Rattle.scanlock.proofs.events.on_axis.Tie as tie
 
