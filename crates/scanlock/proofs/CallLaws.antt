@@ -119,7 +119,7 @@ load-refused s {v} e h k =
     ∙ ap (λ (x : Answer). record { number = x .number; index = x .index; locks = cond (eqb (x .number) 0) (locksOf s) blank }) e
 
 -- an accepted check carries no index
-good-check : (s : List ℕ) → Good s → checkImage s ≡ answer 0 0 0
+pub good-check : (s : List ℕ) → Good s → checkImage s ≡ answer 0 0 0
 unfolding checkImage checkAxes
 good-check s g =
     let r : ragged s ≡ false = rw (g .nine) refl in

@@ -4,3 +4,4 @@ pub mod History
 pub mod ByHistory
 pub mod Image
 pub mod Calls
+pub mod Images
