@@ -6,3 +6,5 @@ pub mod SoundLaws
 pub mod ImageLaws
 pub mod RefusalLaws
 pub mod Images
+pub mod Agreement
+pub mod Incident

@@ -5,3 +5,5 @@ pub mod ByHistory
 pub mod Image
 pub mod Calls
 pub mod Images
+pub mod Agreement
+pub mod Incident
