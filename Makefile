@@ -20,9 +20,10 @@ run: bench
 test:
 	.ci/run
 
-# the proved library for C
+# the proved libraries for C
 library:
 	rt staticlib presence
+	rt staticlib scanlock
 
 # the proved bench, $(BENCH); rt skips what is unchanged
 bench:
@@ -36,6 +37,8 @@ harness: rust bench
 	cd harness && ../$(RUST)/vectors
 	for f in harness/data/calls.txt harness/data/own-calls.txt; do $(RUST)/vectors --print $$f | diff - $$f || exit 1; done
 	$(RUST)/differential 36500 $(SEED)
+	$(RUST)/locks harness/data/scanlock/calls.txt harness/data/scanlock/own.txt
+	$(RUST)/locks --random 20000 $(SEED)
 	tools/hex2bin examples/sheet.hex | cmp - harness/data/vectors/001-star-sheet.bin
 	$(RUST)/scripts --dir harness/data/vectors $(BENCH)
 	$(RUST)/scripts --dir harness/data/own-scripts $(BENCH)
@@ -49,6 +52,7 @@ tools-test: bench
 
 soak: rust bench
 	$(RUST)/differential 3700000 $(SEED)
+	$(RUST)/locks --random 1000000 $(SEED)
 	$(RUST)/scripts 100000 $(SEED) $(BENCH)
 
 measure: rust

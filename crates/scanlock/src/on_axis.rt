@@ -3,7 +3,7 @@ use crate::Axis;
 use crate::Turned;
 use words::bits::bit_at;
 ghost use mathlib.Core.Path.{_≡_};
-ghost use Rattle.scanlock.specs.Axis.{free, turned, present, barred, begunOf, endedOf, startedOf, abortedOf, finishedOf, stoppedOf, lostOf, idle};
+ghost use Rattle.scanlock.specs.Axis.{axis, free, turned, present, barred, begunOf, endedOf, startedOf, abortedOf, finishedOf, stoppedOf, lostOf, idle};
 
 // Whether a module is in a view.
 pub fn is_present(view: u32, by: u32) -> bool
@@ -33,6 +33,18 @@ impl Axis {
         ensures { λ r. ⌜ r ≡ turned number self ⌝ }
     {
         Turned { number, axis: self }
+    }
+
+    // The same locks, with another move.
+    fn in_motion(self, moving: bool, stopping: bool) -> Axis
+        ensures { λ r. ⌜ r ≡ axis (self .holder) (self .depth) moving stopping ⌝ }
+    {
+        Axis {
+            holder: self.holder,
+            depth: self.depth,
+            moving,
+            stopping,
+        }
     }
 
     // 20: held by another, or stopping.
@@ -91,12 +103,7 @@ impl Axis {
         if self.depth == 0 {
             return self.refused(21);
         }
-        let axis = Axis {
-            holder: self.holder,
-            depth: self.depth,
-            moving: true,
-            stopping: self.stopping,
-        };
+        let axis = self.in_motion(true, self.stopping);
         Turned { number: 0, axis }
     }
 
@@ -104,24 +111,14 @@ impl Axis {
     pub fn aborted(self) -> Axis
         ensures { λ r. ⌜ r ≡ abortedOf self ⌝ }
     {
-        Axis {
-            holder: self.holder,
-            depth: self.depth,
-            moving: self.moving,
-            stopping: self.stopping | self.moving,
-        }
+        self.in_motion(self.moving, self.stopping | self.moving)
     }
 
     // The move is finished; on a stopping axis the report changes nothing.
     pub fn finished(self) -> Axis
         ensures { λ r. ⌜ r ≡ finishedOf self ⌝ }
     {
-        Axis {
-            holder: self.holder,
-            depth: self.depth,
-            moving: self.moving & self.stopping,
-            stopping: self.stopping,
-        }
+        self.in_motion(self.moving & self.stopping, self.stopping)
     }
 
     // A stopping axis has stopped: that ends the move and every depth. On another the report changes nothing.
