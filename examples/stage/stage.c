@@ -25,13 +25,15 @@
 
 #define WORD(w) \
     (uint8_t)((w) >> 24), (uint8_t)((w) >> 16), (uint8_t)((w) >> 8), (uint8_t)(w)
-/* Each card steps at the end of the round; criticality 1. */
-#define MODULE(number) WORD(0x40000000u | (number) << 23 | N << 17 | 1u)
+/* Each card steps at the end of the round. */
+#define MODULE(number, criticality) \
+    WORD(0x40000000u | (number) << 23 | N << 17 | (criticality))
 
-/* The setup, the same in all cards: P = 1, R = 3. */
+/* The setup, the same in all cards: P = 3, R = 3; the joystick's card is
+   struck off after two charges, another one after four. */
 static const uint8_t setup[PRESENCE_SETUP_BYTES(N)] = {
-    WORD(0x10000000u | N), WORD(0x20000001u), WORD(0x30000003u),
-    MODULE(1u), MODULE(2u), MODULE(3u), MODULE(4u)
+    WORD(0x10000000u | N), WORD(0x20000003u), WORD(0x30000003u),
+    MODULE(1u, 1u), MODULE(2u, 1u), MODULE(3u, 1u), MODULE(4u, 2u)
 };
 
 struct card {
@@ -92,7 +94,7 @@ static void card_step(struct card *c)
 
 /* ================= bus and stage ================= */
 
-#define ROUNDS 5u
+#define ROUNDS 8u
 
 static struct card cards[N];
 
