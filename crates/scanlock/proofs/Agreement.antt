@@ -1,18 +1,16 @@
 -- Equal views give equal histories, and equal histories equal locks.
-use Prim.Native.Nat.{ℕ, zero, suc, _-_, _≤_, _<_}
+use Prim.Native.Nat.{ℕ, zero, suc, _≤_}
 use mathlib.Core.Path.{_≡_, refl, sym, ap, _∙_}
 use mathlib.Core.List.{List, _∷_, _++_}
 use native.Mathlib.Omega.{arith}
 use native.Mathlib.Nat.{zero-lt-suc}
 use Rattle.rules.specs.declared.Counters.{Counters}
-use Rattle.presence.specs.declared.State.{State}
-use Rattle.agreement.specs.Session.{Session, Accepted, size, u, RuleFollower, Bound}
+use Rattle.agreement.specs.Session.{Session, Accepted, size, RuleFollower, Bound}
 use Rattle.agreement.specs.Demand.{KeptTo, Demand3}
 use Rattle.agreement.proofs.Demand.{demand-3}
 use Rattle.scanlock.specs.Locks.{joystickOf}
 use Rattle.scanlock.specs.ByHistory.{after}
 use Rattle.scanlock.specs.Image.{imageOf}
-use Rattle.scanlock.specs.Images.{Held}
 use Rattle.scanlock.specs.Agreement.{Card, history, told, Alike, CardsAgree}
 use Rattle.scanlock.specs.declared.Event.{Event}
 use Rattle.scanlock.specs.declared.Event.the-variants.{View}

@@ -88,7 +88,8 @@ not-yet-seen i f l e = rw e (updated-above i f l i free (le-refl i))
 
 -- ---- words and answers, put together
 
-pub axis-tested : (view w : ℕ) {x : Axis} {v : ℕ} {b : Bool} → x ≡ axisIn w → v ≡ axisWord x → b ≡ fits view x → eqb v w && b ≡ axisOk view w
+pub axis-tested : (view w : ℕ) {x : Axis} {v : ℕ} {b : Bool} → x ≡ axisIn w → v ≡ axisWord x → b ≡ fits view x
+    → eqb v w && b ≡ axisOk view w
 unfolding axisOk
 axis-tested view w e h k = rw (k, h, e)
 

@@ -1,16 +1,16 @@
 -- One axis and its history: what an accepted event does to the axis is what it does to the locks and the move that the history leaves.
-use Prim.Native.Nat.{ℕ, zero, suc, _+_, _-_, _≤_, _<_}
+use Prim.Native.Nat.{ℕ, zero, suc, _+_, _-_, _≤_}
 use mathlib.Core.Path.{_≡_, refl, sym, ap, ap₂, _∙_}
 use mathlib.Core.Bool.{Bool, true, false, cond, not, _&&_, _||_, true≢false, false≢true}
 use mathlib.Core.Logic.{_⊎_, inl, inr, ⊎-elim}
 use mathlib.Core.List.{List, [], _∷_}
 use native.Mathlib.Omega.{arith}
-use borrow.Author.Tests.{eqb-true, eqb-false, eq-eqb, ne-eqb, not-false}
-use lib.Dec.{eqb, leb}
+use borrow.Author.Tests.{eqb-true, eq-eqb, ne-eqb}
+use lib.Dec.{eqb}
 use lib.ListN.{getD, length, replicate, length-replicate}
 use Rattle.words.proofs.Truth.{which, cond-true, cond-false, and-true, and-false-r}
 use Rattle.scanlock.specs.Axis.{axis, free, present, barred, deeper, shallower, moved, abortedOf, finishedOf, stoppedOf, lostOf}
-use Rattle.scanlock.specs.History.{Motion, resting, moving, halting, started, aborted, finished, stopped, motion, isUnfinished, isHalting, left, standing, depth, holder, unfinished, stopping}
+use Rattle.scanlock.specs.History.{Motion, resting, moving, halting, started, aborted, finished, stopped, motion, isUnfinished, isHalting, left, depth, holder, unfinished, stopping}
 use Rattle.scanlock.specs.declared.Axis.{Axis}
 use Rattle.scanlock.specs.declared.Event.{Event}
 use Rattle.scanlock.specs.declared.Event.the-variants.{View, Begin, End, Start, Abort, Finished, Stopped}
@@ -44,20 +44,24 @@ whole-list : (d h : ℕ) → replicate (d - 0) h ≡ replicate d h
 whole-list d h = let e : d - 0 ≡ d = omega arith in ap (λ (k : ℕ). replicate k h) e
 
 pub shows-depth : (a : ℕ) (t : List Event) (x : Axis) → Shows a t x → depth a t ≡ x .depth
-shows-depth a t x s = ap (λ (l : List ℕ). length l) (s .locks 0 (λ by. true) ∙ whole-list (x .depth) (x .holder)) ∙ length-replicate (x .depth) (x .holder)
+shows-depth a t x s =
+    ap (λ (l : List ℕ). length l) (s .locks 0 (λ by. true) ∙ whole-list (x .depth) (x .holder)) ∙ length-replicate (x .depth) (x .holder)
 
 first-of : (d h : ℕ) → (d ≡ 0 → h ≡ 0) → getD (replicate d h) 0 0 ≡ h
 first-of zero h e = sym (e refl)
 first-of (suc d) h e = refl
 
 pub shows-holder : (a : ℕ) (t : List Event) (x : Axis) → Shows a t x → holder a t ≡ x .holder
-shows-holder a t x s = ap (λ (l : List ℕ). getD l 0 0) (s .locks 0 (λ by. true) ∙ whole-list (x .depth) (x .holder)) ∙ first-of (x .depth) (x .holder) (s .nobody)
+shows-holder a t x s =
+    ap (λ (l : List ℕ). getD l 0 0) (s .locks 0 (λ by. true) ∙ whole-list (x .depth) (x .holder))
+    ∙ first-of (x .depth) (x .holder) (s .nobody)
 
 -- ---- at first
 
 pub shows-free : (a : ℕ) → Shows a [] free
 unfolding left motion isUnfinished isHalting
-shows-free a = record { locks = λ ends stays. sym (none free ends stays refl); nobody = λ e. refl; nothing = λ e. refl; move = refl; stop = refl }
+shows-free a =
+    record { locks = λ ends stays. sym (none free ends stays refl); nobody = λ e. refl; nothing = λ e. refl; move = refl; stop = refl }
 
 -- ---- an event of another axis
 
@@ -161,7 +165,8 @@ own-locks x by ends stays o n =
     o
 
 -- one lock more, at the front
-one-more : (b : Bool) (d by : ℕ) → cond b (by ∷ cond b (replicate (d - 0) by) []) (cond b (replicate (d - 0) by) []) ≡ cond b (replicate (d + 1 - 0) by) []
+one-more : (b : Bool) (d by : ℕ)
+    → cond b (by ∷ cond b (replicate (d - 0) by) []) (cond b (replicate (d - 0) by) []) ≡ cond b (replicate (d + 1 - 0) by) []
 one-more true d by =
     let e : d - 0 ≡ d = omega arith in
     let g : d + 1 - 0 ≡ suc d = omega arith in
@@ -181,7 +186,8 @@ begin-locks a (suc e) stays t x by s f =
     let g′ : suc e - 1 ≡ e = omega arith in
     cond-true _ _ (eq-eqb a a refl) ∙ cond-false _ _ z ∙ rw (g′, g) k
 
-pub shows-begin : (a : ℕ) (t : List Event) (x : Axis) (by : ℕ) → 1 ≤ by → barred x by ≡ false → Shows a t x → Shows a (Begin by a ∷ t) (deeper x by)
+pub shows-begin : (a : ℕ) (t : List Event) (x : Axis) (by : ℕ) → 1 ≤ by → barred x by ≡ false → Shows a t x
+    → Shows a (Begin by a ∷ t) (deeper x by)
 unfolding motion deeper
 shows-begin a t x by h f s = record {
   locks = λ ends stays. begin-locks a ends stays t x by s f;
@@ -199,7 +205,8 @@ shows-begin a t x by h f s = record {
 
 -- ---- end
 
-end-locks : (a ends : ℕ) (stays : ℕ → Bool) (t : List Event) (x : Axis) (by : ℕ) → Shows a t x → left a ends stays (End by a ∷ t) ≡ held (shallower x) ends stays
+end-locks : (a ends : ℕ) (stays : ℕ → Bool) (t : List Event) (x : Axis) (by : ℕ) → Shows a t x
+    → left a ends stays (End by a ∷ t) ≡ held (shallower x) ends stays
 unfolding left shallower
 end-locks a ends stays t x by s =
     let g : x .depth - 1 - ends ≡ x .depth - (ends + 1) = omega arith in
@@ -302,7 +309,8 @@ module _ (a : ℕ) (t : List Event) (x : Axis) (s : Shows a t x) where
     nobody = s .nobody;
     nothing = s .nothing;
     move = s .move ∙ aborted-moves (motion a t) ∙ ap isUnfinished (sym (cond-true _ _ (eq-eqb a a refl)));
-    stop = ap₂ (λ (p q : Bool). p || q) (s .stop) (s .move) ∙ aborted-stop (motion a t) ∙ ap isHalting (sym (cond-true _ _ (eq-eqb a a refl)));
+    stop = ap₂ (λ (p q : Bool). p || q) (s .stop) (s .move) ∙ aborted-stop (motion a t)
+        ∙ ap isHalting (sym (cond-true _ _ (eq-eqb a a refl)));
   }
 
   pub shows-finished : Shows a (Finished a ∷ t) (finishedOf x)
@@ -311,7 +319,8 @@ module _ (a : ℕ) (t : List Event) (x : Axis) (s : Shows a t x) where
     locks = s .locks;
     nobody = s .nobody;
     nothing = s .nothing;
-    move = ap₂ (λ (p q : Bool). p && q) (s .move) (s .stop) ∙ finished-moves (motion a t) ∙ ap isUnfinished (sym (cond-true _ _ (eq-eqb a a refl)));
+    move = ap₂ (λ (p q : Bool). p && q) (s .move) (s .stop) ∙ finished-moves (motion a t)
+        ∙ ap isUnfinished (sym (cond-true _ _ (eq-eqb a a refl)));
     stop = s .stop ∙ finished-stop (motion a t) ∙ ap isHalting (sym (cond-true _ _ (eq-eqb a a refl)));
   }
 

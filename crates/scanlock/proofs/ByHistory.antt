@@ -2,23 +2,21 @@
 use Prim.Native.Nat.{ℕ, zero, suc, _+_, _-_, _^_, _≤_, _<_}
 use mathlib.Core.Path.{_≡_, refl, sym, ap, ap₂, _∙_, subst}
 use mathlib.Core.Bool.{Bool, true, false, cond, not, _&&_, _||_}
-use mathlib.Core.Logic.{_⊎_, ⊎-elim}
+use mathlib.Core.Logic.{⊎-elim}
 use mathlib.Core.List.{List, [], _∷_}
 use native.Mathlib.Omega.{arith}
 use borrow.Author.Tests.{eqb-true, eqb-false, leb-true}
 use lib.Dec.{eqb, leb, ltb}
-use lib.ListN.{getD, set, length, replicate, length-set, length-replicate, getD-replicate}
+use lib.ListN.{getD, set, length, length-set, length-replicate, getD-replicate}
 use lib.Seq.{getD-set-same, getD-set-other}
-use Rattle.words.specs.Table.{updated}
 use Rattle.words.specs.Count.{all}
 use Rattle.words.proofs.Truth.{which, cond-true, cond-false, and-l, and-r}
 use Rattle.words.proofs.TableLaws.{updated-at, updated-length}
 use Rattle.scanlock.specs.Axis.{axis, free, turned, present, onAxis, barred, begunOf, endedOf, startedOf, abortedOf, finishedOf, stoppedOf, deeper, shallower, moved, lostOf, idle}
 use Rattle.scanlock.specs.Locks.{locks, answered, opened, axisAt, withAxis, admits, refusedOf, putOf, settledOf, seenAxes, setViewOf, beginOf, endOf, startOf, abortOf, finishedBy, stoppedBy, eventOf, joystickOf}
-use Rattle.scanlock.specs.History.{depth, holder, unfinished, stopping, viewIn, named, taken, number, accepted, live}
-use Rattle.scanlock.specs.ByHistory.{after, Shown, ByHistory}
+use Rattle.scanlock.specs.History.{depth, holder, stopping, viewIn, named, taken, number, accepted, live}
+use Rattle.scanlock.specs.ByHistory.{after, ByHistory}
 use Rattle.scanlock.specs.declared.Axis.{Axis}
-use Rattle.scanlock.specs.declared.Turned.{Turned}
 use Rattle.scanlock.specs.declared.Locks.{Locks}
 use Rattle.scanlock.specs.declared.Answered.{Answered}
 use Rattle.scanlock.specs.declared.Event.{Event}
@@ -83,7 +81,8 @@ module _ (n : ℕ) (t : List Event) (st : Locks) (k : Kept n t st) (e : Event) w
         apart : (a : ℕ) → 1 ≤ a → (b ≡ a → ⊥) → a - 1 ≡ b - 1 → ⊥
         apart a l q z = q (omega arith)
 
-    put : (y : Axis) → eventOf st e ≡ putOf st b y → number n t e ≡ 0 → Shows b (e ∷ t) y → ((a : ℕ) → eqb b a ≡ false → Same a t e) → Next n t st e
+    put : (y : Axis) → eventOf st e ≡ putOf st b y → number n t e ≡ 0 → Shows b (e ∷ t) y → ((a : ℕ) → eqb b a ≡ false → Same a t e)
+        → Next n t st e
     put y r h here others = done (withAxis st b y) r h (kept-put y here others)
 
 -- ---- the tests by the state are those by the history

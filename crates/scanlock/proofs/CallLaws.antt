@@ -1,18 +1,17 @@
 -- The check of an image and the calls from C, put together from the way that their tests came out.
 use mathlib.Core.Path.{_≡_, refl, sym, ap, _∙_}
-use mathlib.Core.Bool.{Bool, true, false, cond, not, _&&_, _||_}
+use mathlib.Core.Bool.{Bool, true, false, cond, not, _||_}
 use mathlib.Core.Logic.{⊎-elim}
 use mathlib.Core.List.{List}
-use Prim.Native.Nat.{ℕ, _+_, _*_, _/_, _%_, _^_, _≤_, _<_}
+use Prim.Native.Nat.{ℕ, _+_, _/_, _%_, _^_, _≤_}
 use native.Mathlib.Omega.{arith}
 use borrow.Author.Tests.{eqb-true, eqb-false, eq-eqb, ne-eqb, not-false}
 use lib.Dec.{eqb}
 use lib.ListN.{length}
 use Rattle.words.specs.Word.{wordAt}
-use Rattle.words.specs.Bits.{b2n}
 use Rattle.words.specs.Count.{lowest}
 use Rattle.words.proofs.Truth.{which, or-false-l, or-false-r, cond-true, cond-false}
-use Rattle.scanlock.specs.Locks.{locks, openOf, eventOf, joystickOf, blank}
+use Rattle.scanlock.specs.Locks.{locks, openOf, eventOf, blank}
 use Rattle.scanlock.specs.Image.{answer, axesIn, locksOf, loadOf, imageOf, headOk, axisOk, checkAxes, checkImage}
 use Rattle.scanlock.specs.Calls.{called, answerOf, saveCall, openCall, eventCall, joystickCall}
 use Rattle.scanlock.specs.declared.Axis.{Axis}
@@ -136,7 +135,8 @@ load-accepted s {v} {st} e h k =
 
 -- ---- calls
 
-pub saved : (st : Locks) (out : List ℕ) {r : Answer} {o : List ℕ} → length out ≡ 36 → r ≡ answerOf 0 st → o ≡ imageOf st → called r o ≡ saveCall st out
+pub saved : (st : Locks) (out : List ℕ) {r : Answer} {o : List ℕ} → length out ≡ 36 → r ≡ answerOf 0 st → o ≡ imageOf st
+    → called r o ≡ saveCall st out
 unfolding saveCall
 saved st out l e h = yes _ (eq-eqb _ 36 l) (rw (e, h) refl)
 
@@ -184,7 +184,8 @@ module _ (image : List ℕ) (e : Event) (out : List ℕ) {v : Answer} (ev : v �
         yes _ (checked image ev h) (yes _ (eq-eqb _ 36 l)
         (no _ (ne-eqb _ 0 (λ (z : eventOf (locksOf image) e .number ≡ 0). n (ap (λ (x : Answered). x .number) settled ∙ z)))
         (ap (λ (x : Answer). called x out)
-        (k ∙ ap (λ (x : Answered). answerOf (x .number) st) settled ∙ ap (λ (x : Locks). answerOf (eventOf (locksOf image) e .number) x) es))))
+        (k ∙ ap (λ (x : Answered). answerOf (x .number) st) settled
+        ∙ ap (λ (x : Locks). answerOf (eventOf (locksOf image) e .number) x) es))))
 
     pub call-done : {r : Answer} {o : List ℕ} → a .number ≡ 0 → called r o ≡ saveCall (a .locks) out → called r o ≡ eventCall image e out
     unfolding eventCall saveCall

@@ -1,19 +1,18 @@
 -- The words of a saved scan lock, written and read back.
 use Prim.Native.Nat.{ℕ, zero, suc, _+_, _-_, _*_, _/_, _%_, _^_, _≤_, _<_}
-use mathlib.Core.Path.{_≡_, refl, sym, ap, ap₂, _∙_, subst}
-use mathlib.Core.Bool.{Bool, true, false, cond, not, _&&_, _||_, true≢false, false≢true}
+use mathlib.Core.Path.{_≡_, refl, sym, ap, ap₂, _∙_}
+use mathlib.Core.Bool.{Bool, true, false, not, _&&_}
 use mathlib.Core.Logic.{⊎-elim}
 use mathlib.Core.List.{List}
 use native.Mathlib.Omega.{arith}
-use borrow.Author.Tests.{eqb-true, eqb-false, eq-eqb, ne-eqb, leb-true, leb-false, le-leb, lt-ltb, ltb-true, not-false}
+use borrow.Author.Tests.{eqb-true, eq-eqb, ne-eqb, leb-true, leb-false, le-leb, lt-ltb, ltb-true, not-false}
 use native.Mathlib.Nat.{le-of-eq}
-use lib.Dec.{eqb, leb, ltb}
+use lib.Dec.{eqb, leb}
 use lib.ListN.{getD, length, replicate, length-replicate}
 use lib.Seq.{ext-getD}
 use lib.Pow.{pow-mono}
-use Rattle.words.specs.Word.{wordAt, bytesOf}
+use Rattle.words.specs.Word.{wordAt}
 use Rattle.words.specs.Bits.{bit, b2n}
-use Rattle.words.specs.Count.{lowest}
 use Rattle.words.specs.Table.{updated}
 use Rattle.words.proofs.Truth.{which, cond-true, cond-false, and-l, and-r, and-true, clash}
 use Rattle.words.proofs.BitLaws.{bit-high}
@@ -23,10 +22,10 @@ use Rattle.words.proofs.LowestLaws.{lowest-empty, lowest-zero}
 use Rattle.words.proofs.TableLaws.{updated-at, updated-length}
 use Rattle.scanlock.specs.Axis.{axis, free, present}
 use Rattle.scanlock.specs.Locks.{locks}
-use Rattle.scanlock.specs.Image.{headWord, headOk, axisWord, axisIn, heldWell, fits, axisOk, wordOf, imageOf, axesIn, locksOf, answer, checkAxes, checkImage, Sound}
+use Rattle.scanlock.specs.Image.{headWord, headOk, axisWord, axisIn, heldWell, fits, axisOk, wordOf, imageOf, axesIn, locksOf, answer, checkImage, Sound}
 use Rattle.scanlock.specs.declared.Axis.{Axis}
 use Rattle.scanlock.specs.declared.Locks.{Locks}
-use Rattle.scanlock.proofs.CallLaws.{Good, firstWrong, good-check, image-good}
+use Rattle.scanlock.proofs.CallLaws.{Good, good-check, image-good}
 use Rattle.scanlock.proofs.SoundLaws.{Fits, fits-of}
 
 -- ---- the word of an axis
@@ -135,7 +134,8 @@ module _ (st : Locks) (s : Sound st) where
         nine = image-length;
         axes =
             lowest-empty _ 8
-            (λ i h. ap not (ap₂ (λ (v w : ℕ). axisOk v w) b (axis-word i h) ∙ axis-right (st .n) (st .view) _ (s .most) (s .view) (s .each i h)));
+            (λ i h. ap not (ap₂ (λ (v w : ℕ). axisOk v w) b (axis-word i h)
+            ∙ axis-right (st .n) (st .view) _ (s .most) (s .view) (s .each i h)));
       }
 
   axes-back : axesIn (imageOf st) ≡ st .axes
@@ -174,7 +174,8 @@ module _ (s : List ℕ) (g : Good s) where
 
   axis-at : (i : ℕ) → i < 8 → getD (axesIn s) i free ≡ axisIn (wordAt s (i + 1))
   unfolding axesIn
-  axis-at i h = updated-at 8 (λ j. axisIn (wordAt s (j + 1))) (replicate 8 free) i free h (le-of-eq (sym (length-replicate {A = Axis} 8 free)))
+  axis-at i h =
+      updated-at 8 (λ j. axisIn (wordAt s (j + 1))) (replicate 8 free) i free h (le-of-eq (sym (length-replicate {A = Axis} 8 free)))
 
   eight-axes : length (axesIn s) ≡ 8
   unfolding axesIn
@@ -189,12 +190,14 @@ module _ (s : List ℕ) (g : Good s) where
         most = b;
         view = view-in;
         eight = eight-axes;
-        each = λ i h. ap (fits (wordAt s 0 % 2 ^ 16)) (axis-at i h) ∙ and-r (eqb (axisWord (axisIn (wordAt s (i + 1)))) (wordAt s (i + 1))) _ (word-ok i h);
+        each = λ i h. ap (fits (wordAt s 0 % 2 ^ 16)) (axis-at i h)
+            ∙ and-r (eqb (axisWord (axisIn (wordAt s (i + 1)))) (wordAt s (i + 1))) _ (word-ok i h);
       }
 
   read-word : (i : ℕ) → i < 9 → wordOf (locksOf s) i ≡ wordAt s i
   unfolding wordOf locksOf headWord axisOk
-  read-word zero h = let (a, b) = n-in in let e : wordAt s 0 / 2 ^ 16 % 2 ^ 16 * 2 ^ 16 + wordAt s 0 % 2 ^ 16 % 2 ^ 16 ≡ wordAt s 0 = omega arith in e
+  read-word zero h =
+      let (a, b) = n-in in let e : wordAt s 0 / 2 ^ 16 % 2 ^ 16 * 2 ^ 16 + wordAt s 0 % 2 ^ 16 % 2 ^ 16 ≡ wordAt s 0 = omega arith in e
   read-word (suc i) h =
       let z : suc i - 1 ≡ i = omega arith in
       let o : i + 1 ≡ suc i = omega arith in

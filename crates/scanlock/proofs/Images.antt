@@ -1,21 +1,21 @@
 -- The image that a C caller holds after a history is that of the locks after it, so its answers are those of the history.
-use Prim.Native.Nat.{ℕ, _≤_, _<_}
+use Prim.Native.Nat.{ℕ, _≤_}
 use mathlib.Core.Path.{_≡_, refl, sym, ap, ap₂, _∙_, subst}
 use mathlib.Core.Bool.{Bool, true, false, cond, _&&_}
-use mathlib.Core.Logic.{_≢_, ⊎-elim}
-use mathlib.Core.List.{List, [], _∷_}
+use mathlib.Core.Logic.{⊎-elim}
+use mathlib.Core.List.{List, _∷_}
 use native.Mathlib.Omega.{arith}
 use borrow.Author.Tests.{eqb-true, eqb-false, eq-eqb, ne-eqb}
 use lib.Dec.{eqb, leb}
 use lib.ListN.{length}
 use Rattle.words.specs.Bits.{b2n}
 use Rattle.words.proofs.Truth.{which, cond-true, cond-false}
-use Rattle.scanlock.specs.Locks.{answered, opened, blank, openOf, eventOf, joystickOf}
-use Rattle.scanlock.specs.History.{number, accepted, live}
+use Rattle.scanlock.specs.Locks.{opened, openOf, eventOf}
+use Rattle.scanlock.specs.History.{number, accepted}
 use Rattle.scanlock.specs.ByHistory.{after}
-use Rattle.scanlock.specs.Image.{answer, imageOf, locksOf, checkImage, Sound}
+use Rattle.scanlock.specs.Image.{answer, imageOf, Sound}
 use Rattle.scanlock.specs.Calls.{Called, called, answerOf, saveCall, openCall, eventCall, joystickCall}
-use Rattle.scanlock.specs.Images.{RoundTrip, Held, opens, tells, refuses, Answers, ImagesByHistory}
+use Rattle.scanlock.specs.Images.{RoundTrip, Held, opens, tells, refuses, ImagesByHistory}
 use Rattle.scanlock.specs.declared.Locks.{Locks}
 use Rattle.scanlock.specs.declared.Answer.{Answer}
 use Rattle.scanlock.specs.declared.Event.{Event}
@@ -72,7 +72,8 @@ module _ (st : Locks) (s : Sound st) (e : Event) (out : List ℕ) where
   call-answers l =
       ⊎-elim
       (λ (p : eqb (eventOf st e .number) 0 ≡ true).
-      ap (λ (x : Called). x .answer) (call-as l ∙ cond-true _ _ p) ∙ ap (λ (m : ℕ). answerOf m (eventOf st e .locks)) (sym (eqb-true _ 0 p)))
+      ap (λ (x : Called). x .answer) (call-as l ∙ cond-true _ _ p)
+      ∙ ap (λ (m : ℕ). answerOf m (eventOf st e .locks)) (sym (eqb-true _ 0 p)))
       (λ (p : eqb (eventOf st e .number) 0 ≡ false).
       ap (λ (x : Called). x .answer) (call-as l ∙ cond-false _ _ p)
       ∙ ap (λ (x : Locks). answerOf (eventOf st e .number) x) (sym (refused-same st e (eqb-false _ 0 p))))
@@ -114,7 +115,8 @@ held-is n g image (tells {h = h} {image = old} e out k z) =
 held-is n g image (refuses {h = h} e out k l z) =
     let (i, s) = held-is n h image k in
     let q : eventOf (after n h) e .number ≡ 0 → ⊥ = λ m.
-    z (ap (λ (x : List ℕ). eventCall x e out .answer .number) i ∙ ap (λ (x : Answer). x .number) (call-answers (after n h) s e out l) ∙ m) in
+    z (ap (λ (x : List ℕ). eventCall x e out .answer .number) i
+    ∙ ap (λ (x : Answer). x .number) (call-answers (after n h) s e out l) ∙ m) in
     (i ∙ ap imageOf (sym (refused-same (after n h) e q)), event-sound (after n h) e s)
 
 pub images-by-history : ImagesByHistory

@@ -4,14 +4,15 @@ use mathlib.Core.Path.{_≡_, refl}
 use mathlib.Core.Bool.{Bool, true, false, cond}
 use lib.Dec.{eqb, leb, ltb}
 use Rattle.scanlock.specs.Axis.{onAxis, turned, barred, begunOf, endedOf, startedOf, deeper, shallower, moved}
-use Rattle.scanlock.specs.Locks.{answered, axisAt, admits, refusedOf, putOf, settledOf, setViewOf, beginOf, endOf, startOf, abortOf, finishedBy, stoppedBy, eventOf}
+use Rattle.scanlock.specs.Locks.{answered, axisAt, admits, refusedOf, settledOf, setViewOf, beginOf, endOf, startOf, abortOf, finishedBy, stoppedBy, eventOf}
 use Rattle.scanlock.specs.declared.Axis.{Axis}
 use Rattle.scanlock.specs.declared.Locks.{Locks}
 use Rattle.scanlock.specs.declared.Event.{Event}
 use Rattle.scanlock.specs.declared.Event.the-variants.{View, Begin, End, Start, Abort, Finished, Stopped}
 
 -- one test before the change
-one : (st s : Locks) (t : Bool) (m : ℕ) → (cond t (answered 0 s) (refusedOf st m) .number ≡ 0 → ⊥) → cond t (answered 0 s) (refusedOf st m) .locks ≡ st
+one : (st s : Locks) (t : Bool) (m : ℕ) → (cond t (answered 0 s) (refusedOf st m) .number ≡ 0 → ⊥)
+    → cond t (answered 0 s) (refusedOf st m) .locks ≡ st
 one st s true m h = absurd (h refl)
 one st s false m h = refl
 

@@ -1,25 +1,21 @@
 -- Locks that fit their image: opening gives such, and every event keeps them.
-use Prim.Native.Nat.{ℕ, zero, suc, _+_, _-_, _^_, _≤_, _<_}
+use Prim.Native.Nat.{ℕ, _+_, _-_, _^_, _≤_, _<_}
 use mathlib.Core.Path.{_≡_, refl, sym, ap, _∙_, subst}
-use mathlib.Core.Bool.{Bool, true, false, cond, not, _&&_, _||_, true≢false}
+use mathlib.Core.Bool.{Bool, true, false, cond, not, _&&_, _||_}
 use mathlib.Core.Logic.{⊎-elim}
-use mathlib.Core.List.{List}
 use native.Mathlib.Omega.{arith}
 use borrow.Author.Tests.{eqb-true, eqb-false, eq-eqb, ne-eqb, leb-true, leb-false, le-leb, ltb-true}
 use lib.Dec.{eqb, leb, ltb}
 use lib.ListN.{getD, set, length, length-set, length-replicate, getD-replicate}
 use lib.Seq.{getD-set-same, getD-set-other}
-use Rattle.words.specs.Bits.{bit}
-use Rattle.words.proofs.BitLaws.{full-lt, bit-high}
-use Rattle.words.proofs.Truth.{which, cond-true, cond-false, and-l, and-r, and-true, or-false-r}
+use Rattle.words.proofs.BitLaws.{full-lt}
+use Rattle.words.proofs.Truth.{which, cond-true, cond-false, and-l, and-r, and-true}
 use Rattle.words.proofs.TableLaws.{updated-at, updated-length}
 use Rattle.scanlock.specs.Axis.{axis, free, turned, present, onAxis, barred, begunOf, endedOf, startedOf, abortedOf, finishedOf, stoppedOf, deeper, shallower, moved, lostOf}
-use Rattle.scanlock.specs.Locks.{locks, answered, opened, axisAt, withAxis, admits, refusedOf, putOf, settledOf, seenAxes, setViewOf, beginOf, endOf, startOf, abortOf, finishedBy, stoppedBy, eventOf}
+use Rattle.scanlock.specs.Locks.{locks, opened, axisAt, withAxis, admits, refusedOf, putOf, settledOf, seenAxes, setViewOf, beginOf, endOf, startOf, abortOf, finishedBy, stoppedBy, eventOf}
 use Rattle.scanlock.specs.Image.{heldWell, fits, Sound}
 use Rattle.scanlock.specs.declared.Axis.{Axis}
-use Rattle.scanlock.specs.declared.Turned.{Turned}
 use Rattle.scanlock.specs.declared.Locks.{Locks}
-use Rattle.scanlock.specs.declared.Answered.{Answered}
 use Rattle.scanlock.specs.declared.Event.{Event}
 use Rattle.scanlock.specs.declared.Event.the-variants.{View, Begin, End, Start, Abort, Finished, Stopped}
 use Rattle.scanlock.proofs.AnswerLaws.{on-axis, admitted}
@@ -50,7 +46,12 @@ of-fits view x f = and-true _ _ (and-true _ _ (le-leb _ _ (f .deep)) (f .owned))
 deeper-fits : (view : ℕ) (x : Axis) (by : ℕ) → present view by ≡ true → x .depth < 8 → Fits view x → Fits view (deeper x by)
 unfolding deeper heldWell
 deeper-fits view x by p l f =
-    record { deep = omega arith; owned = cond-false _ _ (ne-eqb (x .depth + 1) 0 (λ (z : x .depth + 1 ≡ 0). omega arith)) ∙ p; halts = f .halts }
+    record {
+      deep =
+          omega arith;
+      owned = cond-false _ _ (ne-eqb (x .depth + 1) 0 (λ (z : x .depth + 1 ≡ 0). omega arith)) ∙ p;
+      halts = f .halts;
+    }
 
 shallower-fits : (view : ℕ) (x : Axis) → (x .depth ≡ 0 → ⊥) → Fits view x → Fits view (shallower x)
 unfolding shallower heldWell
@@ -58,7 +59,8 @@ shallower-fits view x n f = record {
   deep = less (x .depth) (f .deep);
   owned =
       ⊎-elim
-      (λ (o : eqb (x .depth) 1 ≡ true). cond-true _ _ (eq-eqb (x .depth - 1) 0 (last (x .depth) (eqb-true _ 1 o))) ∙ eq-eqb _ 0 (cond-true 0 (x .holder) o))
+      (λ (o : eqb (x .depth) 1 ≡ true). cond-true _ _ (eq-eqb (x .depth - 1) 0 (last (x .depth) (eqb-true _ 1 o)))
+      ∙ eq-eqb _ 0 (cond-true 0 (x .holder) o))
       (λ (o : eqb (x .depth) 1 ≡ false).
       cond-false _ _ (ne-eqb (x .depth - 1) 0 (more (x .depth) n (eqb-false _ 1 o)))
       ∙ ap (present view) (cond-false 0 (x .holder) o)
@@ -166,10 +168,6 @@ module _ (st : Locks) (s : Sound st) where
         ap (fits (st .view)) (getD-set-other (st .axes) (b - 1) i y free (eqb-false i (b - 1) p)) ∙ s .each i k)
         (which (eqb i (b - 1)));
   }
-
-  -- an event whose answer is this
-  sound-as : {r : Answered} {q : Answered} → r ≡ q → Sound (q .locks) → Sound (r .locks)
-  sound-as e k = subst (λ (x : Answered). Sound (x .locks)) (sym e) k
 
   asked-sound : (by b : ℕ) (test : Bool) (y : Axis)
       → (1 ≤ b → b ≤ 8 → present (st .view) by ≡ true → test ≡ false → Fits (st .view) y)

@@ -1,5 +1,6 @@
--- Why the scan lock stands above the presence service: rule-following cards that are handed the same events, in the same order between the same
--- rounds, hold equal locks and give equal joystick answers. Proved in proofs/Agreement.antt, from demand 3 as crates/agreement states it.
+-- Why the scan lock stands above the presence service: rule-following cards that are handed the same events, in the same order between
+-- the same rounds, hold equal locks and give equal joystick answers. Proved in proofs/Agreement.antt, from demand 3 as
+-- crates/agreement states it.
 use Prim.Native.Nat.{ℕ, zero, suc, _≤_}
 use mathlib.Core.Path.{_≡_}
 use mathlib.Core.List.{List, _∷_, _++_}
@@ -29,15 +30,18 @@ abbrev pub told : {S : Session} {i last : ℕ} → (ℕ → List Event) → Card
 told between card k = history between (λ j. card .state j .counters .view) k
 
 -- Of two cards after round k.
-pub record Alike (S : Session) (last : ℕ) (between : ℕ → List Event) (i i′ : ℕ) (card : Card S i last) (card′ : Card S i′ last) (k : ℕ) : Type 0 where
+pub record Alike (S : Session) (last : ℕ) (between : ℕ → List Event) (i i′ : ℕ) (card : Card S i last) (card′ : Card S i′ last)
+    (k : ℕ) : Type 0 where
   pub histories : told between card k ≡ told between card′ k
   pub locks : after (size S) (told between card k) ≡ after (size S) (told between card′ k)
   pub joysticks : joystickOf (after (size S) (told between card k)) ≡ joystickOf (after (size S) (told between card′ k))
   -- what C callers hold is equal byte for byte
-  pub images : (image image′ : List ℕ) → Held (size S) (told between card k) image → Held (size S) (told between card′ k) image′ → image ≡ image′
+  pub images : (image image′ : List ℕ) → Held (size S) (told between card k) image → Held (size S) (told between card′ k) image′
+      → image ≡ image′
 
 -- For every session that demand 3 speaks of, every list of events and every two rule-followers, while the fault limit is kept.
 abbrev pub CardsAgree : Type 0
 CardsAgree =
     (S : Session) → Accepted S → (last : ℕ) → Bound S last → (k : ℕ) → k ≤ last → KeptTo S k → (between : ℕ → List Event)
-    → (i i′ : ℕ) → RuleFollower S i → RuleFollower S i′ → (card : Card S i last) (card′ : Card S i′ last) → Alike S last between i i′ card card′ k
+    → (i i′ : ℕ) → RuleFollower S i → RuleFollower S i′ → (card : Card S i last) (card′ : Card S i′ last)
+    → Alike S last between i i′ card card′ k

@@ -1,5 +1,6 @@
 -- What a history leaves: no state is kept here, everything is read off the list of events. (document 02, E2)
--- A history is a list of events, the newest first, refused ones and views included. specs/ByHistory.antt says that the scan lock's state shows this.
+-- A history is a list of events, the newest first, refused ones and views included. That the scan lock's state shows what is left is
+-- stated in specs/ByHistory.antt.
 use Prim.Native.Nat.{ℕ, _+_, _-_, _^_}
 use mathlib.Core.Bool.{Bool, true, false, cond, not, _&&_, _||_}
 use mathlib.Core.List.{List, [], _∷_}
@@ -67,9 +68,9 @@ isHalting halting = true
 
 -- ---- the locks on axis a, by the events that were accepted
 
--- A lock is a begin. It was ended if an end came after it that no begin between them answers to, or a stop report of a stopping axis; it was lost
--- if a view came after it without its module. These are the locks of the events h that were neither, the newest first, each by its module:
--- `ends` counts the ends after h whose begin is in h, and `stays` tells the modules that are in every view after h.
+-- A lock is a begin. It was ended if an end came after it that no begin between them answers to, or a stop report of a stopping axis;
+-- it was lost if a view came after it without its module. These are the locks of the events h that were neither, the newest first,
+-- each by its module: `ends` counts the ends after h whose begin is in h, and `stays` tells the modules in every view after h.
 unfoldable pub left : ℕ → ℕ → (ℕ → Bool) → List Event → List ℕ
 left a ends stays [] = []
 left a ends stays (View view ∷ h) = left a ends (λ by. stays by && present view by) h

@@ -1,4 +1,5 @@
--- A saved scan lock: 9 big-endian words, a head and one word for each axis. Document 02 leaves its form open; docs/DECISIONS.md says why this one.
+-- A saved scan lock: 9 big-endian words, a head and one word for each axis. Document 02 leaves its form open; docs/DECISIONS.md says
+-- why this one.
 --   word 0      bits 20..16 N, 15..0 the view
 --   word a      axis a, 1..8: bits 12..8 the holder (0 for none), 7..4 the depth, 1 a move is unfinished, 0 stopping
 -- Unnamed bits are 0.

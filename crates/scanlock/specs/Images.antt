@@ -20,7 +20,8 @@ pub record RoundTrip : Type 0 where
   pub opens : (n : ℕ) → 2 ≤ n → n ≤ 16 → Sound (opened n)
   pub keeps : (st : Locks) (e : Event) → Sound st → Sound (eventOf st e .locks)
 
--- The image that a caller holds after a history: the output of the opening, and from an accepted event on its output; a refused event leaves it.
+-- The image that a caller holds after a history: the output of the opening, and from an accepted event on its output; a refused
+-- event leaves it.
 -- The output lent to a call is any buffer.
 pub data Held (n : ℕ) : List Event → List ℕ → Type 0 where
   opens : (out : List ℕ) → openCall n out .answer .number ≡ 0 → Held n [] (openCall n out .out)

@@ -1,6 +1,7 @@
--- The incident that the project exists for, as a worked case that the checker computes in proofs/Incident.antt: the joystick card, module 4, holds a
--- nested scan of axis 1 and a move is unfinished when its plug comes loose. Modules 1 and 3 hear nothing of it in rounds 1 to 3, module 2 does.
--- All cards strike it off after round 3, module 2 too; then module 1 aborts the move and the axis reports that it has stopped.
+-- The incident that the project exists for, as a worked case that the checker computes in proofs/Incident.antt. The joystick card,
+-- module 4, holds a nested scan of axis 1, and a move is unfinished, when its plug comes loose: modules 1 and 3 hear nothing of it in
+-- rounds 1 to 3, module 2 does. All cards strike it off after round 3, module 2 too; then module 1 aborts the move and the axis
+-- reports that it has stopped.
 use Prim.Native.Nat.{ℕ, _-_}
 use mathlib.Core.Bool.{Bool, true, false, not, _&&_, _||_}
 use mathlib.Core.List.{List, [], _∷_, _++_}

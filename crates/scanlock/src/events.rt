@@ -1,5 +1,6 @@
 // One method for each event, and one for any event. (document 02, E2)
-// The checks in their order: 19 for an axis or module out of range or a module not in the view, 20 and 21 by the axis. A refusal changes nothing.
+// The checks in their order: 19 for an axis or module out of range or a module not in the view, then 20 and 21 by the axis.
+// A refusal changes nothing.
 use crate::Answered;
 use crate::Axis;
 use crate::Event;
@@ -10,7 +11,6 @@ use words::bits::power;
 ghost use mathlib.Core.Path.{_≡_};
 ghost use Prim.Native.Nat.{_≤_, _^_};
 ghost use lib.Dec.{ltb};
-ghost use Rattle.words.specs.Table.{updated};
 ghost use Rattle.scanlock.specs.Axis.{onAxis};
 ghost use Rattle.scanlock.specs.Locks.{admits, axisAt, seenAxes, refusedOf, putOf, settledOf, setViewOf, beginOf, endOf, startOf, abortOf, finishedBy, stoppedBy, eventOf};
 

@@ -1,5 +1,5 @@
-// The scan lock of a stage, above the presence service: which module holds which axis, which moves are unfinished, and whether the joystick is
-// live. (document 02, E2)
+// The scan lock of a stage, above the presence service: which module holds which axis, which moves are unfinished, and whether
+// the joystick is live. (document 02, E2)
 //
 // It relies on one thing that the presence library states, the view after an accepted step (after_step.rt). A module is 1..N, an axis 1..8;
 // the entry of axis a stands at a - 1.
@@ -14,7 +14,7 @@ pub mod opening;
 pub mod save;
 pub mod word;
 
-// What the scan lock is told: a view after a step, by its modules; begin, end, start of a move and abort, by module and axis; the axis's reports
+// What the scan lock is told: the view after a step; begin, end, start of a move and abort, by module and axis; the axis's reports
 // that its move is finished or that it has stopped.
 pub enum Event {
     View(u32),
@@ -47,8 +47,8 @@ pub struct Locks {
     axes: [Axis; 8],
 }
 
-// What an event, an opening or a reading answers: 0 or the number by which it is refused, an index (0 but for a wrong word of an image), and the
-// locks after it.
+// What an event, an opening or a reading answers: 0 or the number by which it is refused, an index (0 but for a wrong word of an
+// image), and the locks after it.
 pub struct Answered {
     pub number: u32,
     pub index: u32,

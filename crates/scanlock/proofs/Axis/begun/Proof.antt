@@ -22,14 +22,18 @@ refused-requires-2 c κs = search needs
 
 returns-2 : tie.Need-returns-2
 unfolding begunOf
-returns-2 c = no _ (sym (c .before .before .before .before .barred .ensures) ∙ c .before .before .before .if1 .left) (yes _ (le-leb _ _ (c .before .if2 .taken)) (c .refused2 .ensures))
+returns-2 c =
+    no _ (sym (c .before .before .before .before .barred .ensures) ∙ c .before .before .before .if1 .left)
+    (yes _ (le-leb _ _ (c .before .if2 .taken)) (c .refused2 .ensures))
 
 add-t6 : tie.Need-add-t6
 add-t6 c = search needs
 
 returns-3 : tie.Need-returns-3
 unfolding begunOf deeper
-returns-3 c = no _ (sym (c .before .before .before .before .barred .ensures) ∙ c .before .before .before .if1 .left) (no _ (lt-leb _ _ (c .before .if2 .left)) refl)
+returns-3 c =
+    no _ (sym (c .before .before .before .before .barred .ensures) ∙ c .before .before .before .if1 .left)
+    (no _ (lt-leb _ _ (c .before .if2 .left)) refl)
 
 pub begun-spec : {M : Type 1} → statement M
 begun-spec =

@@ -4,8 +4,8 @@ use borrow.Author.Tests.{eq-eqb, ne-eqb}
 use native.Mathlib.Omega.{arith}
 use Rattle.scanlock.specs.Axis.{endedOf}
 use Rattle.scanlock.proofs.AnswerLaws.{yes, no, end-made}
-use mathlib.Core.Path.{refl, sym, ap, _∙_}
-use Rattle.scanlock.specs.Axis.{endedOf, shallower}
+use mathlib.Core.Path.{sym, _∙_}
+use Rattle.scanlock.specs.Axis.{endedOf}
 use Rattle.scanlock.proofs.AnswerLaws.{yes, no}
 use borrow.Author.Needs.{needs}
 use Rattle.scanlock.proofs.Axis.ended.Statement.{statement}
@@ -26,7 +26,9 @@ refused-requires-2 c κs = search needs
 
 returns-2 : tie.Need-returns-2
 unfolding endedOf
-returns-2 c = no _ (sym (c .before .before .before .before .barred .ensures) ∙ c .before .before .before .if1 .left) (yes _ (eq-eqb _ 0 (c .before .if2 .taken)) (c .refused2 .ensures))
+returns-2 c =
+    no _ (sym (c .before .before .before .before .barred .ensures) ∙ c .before .before .before .if1 .left)
+    (yes _ (eq-eqb _ 0 (c .before .if2 .taken)) (c .refused2 .ensures))
 
 pick-requires : tie.Need-pick-requires
 pick-requires c κs = search needs
@@ -38,7 +40,8 @@ returns-3 : tie.Need-returns-3
 unfolding endedOf
 returns-3 c =
     let g = c .before .before .before in
-    no _ (sym (g .before .before .before .barred .ensures) ∙ g .before .before .if1 .left) (no _ (ne-eqb _ 0 (g .if2 .left)) (end-made _ (c .before .pick .ensures)))
+    no _ (sym (g .before .before .before .barred .ensures) ∙ g .before .before .if1 .left)
+    (no _ (ne-eqb _ 0 (g .if2 .left)) (end-made _ (c .before .pick .ensures)))
 
 pub ended-spec : {M : Type 1} → statement M
 ended-spec =

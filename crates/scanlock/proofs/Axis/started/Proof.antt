@@ -22,14 +22,18 @@ refused-requires-2 c κs = search needs
 
 returns-2 : tie.Need-returns-2
 unfolding startedOf
-returns-2 c = no _ (sym (c .before .before .before .before .barred .ensures) ∙ c .before .before .before .if1 .left) (yes _ (eq-eqb _ 0 (c .before .if2 .taken)) (c .refused2 .ensures))
+returns-2 c =
+    no _ (sym (c .before .before .before .before .barred .ensures) ∙ c .before .before .before .if1 .left)
+    (yes _ (eq-eqb _ 0 (c .before .if2 .taken)) (c .refused2 .ensures))
 
 in-motion-requires : tie.Need-in-motion-requires
 in-motion-requires c κs = search needs
 
 returns-3 : tie.Need-returns-3
 unfolding startedOf moved
-returns-3 c = no _ (sym (c .before .before .before .before .barred .ensures) ∙ c .before .before .before .if1 .left) (no _ (ne-eqb _ 0 (c .before .if2 .left)) (ap (turned 0) (c .in-motion .ensures)))
+returns-3 c =
+    no _ (sym (c .before .before .before .before .barred .ensures) ∙ c .before .before .before .if1 .left)
+    (no _ (ne-eqb _ 0 (c .before .if2 .left)) (ap (turned 0) (c .in-motion .ensures)))
 
 pub started-spec : {M : Type 1} → statement M
 started-spec =

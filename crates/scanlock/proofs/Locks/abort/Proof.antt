@@ -23,7 +23,8 @@ returns : tie.Need-returns
 unfolding abortOf
 returns c =
     let a = c .before .before .before .before .before .args in
-    yes _ (sym (c .before .before .before .before .admits .ensures) ∙ c .before .before .before .if1 .taken) (told (a .self) (a .axis) abortedOf (c .before .before .at .ensures) (c .before .aborted .ensures) (c .put .ensures))
+    yes _ (sym (c .before .before .before .before .admits .ensures) ∙ c .before .before .before .if1 .taken)
+    (told (a .self) (a .axis) abortedOf (c .before .before .at .ensures) (c .before .aborted .ensures) (c .put .ensures))
 
 refused-requires : tie.Need-refused-requires
 refused-requires c κs = search needs

@@ -23,7 +23,9 @@ returns : tie.Need-returns
 unfolding beginOf
 returns c =
     let a = c .before .before .before .before .before .args in
-    yes _ (sym (c .before .before .before .before .admits .ensures) ∙ c .before .before .before .if1 .taken) (asked (a .self) (a .axis) (λ x. begunOf x (a .by)) (c .before .before .at .ensures) (c .before .begun .ensures) (c .settled .ensures))
+    yes _ (sym (c .before .before .before .before .admits .ensures) ∙ c .before .before .before .if1 .taken)
+    (asked (a .self) (a .axis) (λ x. begunOf x (a .by)) (c .before .before .at .ensures) (c .before .begun .ensures)
+    (c .settled .ensures))
 
 refused-requires : tie.Need-refused-requires
 refused-requires c κs = search needs

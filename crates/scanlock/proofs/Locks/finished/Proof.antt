@@ -23,7 +23,8 @@ returns : tie.Need-returns
 unfolding finishedBy
 returns c =
     let a = c .before .before .before .before .before .args in
-    yes _ (sym (c .before .before .before .before .on-axis .ensures) ∙ c .before .before .before .if1 .taken) (told (a .self) (a .axis) finishedOf (c .before .before .at .ensures) (c .before .finished .ensures) (c .put .ensures))
+    yes _ (sym (c .before .before .before .before .on-axis .ensures) ∙ c .before .before .before .if1 .taken)
+    (told (a .self) (a .axis) finishedOf (c .before .before .at .ensures) (c .before .finished .ensures) (c .put .ensures))
 
 refused-requires : tie.Need-refused-requires
 refused-requires c κs = search needs

@@ -2,8 +2,6 @@
 use mathlib.Core.Path.{ap}
 use Rattle.scanlock.specs.Locks.{answered, openOf}
 use Rattle.scanlock.proofs.AnswerLaws.{yes, no, within}
-use borrow.Author.Tests.{leb-true}
-use Rattle.words.proofs.Truth.{and-r}
 use Rattle.scanlock.proofs.AnswerLaws.{yes, no}
 use Rattle.scanlock.specs.Locks.{openOf}
 use borrow.Author.Needs.{needs}

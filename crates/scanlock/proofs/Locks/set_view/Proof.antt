@@ -18,7 +18,8 @@ returns : tie.Need-returns
 unfolding setViewOf
 returns c =
     let a = c .before .before .before .before .args in
-    yes _ (sym (c .before .before .before .names .ensures) ∙ c .before .before .if1 .taken) (ap (λ (x : List Axis). answered 0 (locks (a .self .n) (a .view) x)) (c .seen-axes .ensures))
+    yes _ (sym (c .before .before .before .names .ensures) ∙ c .before .before .if1 .taken)
+    (ap (λ (x : List Axis). answered 0 (locks (a .self .n) (a .view) x)) (c .seen-axes .ensures))
 
 refused-requires : tie.Need-refused-requires
 refused-requires c κs = search needs

@@ -23,7 +23,9 @@ returns : tie.Need-returns
 unfolding startOf
 returns c =
     let a = c .before .before .before .before .before .args in
-    yes _ (sym (c .before .before .before .before .admits .ensures) ∙ c .before .before .before .if1 .taken) (asked (a .self) (a .axis) (λ x. startedOf x (a .by)) (c .before .before .at .ensures) (c .before .started .ensures) (c .settled .ensures))
+    yes _ (sym (c .before .before .before .before .admits .ensures) ∙ c .before .before .before .if1 .taken)
+    (asked (a .self) (a .axis) (λ x. startedOf x (a .by)) (c .before .before .at .ensures) (c .before .started .ensures)
+    (c .settled .ensures))
 
 refused-requires : tie.Need-refused-requires
 refused-requires c κs = search needs

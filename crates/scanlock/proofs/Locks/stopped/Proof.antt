@@ -23,7 +23,8 @@ returns : tie.Need-returns
 unfolding stoppedBy
 returns c =
     let a = c .before .before .before .before .before .args in
-    yes _ (sym (c .before .before .before .before .on-axis .ensures) ∙ c .before .before .before .if1 .taken) (told (a .self) (a .axis) stoppedOf (c .before .before .at .ensures) (c .before .stopped .ensures) (c .put .ensures))
+    yes _ (sym (c .before .before .before .before .on-axis .ensures) ∙ c .before .before .before .if1 .taken)
+    (told (a .self) (a .axis) stoppedOf (c .before .before .at .ensures) (c .before .stopped .ensures) (c .put .ensures))
 
 refused-requires : tie.Need-refused-requires
 refused-requires c κs = search needs

@@ -35,7 +35,8 @@ returns-3 : tie.Need-returns-3
 returns-3 c =
     let g = c .before .before .before in
     let f = g .before .before in
-    call-refused _ _ _ (f .before .before .before .check-image .ensures) (f .before .if1 .left) (f .if2 .left) (g .before .locks-in .ensures) (g .handle .ensures) (c .before .if3 .taken) (c .answering .ensures)
+    call-refused _ _ _ (f .before .before .before .check-image .ensures) (f .before .if1 .left) (f .if2 .left)
+    (g .before .locks-in .ensures) (g .handle .ensures) (c .before .if3 .taken) (c .answering .ensures)
 
 save-requires : tie.Need-save-requires
 save-requires c κs = search needs
@@ -49,7 +50,8 @@ returns-4 c =
     let i = s .before .before .before in
     let g = i .before .before in
     let f = g .before .before in
-    call-done _ _ _ (f .before .before .before .check-image .ensures) (f .before .if1 .left) (f .if2 .left) (g .before .locks-in .ensures) (g .handle .ensures) (i .if3 .left) (s .save .ensures)
+    call-done _ _ _ (f .before .before .before .check-image .ensures) (f .before .if1 .left) (f .if2 .left)
+    (g .before .locks-in .ensures) (g .handle .ensures) (i .if3 .left) (s .save .ensures)
 
 pub call-spec : {M : Type 1} → statement M
 call-spec =

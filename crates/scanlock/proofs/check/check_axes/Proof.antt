@@ -23,7 +23,14 @@ wrong-axis-requires : tie.Need-wrong-axis-requires
 wrong-axis-requires c κs = search needs
 
 cast-plain : tie.Need-cast-plain
-cast-plain c = omega (arith, c .before .wrong-axis .ensures, lowest-le (λ i. not (axisOk (c .before .before .before .before .args .view) (wordAt (c .before .before .before .before .args .image .now) (i + 1)))) 8)
+cast-plain c =
+    omega (
+      arith,
+      c .before .wrong-axis .ensures,
+      lowest-le
+          (λ i. not (axisOk (c .before .before .before .before .args .view)
+          (wordAt (c .before .before .before .before .args .image .now) (i + 1)))) 8,
+    )
 
 plain-requires-2 : tie.Need-plain-requires-2
 plain-requires-2 c κs = search needs

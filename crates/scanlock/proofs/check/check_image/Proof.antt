@@ -27,7 +27,8 @@ check-axes-requires c κs = search needs
 returns-2 : tie.Need-returns-2
 returns-2 c =
     let g = c .before .before in
-    head-passed _ (g .before .before .if1 .left) (g .before .word-at .ensures) (g .head-ok .ensures) (c .before .if2 .taken) (c .check-axes .ensures)
+    head-passed _ (g .before .before .if1 .left) (g .before .word-at .ensures) (g .head-ok .ensures) (c .before .if2 .taken)
+    (c .check-axes .ensures)
 
 plain-requires-2 : tie.Need-plain-requires-2
 plain-requires-2 c κs = search needs
@@ -35,7 +36,8 @@ plain-requires-2 c κs = search needs
 returns-3 : tie.Need-returns-3
 returns-3 c =
     let g = c .before .before in
-    head-failed _ (g .before .before .if1 .left) (g .before .word-at .ensures) (g .head-ok .ensures) (c .before .if2 .left) (c .plain2 .ensures)
+    head-failed _ (g .before .before .if1 .left) (g .before .word-at .ensures) (g .head-ok .ensures) (c .before .if2 .left)
+    (c .plain2 .ensures)
 
 pub check-image-spec : {M : Type 1} → statement M
 check-image-spec =

@@ -2,10 +2,7 @@
 use Prim.Native.Nat.{_^_, _<_}
 use native.Mathlib.Omega.{arith}
 use Rattle.scanlock.proofs.AnswerLaws.{within, present-bit, present-none}
-use borrow.Author.Tests.{leb-true}
-use Rattle.words.proofs.Truth.{and-l, and-r}
 use Rattle.scanlock.proofs.AnswerLaws.{present-bit, present-none}
-use Rattle.scanlock.specs.Axis.{present}
 use borrow.Author.Needs.{needs}
 use Rattle.scanlock.proofs.on_axis.is_present.Statement.{statement}
 use Rattle.scanlock.proofs.on_axis.is_present.Tie as tie

@@ -1,6 +1,5 @@
 -- The word is read and made again.
 use Rattle.scanlock.proofs.AnswerLaws.{axis-tested}
-use Rattle.scanlock.specs.Image.{axisOk}
 use borrow.Author.Needs.{needs}
 use Rattle.scanlock.proofs.word.axis_ok.Statement.{statement}
 use Rattle.scanlock.proofs.word.axis_ok.Tie as tie
