@@ -86,7 +86,7 @@
  *        without a holder that is in the view; stopping
  *        without an unfinished move
  *    9   output not of 9 words                              0
- *   19   axis not 1..8; module not 1..N, or not in the     0
+ *   19   axis not 1..8; module not 1..N, or not in the      0
  *        view handed last; scanlock_view: a bit at N or
  *        above
  *   20   begin, end or start: the axis is held by another   0
