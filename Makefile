@@ -8,7 +8,7 @@
 .PHONY: run test harness tools-test soak measure time library bench rust clean
 
 LIB := target/staticlib
-EXPORTS := presence page
+EXPORTS := presence page scanlock
 BENCH := target/bin/bench
 RUST := target/harness/release
 SEED ?= 1
@@ -39,6 +39,8 @@ harness: rust bench
 	cd harness && ../$(RUST)/vectors
 	for f in harness/data/calls.txt harness/data/own-calls.txt harness/data/e01-calls.txt; do $(RUST)/vectors --print $$f | diff - $$f || exit 1; done
 	$(RUST)/differential 36500 $(SEED)
+	$(RUST)/locks harness/data/scanlock/calls.txt harness/data/scanlock/own.txt
+	$(RUST)/locks --random 20000 $(SEED)
 	tools/hex2bin examples/sheet.hex | cmp - harness/data/vectors/001-star-sheet.bin
 	$(RUST)/scripts --dir harness/data/vectors $(BENCH)
 	$(RUST)/scripts --dir harness/data/own-scripts $(BENCH)
@@ -52,6 +54,7 @@ tools-test: bench
 
 soak: rust bench
 	$(RUST)/differential 2600000 $(SEED)
+	$(RUST)/locks --random 1000000 $(SEED)
 	$(RUST)/scripts 100000 $(SEED) $(BENCH)
 
 measure: rust

@@ -19,9 +19,9 @@ C_ARCHIVE = $(PRESENCE_LIB)/libgirmaut.a
 C_CHECK = harness/c/check.c harness/c/plain.c harness/c/plain_page.c
 C_HEADERS = include/presence.h harness/c/plain.h
 
-.PHONY: check check-asan check-valgrind header firmware measure c-all
+.PHONY: check check-asan check-valgrind header firmware stage measure c-all
 
-c-all: header check check-asan firmware
+c-all: header check check-asan firmware stage
 
 # Every function against document 01 and plain.c.
 check: $(C_BUILD)/check
@@ -35,9 +35,9 @@ check-asan: $(C_BUILD)/check-asan
 check-valgrind: $(C_BUILD)/check
 	valgrind -q --error-exitcode=9 $(C_BUILD)/check $(CALLS)
 
-# The header alone, as C99 and as C++.
+# The headers alone, as C99 and as C++.
 header: | $(C_BUILD)
-	printf '#include "presence.h"\n#include "presence.h"\nextern int x;\n' > $(C_BUILD)/header.c
+	printf '#include "scanlock.h"\n#include "presence.h"\n#include "presence.h"\n#include "scanlock.h"\nextern int x;\n' > $(C_BUILD)/header.c
 	gcc $(C_FLAGS) -pedantic -Wstrict-prototypes -c $(C_BUILD)/header.c -o $(C_BUILD)/header.o
 	g++ -x c++ -std=c++98 -Wall -Wextra -Werror -Iinclude -c $(C_BUILD)/header.c -o $(C_BUILD)/header.o
 
@@ -46,6 +46,11 @@ firmware: $(C_BUILD)/card
 	$(C_BUILD)/card > $(C_BUILD)/card.out
 	diff examples/firmware/expected.txt $(C_BUILD)/card.out
 	@echo firmware example: output as expected
+
+# Presence and scan lock together, without and with sanitizers; the output must be the stored one.
+stage: $(C_BUILD)/stage $(C_BUILD)/stage-asan
+	for p in stage stage-asan; do $(C_BUILD)/$$p > $(C_BUILD)/$$p.out && diff examples/stage/expected.txt $(C_BUILD)/$$p.out || exit 1; done
+	@echo stage example: output as expected
 
 # Instructions, stack and code size of a step against plain.c.
 measure: $(C_ARCHIVE)
@@ -62,3 +67,12 @@ $(C_BUILD)/check-asan: $(C_CHECK) $(C_HEADERS) $(C_ARCHIVE) | $(C_BUILD)
 
 $(C_BUILD)/card: examples/firmware/card.c $(C_HEADERS) $(C_ARCHIVE) | $(C_BUILD)
 	gcc $(C_FLAGS) -O2 examples/firmware/card.c $(C_LINK) -o $@
+
+STAGE = examples/stage/stage.c
+STAGE_NEEDS = $(STAGE) include/presence.h include/scanlock.h $(C_ARCHIVE)
+
+$(C_BUILD)/stage: $(STAGE_NEEDS) | $(C_BUILD)
+	gcc $(C_FLAGS) -O2 $(STAGE) $(C_LINK) -o $@
+
+$(C_BUILD)/stage-asan: $(STAGE_NEEDS) | $(C_BUILD)
+	gcc $(C_FLAGS) -O1 -g -fsanitize=address,undefined -fno-sanitize-recover=all $(STAGE) $(C_LINK) -o $@

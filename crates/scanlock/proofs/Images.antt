@@ -1,0 +1,135 @@
+-- The image that a C caller holds after a history is that of the locks after it, so its answers are those of the history.
+use Prim.Native.Nat.{ℕ, _≤_}
+use mathlib.Core.Path.{_≡_, refl, sym, ap, ap₂, _∙_, subst}
+use mathlib.Core.Bool.{Bool, true, false, cond, _&&_}
+use mathlib.Core.Logic.{⊎-elim}
+use mathlib.Core.List.{List, _∷_}
+use native.Mathlib.Omega.{arith}
+use borrow.Author.Tests.{eqb-true, eqb-false, eq-eqb, ne-eqb}
+use lib.Dec.{eqb, leb}
+use lib.ListN.{length}
+use Rattle.words.specs.Bits.{b2n}
+use Rattle.words.proofs.Truth.{which, cond-true, cond-false}
+use Rattle.scanlock.specs.Locks.{opened, openOf, eventOf}
+use Rattle.scanlock.specs.History.{number, accepted}
+use Rattle.scanlock.specs.ByHistory.{after}
+use Rattle.scanlock.specs.Image.{answer, imageOf, Sound}
+use Rattle.scanlock.specs.Calls.{Called, called, answerOf, saveCall, openCall, eventCall, joystickCall}
+use Rattle.scanlock.specs.Images.{RoundTrip, Held, opens, tells, refuses, ImagesByHistory}
+use Rattle.scanlock.specs.declared.Locks.{Locks}
+use Rattle.scanlock.specs.declared.Answer.{Answer}
+use Rattle.scanlock.specs.declared.Event.{Event}
+use Rattle.scanlock.proofs.AnswerLaws.{within}
+use Rattle.scanlock.proofs.ByHistory.{by-history}
+use Rattle.scanlock.proofs.SoundLaws.{opened-sound, event-sound}
+use Rattle.scanlock.proofs.ImageLaws.{written-read, read-written}
+use Rattle.scanlock.proofs.RefusalLaws.{refused-same}
+
+pub round-trip : RoundTrip
+round-trip = record { written-read = written-read; read-written = read-written; opens = opened-sound; keeps = event-sound }
+
+-- ---- a call on the image of sound locks
+
+-- an event with room for its output
+abbrev answer-to : Locks → Event → List ℕ → Called
+answer-to st e out =
+    cond (eqb (eventOf st e .number) 0) (called (answerOf 0 (eventOf st e .locks)) (imageOf (eventOf st e .locks)))
+    (called (answerOf (eventOf st e .number) st) out)
+
+module _ (st : Locks) (s : Sound st) (e : Event) (out : List ℕ) where
+  call-as : length out ≡ 36 → eventCall (imageOf st) e out ≡ answer-to st e out
+  unfolding eventCall
+  call-as l =
+      let (c, b) = written-read st s in
+      cond-true _ _ (ap (λ (v : Answer). eqb (v .number) 0) c) ∙ cond-true _ _ (eq-eqb _ 36 l) ∙ ap (λ (x : Locks). answer-to x e out) b
+
+  call-short : (length out ≡ 36 → ⊥) → eventCall (imageOf st) e out ≡ called (answer 9 0 0) out
+  unfolding eventCall
+  call-short l =
+      let (c, b) = written-read st s in
+      cond-true _ _ (ap (λ (v : Answer). eqb (v .number) 0) c) ∙ cond-false _ _ (ne-eqb _ 36 l)
+
+  -- an accepted event writes the locks after it
+  call-writes : eventCall (imageOf st) e out .answer .number ≡ 0 → eventCall (imageOf st) e out .out ≡ imageOf (eventOf st e .locks)
+  call-writes z =
+      ⊎-elim
+      (λ (l : eqb (length out) 36 ≡ true).
+      let c = call-as (eqb-true _ 36 l) in
+      ⊎-elim
+      (λ (p : eqb (eventOf st e .number) 0 ≡ true). ap (λ (x : Called). x .out) (c ∙ cond-true _ _ p))
+      (λ (p : eqb (eventOf st e .number) 0 ≡ false).
+      absurd (eqb-false _ 0 p (sym (ap (λ (x : Called). x .answer .number) (c ∙ cond-false _ _ p)) ∙ z)))
+      (which (eqb (eventOf st e .number) 0)))
+      (λ (l : eqb (length out) 36 ≡ false).
+      absurd (nine (sym (ap (λ (x : Called). x .answer .number) (call-short (eqb-false _ 36 l))) ∙ z)))
+      (which (eqb (length out) 36))
+    where
+      nine : (_≡_ {A = ℕ} 9 0) → ⊥
+      nine h = omega arith
+
+  -- the answer, accepted or refused
+  call-answers : length out ≡ 36 → eventCall (imageOf st) e out .answer ≡ answerOf (eventOf st e .number) (eventOf st e .locks)
+  call-answers l =
+      ⊎-elim
+      (λ (p : eqb (eventOf st e .number) 0 ≡ true).
+      ap (λ (x : Called). x .answer) (call-as l ∙ cond-true _ _ p)
+      ∙ ap (λ (m : ℕ). answerOf m (eventOf st e .locks)) (sym (eqb-true _ 0 p)))
+      (λ (p : eqb (eventOf st e .number) 0 ≡ false).
+      ap (λ (x : Called). x .answer) (call-as l ∙ cond-false _ _ p)
+      ∙ ap (λ (x : Locks). answerOf (eventOf st e .number) x) (sym (refused-same st e (eqb-false _ 0 p))))
+      (which (eqb (eventOf st e .number) 0))
+
+-- ---- the opening
+
+open-writes : (n : ℕ) (out : List ℕ) → openCall n out .answer .number ≡ 0 → (openCall n out .out ≡ imageOf (opened n)) × Sound (opened n)
+unfolding openCall openOf saveCall
+open-writes n out z =
+    ⊎-elim
+    (λ (p : leb 2 n && leb n 16 ≡ true).
+    let (a, b) = within-both n p in
+    ⊎-elim
+    (λ (l : eqb (length out) 36 ≡ true). (rw (p, l) refl, opened-sound n a b))
+    (λ (l : eqb (length out) 36 ≡ false). absurd (nine (rw (p, l) at z)))
+    (which (eqb (length out) 36)))
+    (λ (p : leb 2 n && leb n 16 ≡ false). absurd (two (rw p at z)))
+    (which (leb 2 n && leb n 16))
+  where
+    nine : (_≡_ {A = ℕ} 9 0) → ⊥
+    nine h = omega arith
+
+    two : (_≡_ {A = ℕ} 2 0) → ⊥
+    two h = omega arith
+
+    within-both : (m : ℕ) → leb 2 m && leb m 16 ≡ true → (2 ≤ m) × (m ≤ 16)
+    within-both m e = within 2 16 m e
+
+-- ---- every history
+
+held-is : (n : ℕ) (h : List Event) (image : List ℕ) → Held n h image → (image ≡ imageOf (after n h)) × Sound (after n h)
+unfolding after
+held-is n h image (opens out z) = open-writes n out z
+held-is n g image (tells {h = h} {image = old} e out k z) =
+    let (i, s) = held-is n h old k in
+    let z′ = subst (λ (x : List ℕ). eventCall x e out .answer .number ≡ 0) i z in
+    (ap (λ (x : List ℕ). eventCall x e out .out) i ∙ call-writes (after n h) s e out z′, event-sound (after n h) e s)
+held-is n g image (refuses {h = h} e out k l z) =
+    let (i, s) = held-is n h image k in
+    let q : eventOf (after n h) e .number ≡ 0 → ⊥ = λ m.
+    z (ap (λ (x : List ℕ). eventCall x e out .answer .number) i
+    ∙ ap (λ (x : Answer). x .number) (call-answers (after n h) s e out l) ∙ m) in
+    (i ∙ ap imageOf (sym (refused-same (after n h) e q)), event-sound (after n h) e s)
+
+pub images-by-history : ImagesByHistory
+unfolding after joystickCall
+images-by-history n h image k =
+    let (i, s) = held-is n h image k in
+    record {
+      one-form = i;
+      tells = λ e out l.
+          ap (λ (x : List ℕ). eventCall x e out .answer) i ∙ call-answers (after n h) s e out l
+          ∙ ap₂ (λ (m : ℕ) (b : Bool). answer m 0 (b2n b)) (by-history n h .answers e) (by-history n (e ∷ h) .joystick);
+      joystick =
+          let (c, b) = written-read (after n h) s in
+          ap joystickCall i ∙ cond-true _ _ (ap (λ (v : Answer). eqb (v .number) 0) c) ∙ ap (λ (x : Locks). answerOf 0 x) b
+          ∙ ap (λ (b : Bool). answer 0 0 (b2n b)) (by-history n h .joystick);
+    }

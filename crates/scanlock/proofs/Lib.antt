@@ -1,0 +1,10 @@
+pub mod AnswerLaws
+pub mod CallLaws
+pub mod AxisHistory
+pub mod ByHistory
+pub mod SoundLaws
+pub mod ImageLaws
+pub mod RefusalLaws
+pub mod Images
+pub mod Agreement
+pub mod Incident

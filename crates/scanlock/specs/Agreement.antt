@@ -1,0 +1,47 @@
+-- Why the scan lock stands above the presence service: rule-following cards that are handed the same events, in the same order between
+-- the same rounds, hold equal locks and give equal joystick answers. Proved in proofs/Agreement.antt, from demand 3 as
+-- crates/agreement states it.
+use Prim.Native.Nat.{ℕ, zero, suc, _≤_}
+use mathlib.Core.Path.{_≡_}
+use mathlib.Core.List.{List, _∷_, _++_}
+use Rattle.presence.specs.declared.State.{State}
+use Rattle.agreement.specs.Session.{Session, Accepted, size, RuleFollower, Bound}
+use Rattle.agreement.specs.Life.{Life}
+use Rattle.agreement.specs.Demand.{KeptTo}
+use Rattle.scanlock.specs.Locks.{joystickOf}
+use Rattle.scanlock.specs.ByHistory.{after}
+use Rattle.scanlock.specs.Images.{Held}
+use Rattle.scanlock.specs.declared.Event.{Event}
+use Rattle.scanlock.specs.declared.Event.the-variants.{View}
+
+-- A card of a session up to round `last`: the state that it holds after each round, in a life of the session.
+pub record Card (S : Session) (i last : ℕ) : Type 0 where
+  pub state : ℕ → State
+  pub health : ℕ → ℕ
+  pub lives : (k : ℕ) → k ≤ last → Life S i k (state k) (health k)
+
+-- What a scan lock is handed up to round k, the newest first: after each step the view that it left, and between two steps any events.
+-- `between k` are those after step k and before step k + 1; they may be none, so this speaks of the moment after the step too.
+unfoldable pub history : (ℕ → List Event) → (ℕ → ℕ) → ℕ → List Event
+history between views zero = between zero
+history between views (suc k) = between (suc k) ++ (View (views (suc k)) ∷ history between views k)
+
+abbrev pub told : {S : Session} {i last : ℕ} → (ℕ → List Event) → Card S i last → ℕ → List Event
+told between card k = history between (λ j. card .state j .counters .view) k
+
+-- Of two cards after round k.
+pub record Alike (S : Session) (last : ℕ) (between : ℕ → List Event) (i i′ : ℕ) (card : Card S i last) (card′ : Card S i′ last)
+    (k : ℕ) : Type 0 where
+  pub histories : told between card k ≡ told between card′ k
+  pub locks : after (size S) (told between card k) ≡ after (size S) (told between card′ k)
+  pub joysticks : joystickOf (after (size S) (told between card k)) ≡ joystickOf (after (size S) (told between card′ k))
+  -- what C callers hold is equal byte for byte
+  pub images : (image image′ : List ℕ) → Held (size S) (told between card k) image → Held (size S) (told between card′ k) image′
+      → image ≡ image′
+
+-- For every session that demand 3 speaks of, every list of events and every two rule-followers, while the fault limit is kept.
+abbrev pub CardsAgree : Type 0
+CardsAgree =
+    (S : Session) → Accepted S → (last : ℕ) → Bound S last → (k : ℕ) → k ≤ last → KeptTo S k → (between : ℕ → List Event)
+    → (i i′ : ℕ) → RuleFollower S i → RuleFollower S i′ → (card : Card S i last) (card′ : Card S i′ last)
+    → Alike S last between i i′ card card′ k

@@ -1,0 +1,70 @@
+-- What an event does to the axis that it names. (document 02, E2)
+use Prim.Native.Nat.{ℕ, _+_, _-_}
+use mathlib.Core.Bool.{Bool, true, false, cond, not, _&&_, _||_}
+use lib.Dec.{eqb, leb}
+use Rattle.words.specs.Bits.{bit}
+use Rattle.scanlock.specs.declared.Axis.{Axis}
+use Rattle.scanlock.specs.declared.Turned.{Turned}
+
+abbrev pub axis : ℕ → ℕ → Bool → Bool → Axis
+axis holder depth moving stopping = record { holder = holder; depth = depth; moving = moving; stopping = stopping }
+
+abbrev pub turned : ℕ → Axis → Turned
+turned number x = record { number = number; axis = x }
+
+-- held by nobody, at rest
+abbrev pub free : Axis
+free = axis 0 0 false false
+
+-- a module is in a view; there is no module 0
+unfoldable pub present : ℕ → ℕ → Bool
+present view by = leb 1 by && bit view (by - 1)
+
+-- there are axes 1..8
+unfoldable pub onAxis : ℕ → Bool
+onAxis a = leb 1 a && leb a 8
+
+-- 20: held by another, or stopping
+unfoldable pub barred : Axis → ℕ → Bool
+barred x by = (not (eqb (x .holder) 0) && not (eqb (x .holder) by)) || x .stopping
+
+-- a begin: 21 for a ninth depth
+unfoldable pub deeper : Axis → ℕ → Axis
+deeper x by = axis by (x .depth + 1) (x .moving) (x .stopping)
+
+unfoldable pub begunOf : Axis → ℕ → Turned
+begunOf x by = cond (barred x by) (turned 20 x) (cond (leb 8 (x .depth)) (turned 21 x) (turned 0 (deeper x by)))
+
+-- an end: 21 without a begin. An inner end restores the outer lock; the outermost leaves the axis to nobody. The move goes on.
+unfoldable pub shallower : Axis → Axis
+shallower x = axis (cond (eqb (x .depth) 1) 0 (x .holder)) (x .depth - 1) (x .moving) (x .stopping)
+
+unfoldable pub endedOf : Axis → ℕ → Turned
+endedOf x by = cond (barred x by) (turned 20 x) (cond (eqb (x .depth) 0) (turned 21 x) (turned 0 (shallower x)))
+
+-- a start: 21 without a begin. A start during an unfinished move joins it.
+unfoldable pub moved : Axis → Axis
+moved x = axis (x .holder) (x .depth) true (x .stopping)
+
+unfoldable pub startedOf : Axis → ℕ → Turned
+startedOf x by = cond (barred x by) (turned 20 x) (cond (eqb (x .depth) 0) (turned 21 x) (turned 0 (moved x)))
+
+-- an abort during an unfinished move makes the axis stopping
+unfoldable pub abortedOf : Axis → Axis
+abortedOf x = axis (x .holder) (x .depth) (x .moving) (x .stopping || x .moving)
+
+-- a finish report ends the move, but changes nothing on a stopping axis
+unfoldable pub finishedOf : Axis → Axis
+finishedOf x = axis (x .holder) (x .depth) (x .moving && x .stopping) (x .stopping)
+
+-- a stop report ends the move and every depth of a stopping axis, and changes nothing on another
+unfoldable pub stoppedOf : Axis → Axis
+stoppedOf x = cond (x .stopping) free x
+
+-- a holder that leaves the view loses its locks; neither the move nor the stopping ends
+unfoldable pub lostOf : ℕ → Axis → Axis
+lostOf view x = cond (present view (x .holder)) x (axis 0 0 (x .moving) (x .stopping))
+
+-- nobody holds the axis, and it is not stopping
+unfoldable pub idle : Axis → Bool
+idle x = eqb (x .depth) 0 && not (x .stopping)

@@ -1,0 +1,27 @@
+-- The scan lock's state shows what its history leaves, after every history; so does the joystick. Proved in proofs/ByHistory.antt.
+use Prim.Native.Nat.{ℕ, _≤_}
+use mathlib.Core.Path.{_≡_}
+use mathlib.Core.List.{List, [], _∷_}
+use Rattle.scanlock.specs.Axis.{axis}
+use Rattle.scanlock.specs.Locks.{opened, axisAt, eventOf, joystickOf}
+use Rattle.scanlock.specs.History.{depth, holder, unfinished, stopping, viewIn, number, accepted, live}
+use Rattle.scanlock.specs.declared.Locks.{Locks}
+use Rattle.scanlock.specs.declared.Event.{Event}
+
+-- the locks of n modules after a history: opened, then told every event in turn
+unfoldable pub after : ℕ → List Event → Locks
+after n [] = opened n
+after n (e ∷ h) = eventOf (after n h) e .locks
+
+pub record Shown (n : ℕ) (h : List Event) : Type 0 where
+  -- the answer to one event more
+  pub answers : (e : Event) → eventOf (after n h) e .number ≡ number n (accepted n h) e
+  pub view : after n h .view ≡ viewIn n (accepted n h)
+  -- of each axis its holder, its depth, whether a move is unfinished, and whether it is stopping
+  pub each : (a : ℕ) → 1 ≤ a → a ≤ 8
+      → axisAt (after n h) a
+      ≡ axis (holder a (accepted n h)) (depth a (accepted n h)) (unfinished a (accepted n h)) (stopping a (accepted n h))
+  pub joystick : joystickOf (after n h) ≡ live n h
+
+abbrev pub ByHistory : Type 0
+ByHistory = (n : ℕ) (h : List Event) → Shown n h

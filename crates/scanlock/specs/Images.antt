@@ -1,0 +1,41 @@
+-- What holds of a C caller, who keeps the scan lock as its image. Proved in proofs/Images.antt.
+use Prim.Native.Nat.{ℕ, _≤_, _<_}
+use mathlib.Core.Path.{_≡_}
+use mathlib.Core.Logic.{_≢_}
+use mathlib.Core.List.{List, [], _∷_}
+use lib.ListN.{getD, length}
+use Rattle.words.specs.Bits.{b2n}
+use Rattle.scanlock.specs.Locks.{opened, eventOf}
+use Rattle.scanlock.specs.History.{number, accepted, live}
+use Rattle.scanlock.specs.ByHistory.{after}
+use Rattle.scanlock.specs.Image.{answer, imageOf, locksOf, checkImage, Sound}
+use Rattle.scanlock.specs.Calls.{openCall, eventCall, joystickCall}
+use Rattle.scanlock.specs.declared.Locks.{Locks}
+use Rattle.scanlock.specs.declared.Event.{Event}
+
+-- Locks are written in one form and read back equal; an accepted image is that of the locks that it holds.
+pub record RoundTrip : Type 0 where
+  pub written-read : (st : Locks) → Sound st → (checkImage (imageOf st) ≡ answer 0 0 0) × (locksOf (imageOf st) ≡ st)
+  pub read-written : (s : List ℕ) → ((i : ℕ) → getD s i 0 < 256) → checkImage s .number ≡ 0 → Sound (locksOf s) × (imageOf (locksOf s) ≡ s)
+  pub opens : (n : ℕ) → 2 ≤ n → n ≤ 16 → Sound (opened n)
+  pub keeps : (st : Locks) (e : Event) → Sound st → Sound (eventOf st e .locks)
+
+-- The image that a caller holds after a history: the output of the opening, and from an accepted event on its output; a refused
+-- event leaves it.
+-- The output lent to a call is any buffer.
+pub data Held (n : ℕ) : List Event → List ℕ → Type 0 where
+  opens : (out : List ℕ) → openCall n out .answer .number ≡ 0 → Held n [] (openCall n out .out)
+  tells : {h : List Event} {image : List ℕ} (e : Event) (out : List ℕ) → Held n h image → eventCall image e out .answer .number ≡ 0
+      → Held n (e ∷ h) (eventCall image e out .out)
+  refuses : {h : List Event} {image : List ℕ} (e : Event) (out : List ℕ) → Held n h image → length out ≡ 36
+      → eventCall image e out .answer .number ≢ 0 → Held n (e ∷ h) image
+
+-- Such an image is that of the locks after the history; each further event is answered, and the joystick is live, as the history has it.
+pub record Answers (n : ℕ) (h : List Event) (image : List ℕ) : Type 0 where
+  pub one-form : image ≡ imageOf (after n h)
+  pub tells : (e : Event) (out : List ℕ) → length out ≡ 36
+      → eventCall image e out .answer ≡ answer (number n (accepted n h) e) 0 (b2n (live n (e ∷ h)))
+  pub joystick : joystickCall image ≡ answer 0 0 (b2n (live n h))
+
+abbrev pub ImagesByHistory : Type 0
+ImagesByHistory = (n : ℕ) (h : List Event) (image : List ℕ) → Held n h image → Answers n h image

@@ -1,0 +1,9 @@
+pub mod Axis
+pub mod Locks
+pub mod History
+pub mod ByHistory
+pub mod Image
+pub mod Calls
+pub mod Images
+pub mod Agreement
+pub mod Incident

@@ -1,0 +1,102 @@
+-- What the scan lock makes of each event, and whether the joystick is live. (document 02, E2)
+-- specs/History.antt says the same of a whole history, without a state.
+use Prim.Native.Nat.{ℕ, _-_, _^_}
+use mathlib.Core.Bool.{Bool, cond, _&&_}
+use mathlib.Core.List.{List}
+use lib.Dec.{eqb, leb, ltb}
+use lib.ListN.{getD, set, replicate}
+use Rattle.words.specs.Bits.{full}
+use Rattle.words.specs.Count.{all}
+use Rattle.words.specs.Table.{updated}
+use Rattle.scanlock.specs.Axis.{free, present, onAxis, begunOf, endedOf, startedOf, abortedOf, finishedOf, stoppedOf, lostOf, idle}
+use Rattle.scanlock.specs.declared.Axis.{Axis}
+use Rattle.scanlock.specs.declared.Turned.{Turned}
+use Rattle.scanlock.specs.declared.Locks.{Locks}
+use Rattle.scanlock.specs.declared.Answered.{Answered}
+use Rattle.scanlock.specs.declared.Event.{Event}
+use Rattle.scanlock.specs.declared.Event.the-variants.{View, Begin, End, Start, Abort, Finished, Stopped}
+
+abbrev pub locks : ℕ → ℕ → List Axis → Locks
+locks n view axes = record { n = n; view = view; axes = axes }
+
+abbrev pub answered : ℕ → Locks → Answered
+answered number st = record { number = number; index = 0; locks = st }
+
+-- ---- opening: n modules, a full view, no lock; 2 for an n that no backplane has
+
+unfoldable pub opened : ℕ → Locks
+opened n = locks n (full n) (replicate 8 free)
+
+unfoldable pub blank : Locks
+blank = locks 0 0 (replicate 8 free)
+
+unfoldable pub openOf : ℕ → Answered
+openOf n = cond (leb 2 n && leb n 16) (answered 0 (opened n)) (answered 2 blank)
+
+-- ---- the axis that an event names
+
+abbrev pub axisAt : Locks → ℕ → Axis
+axisAt st a = getD (st .axes) (a - 1) free
+
+abbrev pub withAxis : Locks → ℕ → Axis → Locks
+withAxis st a x = locks (st .n) (st .view) (set (st .axes) (a - 1) x)
+
+-- not 19: there is such an axis and such a module, and the module is in the view
+unfoldable pub admits : Locks → ℕ → ℕ → Bool
+admits st by a = onAxis a && leb by (st .n) && present (st .view) by
+
+-- ---- the answers
+
+-- a refused call changes nothing
+abbrev pub refusedOf : Locks → ℕ → Answered
+refusedOf st number = answered number st
+
+abbrev pub putOf : Locks → ℕ → Axis → Answered
+putOf st a x = answered 0 (withAxis st a x)
+
+-- 20 and 21 by the axis
+unfoldable pub settledOf : Locks → ℕ → Turned → Answered
+settledOf st a t = cond (eqb (t .number) 0) (putOf st a (t .axis)) (refusedOf st (t .number))
+
+-- a holder that leaves the view loses all its locks
+unfoldable pub seenAxes : ℕ → List Axis → List Axis
+seenAxes view axes = updated 8 (λ i. lostOf view (getD axes i free)) axes
+
+-- a view with a bit at N or above names a module out of range
+unfoldable pub setViewOf : Locks → ℕ → Answered
+setViewOf st view =
+    cond (ltb view (2 ^ st .n)) (answered 0 (locks (st .n) view (seenAxes view (st .axes)))) (refusedOf st 19)
+
+unfoldable pub beginOf : Locks → ℕ → ℕ → Answered
+beginOf st by a = cond (admits st by a) (settledOf st a (begunOf (axisAt st a) by)) (refusedOf st 19)
+
+unfoldable pub endOf : Locks → ℕ → ℕ → Answered
+endOf st by a = cond (admits st by a) (settledOf st a (endedOf (axisAt st a) by)) (refusedOf st 19)
+
+unfoldable pub startOf : Locks → ℕ → ℕ → Answered
+startOf st by a = cond (admits st by a) (settledOf st a (startedOf (axisAt st a) by)) (refusedOf st 19)
+
+-- abort: neither 20 nor 21
+unfoldable pub abortOf : Locks → ℕ → ℕ → Answered
+abortOf st by a = cond (admits st by a) (putOf st a (abortedOf (axisAt st a))) (refusedOf st 19)
+
+-- reports carry an axis only
+unfoldable pub finishedBy : Locks → ℕ → Answered
+finishedBy st a = cond (onAxis a) (putOf st a (finishedOf (axisAt st a))) (refusedOf st 19)
+
+unfoldable pub stoppedBy : Locks → ℕ → Answered
+stoppedBy st a = cond (onAxis a) (putOf st a (stoppedOf (axisAt st a))) (refusedOf st 19)
+
+unfoldable pub eventOf : Locks → Event → Answered
+eventOf st (View view) = setViewOf st view
+eventOf st (Begin by a) = beginOf st by a
+eventOf st (End by a) = endOf st by a
+eventOf st (Start by a) = startOf st by a
+eventOf st (Abort by a) = abortOf st by a
+eventOf st (Finished a) = finishedBy st a
+eventOf st (Stopped a) = stoppedBy st a
+
+-- ---- the joystick: no axis is held, none is stopping
+
+unfoldable pub joystickOf : Locks → Bool
+joystickOf st = all 8 (λ i. idle (getD (st .axes) i free))

@@ -1,0 +1,64 @@
+// The scan lock of a stage, above the presence service: which module holds which axis, which moves are unfinished, and whether
+// the joystick is live. (document 02, E2)
+//
+// It relies on one thing that the presence library states, the view after an accepted step (after_step.rt). A module is 1..N, an axis 1..8;
+// the entry of axis a stands at a - 1.
+pub mod after_step;
+pub mod calls;
+pub mod check;
+pub mod events;
+pub mod joystick;
+pub mod load;
+pub mod on_axis;
+pub mod opening;
+pub mod save;
+pub mod word;
+
+// What the scan lock is told: the view after a step; begin, end, start of a move and abort, by module and axis; the axis's reports
+// that its move is finished or that it has stopped.
+pub enum Event {
+    View(u32),
+    Begin(u32, u32),
+    End(u32, u32),
+    Start(u32, u32),
+    Abort(u32, u32),
+    Finished(u32),
+    Stopped(u32),
+}
+
+// One axis: the module that holds it (0 for none) and how deep, whether a move is unfinished, and whether it is stopping.
+pub struct Axis {
+    holder: u32,
+    depth: u32,
+    moving: bool,
+    stopping: bool,
+}
+
+// What an axis answers to a begin, an end or a start: 0 and the axis after it, or 20 or 21 and the axis as it was.
+pub struct Turned {
+    number: u32,
+    axis: Axis,
+}
+
+// All that is held from event to event: how many modules there are, the view handed last, and the axes.
+pub struct Locks {
+    n: u32,
+    view: u32,
+    axes: [Axis; 8],
+}
+
+// What an event, an opening or a reading answers: 0 or the number by which it is refused, an index (0 but for a wrong word of an
+// image), and the locks after it.
+pub struct Answered {
+    pub number: u32,
+    pub index: u32,
+    pub locks: Locks,
+}
+
+// What a call from C answers: joystick is 1 if the joystick is live after the call, and 0 where it is not or the locks could not be read.
+#[repr(C)]
+pub struct Answer {
+    pub number: u32,
+    pub index: u32,
+    pub joystick: u32,
+}
