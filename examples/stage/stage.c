@@ -6,7 +6,7 @@
  * bus and the stage: it carries the words, loses some of them on the way to
  * some cards, and hands every card the same requests.
  *
- * Build, with libpresence.a and libscanlock.a in the folder LIB:
+ * Build, with libgirmaut.a in the folder LIB:
  *   gcc -std=c99 -O2 -Iinclude examples/stage/stage.c -LLIB -lgirmaut -o stage
  *
  * Prints what happens; exit status 0 if no call was refused, all cards held

@@ -9,7 +9,7 @@ from common import ROOT
 
 CRATES = os.path.join(ROOT, "crates")
 # crates whose functions the table lists; nothing is built on bench
-LISTED = ("words", "setup", "rules", "image", "presence", "script", "text")
+LISTED = ("words", "setup", "rules", "image", "presence", "page", "script", "text", "backplane", "scanlock")
 
 
 def text(*path):
@@ -36,12 +36,24 @@ def public(crate):
                 yield f"{module}::{found[2]}", rf"\b{crate}::{module}::{found[2]}\b", bool(found[1])
 
 
+def users(crate):
+    """The sources of each crate that builds on this one."""
+    listed = re.findall(r"^(\w+):(.*)$", text(ROOT, "crates.txt"), re.M)
+    return ["".join(sources(name).values()) for name, below in listed if crate in below.split()]
+
+
+def calls(source, name, call):
+    """Whether a source calls the function; a method of the same name that it has itself is the one that it calls."""
+    method = name.split("::")[1]
+    own = re.search(rf"^    (pub )?fn {method}\(", source, re.M)
+    return re.search(call.split("|")[-1] if own else call, source)
+
+
 def called():
     """(crate, function) of every public function that another crate or C calls."""
     for crate in LISTED:
-        others = "".join("".join(sources(c).values()) for c in sorted(os.listdir(CRATES)) if c != crate)
         for name, call, exported in public(crate):
-            if exported or re.search(call, others):
+            if exported or any(calls(source, name, call) for source in users(crate)):
                 yield crate, name
 
 

@@ -6,12 +6,9 @@ use words::bits::bit_at;
 use words::bits::pick;
 use words::bits::with_bit;
 ghost use mathlib.Core.Path.{_≡_};
-ghost use mathlib.Core.Bool.{not, _&&_};
 ghost use Prim.Native.Nat.{_+_, _*_, _≤_, _<_};
-ghost use lib.Dec.{eqb};
 ghost use lib.ListN.{getD};
-ghost use Rattle.words.specs.Bits.{bit, pack};
-ghost use Rattle.words.specs.Count.{any};
+ghost use Rattle.words.specs.Bits.{pack};
 ghost use Rattle.backplane.specs.Heard.{heardWord, heardWords, firstFollower, otherwise};
 ghost use Rattle.backplane.specs.Limit.{hearingOf};
 

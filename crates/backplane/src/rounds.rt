@@ -11,7 +11,7 @@ use setup::part::part;
 use text::line::put_lines;
 use words::word::word_at;
 ghost use mathlib.Core.Path.{_≡_};
-ghost use Prim.Native.Nat.{_+_, _*_, _≤_, _<_};
+ghost use Prim.Native.Nat.{_+_, _≤_, _<_};
 ghost use lib.ListN.{length};
 ghost use Rattle.words.specs.Array.{array};
 ghost use Rattle.text.specs.Wrote.{Wrote};

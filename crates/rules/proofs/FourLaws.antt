@@ -1,7 +1,7 @@
 -- Votes taken four at a time: counts, voters and own syndrome from the next four on are those shifted down.
 use Prim.Native.Nat.{ℕ, zero, suc, _+_, _-_, _*_, _/_, _%_, _^_, _≤_, _<_}
 use mathlib.Core.Path.{_≡_, refl, sym, ap, ap₂, _∙_}
-use mathlib.Core.Bool.{Bool, true, false, cond, not, _&&_}
+use mathlib.Core.Bool.{Bool, true, false, not, _&&_}
 use mathlib.Core.List.{List, [], _∷_}
 use mathlib.Core.Logic.{⊎-elim}
 use native.Mathlib.Omega.{arith}
@@ -11,12 +11,11 @@ use lib.Dec.{eqb, ltb}
 use lib.Pow.{shr-shr, pow-pos, pow-add}
 use borrow.Author.Tests.{ltb-true, ltb-false}
 use Rattle.words.specs.Bits.{bit, b2n, pack}
-use Rattle.words.specs.Count.{count}
 use Rattle.words.proofs.Truth.{which, and-r}
 use Rattle.words.proofs.BitLaws.{pack-lt, pack-ext, pack-step, bit-mod, bit-high}
 use Rattle.words.proofs.CountLaws.{count-le, count-mono}
 use Rattle.rules.specs.Vote.{decision, healthOf}
-use Rattle.rules.specs.Lanes.{columnOf, votesBut, onesOn, decidedBy, Countable, tallyOf}
+use Rattle.rules.specs.Lanes.{columnOf, decidedBy, Countable, tallyOf}
 use Rattle.rules.specs.declared.vote.Tally.{Tally}
 use Rattle.rules.proofs.LaneLaws.{ones-fit, votes-fit, own-counted, health-by, ones-le, ones-by, present-by}
 

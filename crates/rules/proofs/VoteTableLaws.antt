@@ -1,5 +1,5 @@
 -- The vote table: its rule, for all entries together, and what an entry decides.
-use Prim.Native.Nat.{ℕ, _+_, _-_, _*_, _/_, _%_, _≤_, _<_}
+use Prim.Native.Nat.{ℕ, _+_, _-_, _*_, _/_, _%_, _≤_}
 use mathlib.Core.Path.{_≡_, refl, ap, ap₂, _∙_}
 use mathlib.Core.Bool.{Bool, true, false, cond, _&&_, _||_}
 use mathlib.Core.List.{List}
@@ -7,7 +7,6 @@ use native.Mathlib.Omega.{arith}
 use lib.ListN.{getD, length}
 use lib.Dec.{eqb, leb}
 use borrow.Author.Tests.{le-leb}
-use Rattle.words.specs.Table.{table}
 use Rattle.words.proofs.TableLaws.{table-length, table-at}
 use Rattle.rules.specs.Vote.{decision}
 use Rattle.rules.specs.VoteTable.{entryOf, voteTable}

@@ -1,5 +1,5 @@
 -- A refused script is named, an accepted one is played from its beginning.
-use mathlib.Core.Path.{_≡_, sym, ap, _∙_, subst}
+use mathlib.Core.Path.{sym, ap, _∙_, subst}
 use Prim.Native.Nat.{ℕ}
 use mathlib.Core.Logic.{_≢_}
 use borrow.Author.Needs.{needs}

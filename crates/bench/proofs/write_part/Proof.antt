@@ -1,5 +1,5 @@
 -- The first bytes of the buffer are written.
-use mathlib.Core.Path.{_≡_, sym}
+use mathlib.Core.Path.{sym}
 use lib.Seq.{length-take-le}
 use borrow.Author.Needs.{needs}
 use Rattle.bench.proofs.write_part.Statement.{statement}

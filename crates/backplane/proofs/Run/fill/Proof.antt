@@ -3,7 +3,6 @@ use Prim.Native.Nat.{ℕ, _+_, _-_, _*_, _≤_}
 use mathlib.Core.Path.{_≡_, refl, sym, ap, _∙_, subst}
 use mathlib.Core.List.{List}
 use native.Mathlib.Omega.{arith}
-use lib.ListN.{length}
 use Rattle.text.specs.Wrote.{Wrote}
 use Rattle.text.proofs.WroteLaws.{wrote-none, wrote-length}
 use Rattle.backplane.specs.Play.{Sound}

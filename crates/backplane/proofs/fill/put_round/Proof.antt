@@ -1,8 +1,6 @@
 -- Nothing is written where the script is over, else the lines of the round.
-use Prim.Native.Nat.{_+_, _≤_}
-use mathlib.Core.Path.{_≡_, sym, _∙_}
+use mathlib.Core.Path.{sym, _∙_}
 use native.Mathlib.Omega.{arith}
-use lib.ListN.{length}
 use borrow.Author.Needs.{needs}
 use Rattle.backplane.proofs.OutputLaws.{wrote-over, wrote-round}
 use Rattle.backplane.proofs.fill.put_round.Statement.{statement}

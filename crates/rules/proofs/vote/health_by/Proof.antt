@@ -1,11 +1,11 @@
 -- After q turns the vector holds the votes on the first 4q modules, by the counts in the lanes; those below n are the votes of the definition.
-use Prim.Native.Nat.{ℕ, _+_, _-_, _*_, _/_, _%_, _^_, _≤_, _<_}
+use Prim.Native.Nat.{ℕ, _+_, _-_, _*_, _/_, _%_, _^_, _<_}
 use mathlib.Core.Path.{_≡_, refl, ap, ap₂, _∙_}
 use native.Mathlib.Omega.{arith}
 use lib.Pow.{pow-pos}
 use Rattle.words.specs.Bits.{pack}
 use Rattle.words.proofs.BitLaws.{pack-lt}
-use Rattle.rules.specs.Lanes.{decidedBy, Countable}
+use Rattle.rules.specs.Lanes.{decidedBy}
 use Rattle.rules.proofs.FourLaws.{pack-add, countable, health-cut}
 use Rattle.rules.proofs.vote.health_by.Statement.{statement}
 use Rattle.rules.proofs.vote.health_by.Tie as tie
