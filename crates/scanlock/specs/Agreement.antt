@@ -4,10 +4,14 @@
 use Prim.Native.Nat.{ℕ, zero, suc, _≤_}
 use mathlib.Core.Path.{_≡_}
 use mathlib.Core.List.{List, _∷_, _++_}
+use Rattle.setup.specs.Setup.{setupOf}
+use Rattle.setup.specs.Check.{checkSetup}
+use Rattle.presence.specs.Image.{stateOf}
 use Rattle.presence.specs.declared.State.{State}
 use Rattle.agreement.specs.Session.{Session, Accepted, size, RuleFollower, Bound}
 use Rattle.agreement.specs.Life.{Life}
 use Rattle.agreement.specs.Demand.{KeptTo}
+use Rattle.agreement.specs.Images.{ImageLife}
 use Rattle.scanlock.specs.Locks.{joystickOf}
 use Rattle.scanlock.specs.ByHistory.{after}
 use Rattle.scanlock.specs.Images.{Held}
@@ -45,3 +49,22 @@ CardsAgree =
     (S : Session) → Accepted S → (last : ℕ) → Bound S last → (k : ℕ) → k ≤ last → KeptTo S k → (between : ℕ → List Event)
     → (i i′ : ℕ) → RuleFollower S i → RuleFollower S i′ → (card : Card S i last) (card′ : Card S i′ last)
     → Alike S last between i i′ card card′ k
+
+-- ---- the same of cards whose states are images, as C callers keep them
+
+pub record ImageCard (S : Session) (setup : List ℕ) (i last : ℕ) : Type 0 where
+  pub image : ℕ → List ℕ
+  pub health : ℕ → ℕ
+  pub lives : (k : ℕ) → k ≤ last → ImageLife S setup i k (image k) (health k)
+
+-- what the scan lock of such a card is handed: the views in its images
+abbrev pub toldOf : {S : Session} {setup : List ℕ} {i last : ℕ} → (ℕ → List Event) → ImageCard S setup i last → ℕ → List Event
+toldOf between card k = history between (λ j. stateOf (card .image j) .counters .view) k
+
+-- the scan locks that two such cards hold are equal byte for byte
+abbrev pub ImagesAgree : Type 0
+ImagesAgree =
+    (S : Session) (setup : List ℕ) → checkSetup setup .number ≡ 0 → S .setup ≡ setupOf setup → (last : ℕ) → Bound S last
+    → (k : ℕ) → k ≤ last → KeptTo S k → (between : ℕ → List Event) → (i i′ : ℕ) → RuleFollower S i → RuleFollower S i′
+    → (card : ImageCard S setup i last) (card′ : ImageCard S setup i′ last) (lock lock′ : List ℕ)
+    → Held (size S) (toldOf between card k) lock → Held (size S) (toldOf between card′ k) lock′ → lock ≡ lock′

@@ -54,6 +54,7 @@ fn check_axes(image: &[u8], view: u32) -> Answer
     plain(0, 0)
 }
 
+// The whole check.
 pub fn check_image(image: &[u8]) -> Answer
     ensures { λ r. ⌜ r ≡ checkImage (now (image .entry)) ⌝ }
 {

@@ -52,6 +52,7 @@ impl Locks {
         on_axis(axis) & (by <= self.n) & is_present(self.view, by)
     }
 
+    // The axis of this number.
     fn at(self, axis: u32) -> Axis
         requires { ⌜ (1 ≤ axis) × (axis ≤ 8) ⌝ }
         ensures { λ r. ⌜ r ≡ axisAt self axis ⌝ }

@@ -4,6 +4,7 @@ ghost use mathlib.Core.Path.{_≡_};
 ghost use Rattle.scanlock.specs.Locks.{joystickOf};
 
 impl Locks {
+    // Asks every axis.
     pub fn joystick(self) -> bool
         ensures { λ r. ⌜ r ≡ joystickOf self ⌝ }
     {

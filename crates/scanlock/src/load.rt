@@ -9,6 +9,7 @@ ghost use mathlib.Core.Path.{_≡_};
 ghost use lib.ListN.{length};
 ghost use Rattle.scanlock.specs.Image.{axesIn, locksOf, loadOf};
 
+// The eight axes of an image.
 fn axes_in(image: &[u8]) -> [Axis; 8]
     requires { ⌜ length (now image) ≡ 36 ⌝ }
     ensures { λ r. ⌜ r ≡ axesIn (now (image .entry)) ⌝ }

@@ -8,6 +8,7 @@ ghost use Rattle.scanlock.specs.Locks.{opened, blank, openOf};
 ghost use Prim.Native.Nat.{_≤_};
 
 impl Locks {
+    // Nothing told yet.
     fn fresh(n: u32) -> Locks
         requires { ⌜ n ≤ 16 ⌝ }
         ensures { λ r. ⌜ r ≡ opened n ⌝ }

@@ -25,6 +25,7 @@ impl Locks {
         x.word()
     }
 
+    // Writes all nine words.
     fn save_words(self, out: &mut [u8])
         requires { ⌜ length (now out) ≡ 36 ⌝ }
         ensures { λ _. ⌜ now (out .exit) ≡ imageOf self ⌝ }

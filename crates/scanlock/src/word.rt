@@ -6,12 +6,14 @@ use words::bits::flag;
 ghost use mathlib.Core.Path.{_≡_};
 ghost use Rattle.scanlock.specs.Image.{headWord, headOk, axisWord, axisIn, heldWell, fits, axisOk};
 
+// The head: N and the view.
 pub fn head_word(n: u32, view: u32) -> u32
     ensures { λ r. ⌜ r ≡ headWord n view ⌝ }
 {
     n % 65536 * 65536 + view % 65536
 }
 
+// Whether a word is a head: N is 2..16, and the view names no module above it.
 pub fn head_ok(w: u32) -> bool
     ensures { λ r. ⌜ r ≡ headOk w ⌝ }
 {
@@ -19,6 +21,7 @@ pub fn head_ok(w: u32) -> bool
     (2 <= n) & (n <= 16) & names(n, w % 65536)
 }
 
+// The axis of a word, whatever its other bits are.
 pub fn axis_in(w: u32) -> Axis
     ensures { λ r. ⌜ r ≡ axisIn w ⌝ }
 {
@@ -31,6 +34,7 @@ pub fn axis_in(w: u32) -> Axis
 }
 
 impl Axis {
+    // The word of an axis.
     pub fn word(self) -> u32
         ensures { λ r. ⌜ r ≡ axisWord self ⌝ }
     {
@@ -47,6 +51,7 @@ impl Axis {
         is_present(view, self.holder)
     }
 
+    // Whether a history can leave such an axis under this view.
     pub fn fits(self, view: u32) -> bool
         ensures { λ r. ⌜ r ≡ fits view self ⌝ }
     {
