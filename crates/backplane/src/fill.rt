@@ -24,7 +24,8 @@ impl Run {
     // Plays 64 rounds, or as many as are left, and writes their lines to the front of the output. (64 times 832 bytes is 53,248.)
     pub fn fill(self, s: &[u8], out: &mut [u8]) -> Filled
         requires { ⌜ Sound (self .backplane) × (53248 ≤ length (now out)) ⌝ }
-        ensures { λ r. ⌜ (r .run ≡ later (now (s .entry)) self 64) × Wrote (now (out .entry)) 0 (nextLines (now (s .entry)) self 64) (now (out .exit)) (r .end) ⌝ }
+        ensures { λ r. ⌜ (r .run ≡ later (now (s .entry)) self 64)
+            × Wrote (now (out .entry)) 0 (nextLines (now (s .entry)) self 64) (now (out .exit)) (r .end) ⌝ }
     {
         let mut run = self;
         let mut at: usize = 0;

@@ -40,7 +40,8 @@ fn write_rounds(run: Run, script: &[u8]) -> u32
 
 // Writes the line of a refusal, the only part that a refused script has.
 fn write_refusal(script: &[u8], number: u32, index: u32) -> u32
-    requires { ⌜ (checkScript (now script) .number ≢ 0) × (number ≡ checkScript (now script) .number) × (index ≡ checkScript (now script) .index) ⌝ }
+    requires { ⌜ (checkScript (now script) .number ≢ 0)
+        × (number ≡ checkScript (now script) .number) × (index ≡ checkScript (now script) .index) ⌝ }
     ensures { λ r. ⌜ r ≡ partsOf (now (script .entry)) ⌝ }
 {
     let mut out = [0u8; 33];

@@ -70,7 +70,8 @@ fn column(lane: u32, j: usize) -> u32
 
 // The vote on module j by the rows present and the ones among them. The row of j is not counted.
 fn vote_on(table: &[u8], present: u32, ones: u32, voters: u32, own: u32, j: usize) -> bool
-    requires { ⌜ (now table ≡ voteTable) × (j < 32) × (votesBut present voters j ≤ 15) × (ones ≤ votesBut present voters j) × (b2n (bit voters j) ≤ present) ⌝ }
+    requires { ⌜ (now table ≡ voteTable) × (j < 32) × (votesBut present voters j ≤ 15)
+        × (ones ≤ votesBut present voters j) × (b2n (bit voters j) ≤ present) ⌝ }
     ensures { λ r. ⌜ r ≡ decision (votesBut present voters j) ones (bit own j) ⌝ }
 {
     decide(
@@ -95,7 +96,8 @@ fn four_votes(table: &[u8], present: u32, lanes: [u32; 4], voters: u32, own: u32
 
 // The votes on the four modules from j = at on.
 fn four_from(table: &[u8], present: u32, lanes: [u32; 4], voters: u32, own: u32, at: usize) -> u32
-    requires { ⌜ (now table ≡ voteTable) × (at ≤ 12) × (at % 4 ≡ 0) × ((j : ℕ) → j < 4 → Countable present lanes voters (at + j)) ⌝ }
+    requires { ⌜ (now table ≡ voteTable) × (at ≤ 12) × (at % 4 ≡ 0)
+        × ((j : ℕ) → j < 4 → Countable present lanes voters (at + j)) ⌝ }
     ensures { λ r. ⌜ r ≡ pack 4 (λ j. decidedBy present lanes voters own (at + j)) ⌝ }
 {
     let next = [
