@@ -30,7 +30,7 @@
  * follow from its arguments alone.  The functions use no heap, no static
  * variables and no C library calls, and are re-entrant: calls for different
  * images may run at the same time, in interrupts too.
- * presence_step takes 2,016 bytes of stack at N = 16 on x86-64 (measured),
+ * presence_step takes 2,032 bytes of stack at N = 16 on x86-64 (measured),
  * presence_page_step 2,544.
  *
  *

@@ -27,7 +27,7 @@ entry-at votes ones hv ho =
 
 -- what an entry says, with the own syndrome's bit where nobody votes
 abbrev said : ℕ → Bool → Bool
-said entry own = eqb entry 49 || (eqb entry 63 && own)
+said entry own = cond (eqb entry 63) own (eqb entry 49)
 
 said-decision : (votes ones : ℕ) (own : Bool) → ones ≤ votes → said (entryOf votes ones) own ≡ decision votes ones own
 unfolding decision entryOf

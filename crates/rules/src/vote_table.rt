@@ -32,5 +32,8 @@ pub fn decide(table: &[u8], votes: u32, ones: u32, own: bool) -> bool
     ensures { λ r. ⌜ r ≡ decision votes ones own ⌝ }
 {
     let entry = table[(votes * 16 + ones) as usize];
-    (entry == b'1') | ((entry == b'?') & own)
+    if entry == b'?' {
+        return own;
+    }
+    entry == b'1'
 }
