@@ -3,12 +3,12 @@
 // This file has what a module holds and what its opening and its step answer. Entries and bits of module j + 1 stand at j;
 // those from n on are 0.
 pub mod calls;
-pub mod load;
-pub mod open;
-pub mod save;
-pub mod step;
-pub mod verdict;
-pub mod view;
+mod load;
+mod open;
+mod save;
+mod step;
+mod verdict;
+mod view;
 
 use rules::Counters;
 use rules::Reading;

@@ -15,7 +15,8 @@ use Rattle.words.proofs.Truth.{which, and-r}
 use Rattle.words.proofs.BitLaws.{pack-lt, pack-ext, pack-step, bit-mod, bit-high}
 use Rattle.words.proofs.CountLaws.{count-le, count-mono}
 use Rattle.rules.specs.Vote.{decision, healthOf}
-use Rattle.rules.specs.Lanes.{columnOf, decidedBy, Countable, tallyOf}
+use Rattle.rules.specs.VoteTable.{voteTable}
+use Rattle.rules.specs.Lanes.{columnOf, votesBut, decidedBy, Countable, tallyOf}
 use Rattle.rules.specs.declared.vote.Tally.{Tally}
 use Rattle.rules.proofs.LaneLaws.{ones-fit, votes-fit, own-counted, health-by, ones-le, ones-by, present-by}
 
@@ -87,6 +88,12 @@ module _ (lanes : List ℕ) (voters at j : ℕ) (e : at % 4 ≡ 0) (h : j < 4) w
   countable-shifted present c = rw (bit-shift voters at j, column-shifted) c
 
 -- ---- the first four
+
+-- what a vote on one of them asks
+pub asked : {table : List ℕ} {ones : ℕ} (present : ℕ) (lanes : List ℕ) (voters j : ℕ) → table ≡ voteTable → j < 4
+    → ((i : ℕ) → i < 4 → Countable present lanes voters i) → ones ≡ columnOf lanes j
+    → (table ≡ voteTable) × (j < 32) × (votesBut present voters j ≤ 15) × (ones ≤ votesBut present voters j) × (b2n (bit voters j) ≤ present)
+asked present lanes voters j t h k e = (t, omega arith, k j h .1, rw e (k j h .2), k j h .0)
 
 pub at-most-one : (b : Bool) → b2n b ≤ 1
 at-most-one true = omega arith

@@ -2,13 +2,13 @@
 //
 // This file has what the rules hand to one another. Entries and bits of module j + 1 stand at j; those from n on are 0.
 pub mod accounts;
-pub mod accuse;
+mod accuse;
 pub mod align;
 pub mod hearing;
 pub mod judge;
 pub mod lag;
-pub mod mask;
-pub mod vote;
+mod mask;
+mod vote;
 mod vote_table;
 
 // What became of one module's bus word: whether it is heard, and its row, 0 if it is not.

@@ -3,16 +3,16 @@
 //
 // It relies on one thing that the presence library states, the view after an accepted step (after_step.rt). A module is 1..N, an axis 1..8;
 // the entry of axis a stands at a - 1.
-pub mod after_step;
+mod after_step;
 pub mod calls;
-pub mod check;
-pub mod events;
-pub mod joystick;
-pub mod load;
-pub mod on_axis;
-pub mod opening;
-pub mod save;
-pub mod word;
+mod check;
+mod events;
+mod joystick;
+mod load;
+mod on_axis;
+mod opening;
+mod save;
+mod word;
 
 // What the scan lock is told: the view after a step; begin, end, start of a move and abort, by module and axis; the axis's reports
 // that its move is finished or that it has stopped.

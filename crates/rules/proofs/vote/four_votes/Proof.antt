@@ -7,7 +7,7 @@ use borrow.Author.Needs.{needs}
 use Rattle.words.specs.Bits.{bit}
 use Rattle.rules.specs.Vote.{decision}
 use Rattle.rules.specs.Lanes.{columnOf, votesBut, decidedBy}
-use Rattle.rules.proofs.FourLaws.{at-most-one, four-packed}
+use Rattle.rules.proofs.FourLaws.{asked, at-most-one, four-packed}
 use Rattle.rules.proofs.vote.four_votes.Statement.{statement}
 use Rattle.rules.proofs.vote.four_votes.Tie as tie
 
@@ -21,8 +21,7 @@ vote-on-requires : tie.Need-vote-on-requires
 unfolding columnOf
 vote-on-requires c κs =
     let s = c .before .before in
-    let k = s .pre .1 0 (omega arith) in
-    (s .pre .0, omega arith, k .1, rw (c .column .ensures) (k .2), k .0)
+    asked (s .args .present) (s .args .t3) (s .args .voters) 0 (s .pre .0) (omega arith) (s .pre .1) (c .column .ensures)
 
 array-read-column-2 : tie.Need-array-read-column-2
 array-read-column-2 c = search needs
@@ -34,8 +33,7 @@ vote-on-requires-2 : tie.Need-vote-on-requires-2
 unfolding columnOf
 vote-on-requires-2 c κs =
     let s = c .before .before .before .before in
-    let k = s .pre .1 1 (omega arith) in
-    (s .pre .0, omega arith, k .1, rw (c .column2 .ensures) (k .2), k .0)
+    asked (s .args .present) (s .args .t3) (s .args .voters) 1 (s .pre .0) (omega arith) (s .pre .1) (c .column2 .ensures)
 
 array-read-column-3 : tie.Need-array-read-column-3
 array-read-column-3 c = search needs
@@ -47,8 +45,7 @@ vote-on-requires-3 : tie.Need-vote-on-requires-3
 unfolding columnOf
 vote-on-requires-3 c κs =
     let s = c .before .before .before .before .before .before in
-    let k = s .pre .1 2 (omega arith) in
-    (s .pre .0, omega arith, k .1, rw (c .column3 .ensures) (k .2), k .0)
+    asked (s .args .present) (s .args .t3) (s .args .voters) 2 (s .pre .0) (omega arith) (s .pre .1) (c .column3 .ensures)
 
 array-read-column-4 : tie.Need-array-read-column-4
 array-read-column-4 c = search needs
@@ -60,8 +57,7 @@ vote-on-requires-4 : tie.Need-vote-on-requires-4
 unfolding columnOf
 vote-on-requires-4 c κs =
     let s = c .before .before .before .before .before .before .before .before in
-    let k = s .pre .1 3 (omega arith) in
-    (s .pre .0, omega arith, k .1, rw (c .column4 .ensures) (k .2), k .0)
+    asked (s .args .present) (s .args .t3) (s .args .voters) 3 (s .pre .0) (omega arith) (s .pre .1) (c .column4 .ensures)
 
 with-bit-requires : tie.Need-with-bit-requires
 with-bit-requires c κs = search needs
