@@ -33,20 +33,29 @@ penaltyOk p criticality present j w = eqb (w / 2 ^ 23) (13 * 2 ^ 5 + (j + 1)) &&
 unfoldable pub rewardOk : ℕ → ℕ → ℕ → ℕ → Bool
 rewardOk r penalty j w = eqb (w / 2 ^ 23) (14 * 2 ^ 5 + (j + 1)) && rewardFits r penalty (counterIn w)
 
--- numbers 7 and 8
+-- ---- the check, each part with what follows it
+
+-- penalties and rewards
+abbrev pub checkCounters : List ℕ → ℕ → ℕ → Verdict
+checkCounters s n view =
+    checkEach n
+    (λ j. penaltyOk (limitIn (wordAt s 1)) (criticalityIn (wordAt s (3 + j))) (bit view j) j (wordAt s (2 * n + 6 + j))) 8 (2 * n + 5)
+    (checkEach n (λ j. rewardOk (limitIn (wordAt s 2)) (counterIn (wordAt s (2 * n + 6 + j))) j (wordAt s (3 * n + 6 + j))) 8 (3 * n + 5)
+    accepted)
+
+-- the two syndromes
+abbrev pub checkSyndromes : List ℕ → ℕ → ℕ → Verdict
+checkSyndromes s n view =
+    check (syndromeOk n (wordAt s (2 * n + 4))) 8 (2 * n + 4)
+    (check (syndromeOk n (wordAt s (2 * n + 5))) 8 (2 * n + 5) (checkCounters s n view))
+
+-- numbers 7 and 8: own number and view, rows
 unfoldable pub checkTail : List ℕ → ℕ → Verdict
 checkTail s n =
     let own = wordAt s (n + 3) in
     check (ownNumberOk n own) 7 (n + 3)
     (check (ownOk n own) 8 (n + 3)
-    (checkEach n (λ j. rowOk n j (wordAt s (n + 4 + j))) 8 (n + 3)
-    (check (syndromeOk n (wordAt s (2 * n + 4))) 8 (2 * n + 4)
-    (check (syndromeOk n (wordAt s (2 * n + 5))) 8 (2 * n + 5)
-    (checkEach n
-    (λ j. penaltyOk (limitIn (wordAt s 1)) (criticalityIn (wordAt s (3 + j))) (bit (viewIn own) j) j (wordAt s (2 * n + 6 + j))) 8
-    (2 * n + 5)
-    (checkEach n (λ j. rewardOk (limitIn (wordAt s 2)) (counterIn (wordAt s (2 * n + 6 + j))) j (wordAt s (3 * n + 6 + j))) 8
-    (3 * n + 5) accepted))))))
+    (checkEach n (λ j. rowOk n j (wordAt s (n + 4 + j))) 8 (n + 3) (checkSyndromes s n (viewIn own))))
 
 -- numbers 1 to 8
 unfoldable pub checkImage : List ℕ → Verdict

@@ -19,10 +19,9 @@ ghost use lib.ListN.{length};
 ghost use Rattle.words.specs.Word.{wordAt};
 ghost use Rattle.words.specs.Bits.{bit};
 ghost use Rattle.words.specs.Count.{lowest};
-ghost use Rattle.setup.specs.Verdict.{accepted, check, checkEach};
-ghost use Rattle.setup.specs.Setup.{limitIn, criticalityIn};
+ghost use Rattle.setup.specs.Setup.{criticalityIn};
 ghost use Rattle.image.specs.Words.{counterIn, imageLength};
-ghost use Rattle.image.specs.Check.{rowOk, syndromeOk, penaltyOk, rewardOk, checkTail, checkImage};
+ghost use Rattle.image.specs.Check.{rowOk, penaltyOk, rewardOk, checkCounters, checkSyndromes, checkTail, checkImage};
 
 // The first module whose row word is wrong, or 0.
 fn wrong_row(s: &[u8], n: usize) -> usize
@@ -90,13 +89,7 @@ fn wrong_reward(s: &[u8], n: usize, limit: u32) -> usize
 // Number 8 in the penalties and the rewards.
 fn check_counters(s: &[u8], n: usize, view: u32) -> Verdict
     requires { ⌜ (n ≤ 16) × (length (now s) ≡ imageLength n) ⌝ }
-    ensures { λ r. ⌜ r
-        ≡ checkEach n
-        (λ j. penaltyOk (limitIn (wordAt (now (s .entry)) 1)) (criticalityIn (wordAt (now (s .entry)) (3 + j))) (bit view j) j
-        (wordAt (now (s .entry)) (2 * n + 6 + j))) 8 (2 * n + 5)
-        (checkEach n
-        (λ j. rewardOk (limitIn (wordAt (now (s .entry)) 2)) (counterIn (wordAt (now (s .entry)) (2 * n + 6 + j))) j
-        (wordAt (now (s .entry)) (3 * n + 6 + j))) 8 (3 * n + 5) accepted) ⌝ }
+    ensures { λ r. ⌜ r ≡ checkCounters (now (s .entry)) n view ⌝ }
 {
     let penalty = wrong_penalty(s, n, word_at(s, 1) % 268435456, view);
     if penalty != 0 {
@@ -110,17 +103,9 @@ fn check_counters(s: &[u8], n: usize, view: u32) -> Verdict
 }
 
 // Number 8 in the syndromes and what follows them.
-fn check_late(s: &[u8], n: usize, view: u32) -> Verdict
+fn check_syndromes(s: &[u8], n: usize, view: u32) -> Verdict
     requires { ⌜ (n ≤ 16) × (length (now s) ≡ imageLength n) ⌝ }
-    ensures { λ r. ⌜ r
-        ≡ check (syndromeOk n (wordAt (now (s .entry)) (2 * n + 4))) 8 (2 * n + 4)
-        (check (syndromeOk n (wordAt (now (s .entry)) (2 * n + 5))) 8 (2 * n + 5)
-        (checkEach n
-        (λ j. penaltyOk (limitIn (wordAt (now (s .entry)) 1)) (criticalityIn (wordAt (now (s .entry)) (3 + j))) (bit view j) j
-        (wordAt (now (s .entry)) (2 * n + 6 + j))) 8 (2 * n + 5)
-        (checkEach n
-        (λ j. rewardOk (limitIn (wordAt (now (s .entry)) 2)) (counterIn (wordAt (now (s .entry)) (2 * n + 6 + j))) j
-        (wordAt (now (s .entry)) (3 * n + 6 + j))) 8 (3 * n + 5) accepted))) ⌝ }
+    ensures { λ r. ⌜ r ≡ checkSyndromes (now (s .entry)) n view ⌝ }
 {
     if !syndrome_ok(n, word_at(s, 2 * n + 4)) {
         return answer(8, (2 * n + 4) as u32);
@@ -147,7 +132,7 @@ fn check_tail(s: &[u8], n: usize) -> Verdict
     if row != 0 {
         return answer(8, (n + 3 + row) as u32);
     }
-    check_late(s, n, own % 65536)
+    check_syndromes(s, n, own % 65536)
 }
 
 // Numbers 1 to 8.

@@ -20,14 +20,31 @@ use Rattle.presence.specs.declared.Opened.{Opened}
 
 -- ---- written and read
 
+-- penalties, then rewards
+abbrev pub countersPart : State → List ℕ
+countersPart st =
+    bytesOf (st .setup .n) (λ j. counterWord 13 j (getD (st .counters .penalty) j 0))
+    ++ bytesOf (st .setup .n) (λ j. counterWord 14 j (getD (st .counters .reward) j 0))
+
+-- the syndrome before the latest, and what follows it
+abbrev pub earlierPart : State → List ℕ
+earlierPart st = wordBytes (syndromeWord (st .earlier)) ++ countersPart st
+
+-- the latest syndrome, and what follows it
+abbrev pub latestPart : State → List ℕ
+latestPart st = wordBytes (syndromeWord (st .latest)) ++ earlierPart st
+
+-- the previous read, and what follows it
+abbrev pub previousPart : State → List ℕ
+previousPart st =
+    bytesOf (st .setup .n) (λ j. rowWord j (bit (st .previous .heard) j) (getD (st .previous .rows) j 0)) ++ latestPart st
+
+-- own number and view, and what follows them
+abbrev pub ownPart : State → List ℕ
+ownPart st = wordBytes (ownWord (st .own) (st .counters .view)) ++ previousPart st
+
 unfoldable pub imageOf : State → List ℕ
-imageOf st =
-    let n = st .setup .n in
-    setupBytes (st .setup) ++ (wordBytes (ownWord (st .own) (st .counters .view))
-    ++ (bytesOf n (λ j. rowWord j (bit (st .previous .heard) j) (getD (st .previous .rows) j 0))
-    ++ (wordBytes (syndromeWord (st .latest)) ++ (wordBytes (syndromeWord (st .earlier))
-    ++ (bytesOf n (λ j. counterWord 13 j (getD (st .counters .penalty) j 0))
-    ++ bytesOf n (λ j. counterWord 14 j (getD (st .counters .reward) j 0)))))))
+imageOf st = setupBytes (st .setup) ++ ownPart st
 
 unfoldable pub stateOf : List ℕ → State
 stateOf s =

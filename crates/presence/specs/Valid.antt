@@ -22,20 +22,26 @@ stateTidy st =
 
 -- ---- the order of an image: the setup, own number and view, rows, two syndromes, penalties, rewards
 
+-- penalties, rewards, and then the entries from N on
+abbrev pub checkCounters : State → Verdict
+checkCounters st =
+    let n = st .setup .n in
+    let c = st .counters in
+    checkEach n (λ j. penaltyFits (st .setup .p) (getD (st .setup .criticality) j 0) (bit (c .view) j) (getD (c .penalty) j 0)) 8 (2 * n + 5)
+    (checkEach n (λ j. rewardFits (st .setup .r) (getD (c .penalty) j 0) (getD (c .reward) j 0)) 8 (3 * n + 5)
+    (check (stateTidy st) 8 0 accepted))
+
+-- rows, the two syndromes, and what follows them
+abbrev pub checkRows : State → Verdict
+checkRows st =
+    let n = st .setup .n in
+    checkEach n (λ j. rowFits n (bit (st .previous .heard) j) (getD (st .previous .rows) j 0)) 8 (n + 3)
+    (check (ltb (st .latest) (2 ^ n)) 8 (2 * n + 4) (check (ltb (st .earlier) (2 ^ n)) 8 (2 * n + 5) (checkCounters st)))
+
 unfoldable pub checkState : State → Verdict
 checkState st =
     let n = st .setup .n in
-    let c = st .counters in
-    check (between 1 n (st .own)) 7 (n + 3)
-    (check (ltb (c .view) (2 ^ n)) 8 (n + 3)
-    (checkEach n (λ j. rowFits n (bit (st .previous .heard) j) (getD (st .previous .rows) j 0)) 8 (n + 3)
-    (check (ltb (st .latest) (2 ^ n)) 8 (2 * n + 4)
-    (check (ltb (st .earlier) (2 ^ n)) 8 (2 * n + 5)
-    (checkEach n
-    (λ j. penaltyFits (st .setup .p) (getD (st .setup .criticality) j 0) (bit (c .view) j) (getD (c .penalty) j 0)) 8
-    (2 * n + 5)
-    (checkEach n (λ j. rewardFits (st .setup .r) (getD (c .penalty) j 0) (getD (c .reward) j 0)) 8 (3 * n + 5)
-    (check (stateTidy st) 8 0 accepted)))))))
+    check (between 1 n (st .own)) 7 (n + 3) (check (ltb (st .counters .view) (2 ^ n)) 8 (n + 3) (checkRows st))
 
 unfoldable pub stateVerdict : State → Verdict
 stateVerdict st = checkFields (st .setup) (checkState st)

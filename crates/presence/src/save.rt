@@ -9,21 +9,16 @@ use setup::Verdict;
 use setup::check::answer;
 use setup::write::write_words;
 ghost use mathlib.Core.Path.{_≡_};
-ghost use mathlib.Core.List.{_++_};
 ghost use Prim.Native.Nat.{_+_, _*_};
-ghost use lib.ListN.{length, getD};
-ghost use Rattle.words.specs.Word.{wordBytes, bytesOf};
-ghost use Rattle.words.specs.Bits.{bit};
-ghost use Rattle.image.specs.Words.{ownWord, rowWord, syndromeWord, counterWord, imageLength};
+ghost use lib.ListN.{length};
+ghost use Rattle.image.specs.Words.{imageLength};
 ghost use Rattle.presence.specs.Valid.{Valid};
-ghost use Rattle.presence.specs.Image.{imageOf, saveVerdict, savedOut};
+ghost use Rattle.presence.specs.Image.{countersPart, earlierPart, latestPart, previousPart, ownPart, imageOf, saveVerdict, savedOut};
 
 // Writes the penalties and the rewards.
 fn save_counters(state: State, out: &mut [u8])
     requires { ⌜ Valid state × (length (now out) ≡ state .setup .n * 8) ⌝ }
-    ensures { λ _. ⌜ now (out .exit)
-        ≡ bytesOf (state .setup .n) (λ j. counterWord 13 j (getD (state .counters .penalty) j 0))
-        ++ bytesOf (state .setup .n) (λ j. counterWord 14 j (getD (state .counters .reward) j 0)) ⌝ }
+    ensures { λ _. ⌜ now (out .exit) ≡ countersPart state ⌝ }
 {
     let n = state.setup.n;
     let counters = state.counters;
@@ -37,10 +32,7 @@ fn save_counters(state: State, out: &mut [u8])
 // Writes the syndrome before the latest, and what follows it.
 fn save_earlier(state: State, out: &mut [u8])
     requires { ⌜ Valid state × (length (now out) ≡ 4 + state .setup .n * 8) ⌝ }
-    ensures { λ _. ⌜ now (out .exit)
-        ≡ wordBytes (syndromeWord (state .earlier))
-        ++ (bytesOf (state .setup .n) (λ j. counterWord 13 j (getD (state .counters .penalty) j 0))
-        ++ bytesOf (state .setup .n) (λ j. counterWord 14 j (getD (state .counters .reward) j 0))) ⌝ }
+    ensures { λ _. ⌜ now (out .exit) ≡ earlierPart state ⌝ }
 {
     let k: usize = 4;
     let w = syndrome_word(state.earlier);
@@ -51,10 +43,7 @@ fn save_earlier(state: State, out: &mut [u8])
 // Writes the latest syndrome, and what follows it.
 fn save_latest(state: State, out: &mut [u8])
     requires { ⌜ Valid state × (length (now out) ≡ 8 + state .setup .n * 8) ⌝ }
-    ensures { λ _. ⌜ now (out .exit)
-        ≡ wordBytes (syndromeWord (state .latest)) ++ (wordBytes (syndromeWord (state .earlier))
-        ++ (bytesOf (state .setup .n) (λ j. counterWord 13 j (getD (state .counters .penalty) j 0))
-        ++ bytesOf (state .setup .n) (λ j. counterWord 14 j (getD (state .counters .reward) j 0)))) ⌝ }
+    ensures { λ _. ⌜ now (out .exit) ≡ latestPart state ⌝ }
 {
     let k: usize = 4;
     let w = syndrome_word(state.latest);
@@ -65,11 +54,7 @@ fn save_latest(state: State, out: &mut [u8])
 // Writes the rows, and what follows them.
 fn save_previous(state: State, out: &mut [u8])
     requires { ⌜ Valid state × (length (now out) ≡ 8 + state .setup .n * 12) ⌝ }
-    ensures { λ _. ⌜ now (out .exit)
-        ≡ bytesOf (state .setup .n) (λ j. rowWord j (bit (state .previous .heard) j) (getD (state .previous .rows) j 0))
-        ++ (wordBytes (syndromeWord (state .latest)) ++ (wordBytes (syndromeWord (state .earlier))
-        ++ (bytesOf (state .setup .n) (λ j. counterWord 13 j (getD (state .counters .penalty) j 0))
-        ++ bytesOf (state .setup .n) (λ j. counterWord 14 j (getD (state .counters .reward) j 0))))) ⌝ }
+    ensures { λ _. ⌜ now (out .exit) ≡ previousPart state ⌝ }
 {
     let n = state.setup.n;
     let previous = state.previous;
@@ -82,12 +67,7 @@ fn save_previous(state: State, out: &mut [u8])
 // Writes the own number and the view, and what follows them.
 fn save_own(state: State, out: &mut [u8])
     requires { ⌜ Valid state × (length (now out) ≡ 12 + state .setup .n * 12) ⌝ }
-    ensures { λ _. ⌜ now (out .exit)
-        ≡ wordBytes (ownWord (state .own) (state .counters .view))
-        ++ (bytesOf (state .setup .n) (λ j. rowWord j (bit (state .previous .heard) j) (getD (state .previous .rows) j 0))
-        ++ (wordBytes (syndromeWord (state .latest)) ++ (wordBytes (syndromeWord (state .earlier))
-        ++ (bytesOf (state .setup .n) (λ j. counterWord 13 j (getD (state .counters .penalty) j 0))
-        ++ bytesOf (state .setup .n) (λ j. counterWord 14 j (getD (state .counters .reward) j 0)))))) ⌝ }
+    ensures { λ _. ⌜ now (out .exit) ≡ ownPart state ⌝ }
 {
     let k: usize = 4;
     let w = own_word(state.own, state.counters.view);

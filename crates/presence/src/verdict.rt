@@ -8,14 +8,9 @@ use setup::check::answer;
 use words::array::all_clear;
 use words::bits::power;
 ghost use mathlib.Core.Path.{_≡_};
-ghost use Prim.Native.Nat.{_+_, _*_, _^_, _≤_, _<_};
-ghost use lib.ListN.{getD};
-ghost use lib.Dec.{ltb};
-ghost use Rattle.words.specs.Bits.{bit};
-ghost use Rattle.setup.specs.Verdict.{accepted, check, checkEach};
+ghost use Prim.Native.Nat.{_≤_};
 ghost use Rattle.setup.specs.Check.{setupVerdict};
-ghost use Rattle.image.specs.Fits.{rowFits, penaltyFits, rewardFits};
-ghost use Rattle.presence.specs.Valid.{stateTidy, checkState, stateVerdict};
+ghost use Rattle.presence.specs.Valid.{stateTidy, checkCounters, checkRows, checkState, stateVerdict};
 
 // Whether nothing stands in the entries from n on.
 fn tidy(state: State) -> bool
@@ -34,13 +29,7 @@ fn tidy(state: State) -> bool
 // Number 8 in the counters, then in the entries from n on.
 fn counters_verdict(state: State) -> Verdict
     requires { ⌜ (state .setup .n ≤ 16) × (setupVerdict (state .setup) .number ≡ 0) ⌝ }
-    ensures { λ r. ⌜ r
-        ≡ checkEach (state .setup .n)
-        (λ j. penaltyFits (state .setup .p) (getD (state .setup .criticality) j 0) (bit (state .counters .view) j)
-        (getD (state .counters .penalty) j 0)) 8 (2 * state .setup .n + 5)
-        (checkEach (state .setup .n)
-        (λ j. rewardFits (state .setup .r) (getD (state .counters .penalty) j 0) (getD (state .counters .reward) j 0)) 8
-        (3 * state .setup .n + 5) (check (stateTidy state) 8 0 accepted)) ⌝ }
+    ensures { λ r. ⌜ r ≡ checkCounters state ⌝ }
 {
     let setup = state.setup;
     let n = setup.n;
@@ -65,17 +54,7 @@ fn counters_verdict(state: State) -> Verdict
 // Number 8 in the rows and what follows them.
 fn rows_verdict(state: State) -> Verdict
     requires { ⌜ (state .setup .n ≤ 16) × (setupVerdict (state .setup) .number ≡ 0) ⌝ }
-    ensures { λ r. ⌜ r
-        ≡ checkEach (state .setup .n)
-        (λ j. rowFits (state .setup .n) (bit (state .previous .heard) j) (getD (state .previous .rows) j 0)) 8 (state .setup .n + 3)
-        (check (ltb (state .latest) (2 ^ state .setup .n)) 8 (2 * state .setup .n + 4)
-        (check (ltb (state .earlier) (2 ^ state .setup .n)) 8 (2 * state .setup .n + 5)
-        (checkEach (state .setup .n)
-        (λ j. penaltyFits (state .setup .p) (getD (state .setup .criticality) j 0) (bit (state .counters .view) j)
-        (getD (state .counters .penalty) j 0)) 8 (2 * state .setup .n + 5)
-        (checkEach (state .setup .n)
-        (λ j. rewardFits (state .setup .r) (getD (state .counters .penalty) j 0) (getD (state .counters .reward) j 0)) 8
-        (3 * state .setup .n + 5) (check (stateTidy state) 8 0 accepted))))) ⌝ }
+    ensures { λ r. ⌜ r ≡ checkRows state ⌝ }
 {
     let n = state.setup.n;
     let previous = state.previous;

@@ -79,15 +79,18 @@ setupPart s = take (cond (isAccepted (checkFront s accepted)) (setupLength (size
 unfoldable pub setupTidy : Setup → Bool
 setupTidy s = ltb (s .marks) (2 ^ s .n) && clearFrom (s .n) (s .places) && clearFrom (s .n) (s .criticality)
 
+-- numbers 5 and 6
+abbrev pub checkModules : Setup → Verdict → Verdict
+checkModules s next =
+    checkEach (s .n) (λ j. moduleFits (s .n) (getD (s .places) j 0) (getD (s .criticality) j 0)) 5 2
+    (check (setupTidy s) 5 0
+    (checkEach (s .n) (λ j. markFits j (bit (s .marks) j) (getD (s .places) j 0)) 6 2 next))
+
 -- refused by the number and index that its words would get
 unfoldable pub checkFields : Setup → Verdict → Verdict
 checkFields s next =
     check (between 2 16 (s .n)) 2 0
-    (check (between 1 1000000 (s .p)) 4 1
-    (check (between 1 8000000 (s .r)) 4 2
-    (checkEach (s .n) (λ j. moduleFits (s .n) (getD (s .places) j 0) (getD (s .criticality) j 0)) 5 2
-    (check (setupTidy s) 5 0
-    (checkEach (s .n) (λ j. markFits j (bit (s .marks) j) (getD (s .places) j 0)) 6 2 next)))))
+    (check (between 1 1000000 (s .p)) 4 1 (check (between 1 8000000 (s .r)) 4 2 (checkModules s next)))
 
 unfoldable pub setupVerdict : Setup → Verdict
 setupVerdict s = checkFields s accepted

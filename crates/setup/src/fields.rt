@@ -13,8 +13,8 @@ ghost use Prim.Native.Nat.{_≤_};
 ghost use lib.ListN.{getD};
 ghost use Rattle.words.specs.Bits.{bit};
 ghost use Rattle.words.specs.Count.{lowest};
-ghost use Rattle.setup.specs.Verdict.{accepted, check, checkEach};
-ghost use Rattle.setup.specs.Check.{moduleFits, markFits, setupTidy, setupVerdict};
+ghost use Rattle.setup.specs.Verdict.{accepted};
+ghost use Rattle.setup.specs.Check.{moduleFits, markFits, setupTidy, checkModules, setupVerdict};
 
 // The first module with a field out of range, or 0.
 fn wrong_fields(n: usize, places: [u32; 16], criticality: [u32; 16]) -> usize
@@ -63,10 +63,7 @@ fn tidy(setup: Setup) -> bool
 // Numbers 5 and 6.
 fn module_verdict(setup: Setup) -> Verdict
     requires { ⌜ setup .n ≤ 16 ⌝ }
-    ensures { λ r. ⌜ r
-        ≡ checkEach (setup .n) (λ j. moduleFits (setup .n) (getD (setup .places) j 0) (getD (setup .criticality) j 0)) 5 2
-        (check (setupTidy setup) 5 0
-        (checkEach (setup .n) (λ j. markFits j (bit (setup .marks) j) (getD (setup .places) j 0)) 6 2 accepted)) ⌝ }
+    ensures { λ r. ⌜ r ≡ checkModules setup accepted ⌝ }
 {
     let places = setup.places;
     let criticality = setup.criticality;

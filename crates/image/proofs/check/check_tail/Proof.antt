@@ -84,8 +84,8 @@ returns-3 c =
     (check-goes _ _ _ _ h (k .if2 .left)
     (each-stops _ _ _ _ _ (c .before .before .wrong-row .ensures) (c .before .if3 .taken) (c .answer3 .ensures)))
 
-check-late-requires : tie.Need-check-late-requires
-check-late-requires c κs = search needs
+check-syndromes-requires : tie.Need-check-syndromes-requires
+check-syndromes-requires c κs = search needs
 
 returns-4 : tie.Need-returns-4
 unfolding checkTail
@@ -97,7 +97,7 @@ returns-4 c =
     let h = k .before .own-ok .ensures ∙ ap (ownOk _) w in
     check-goes _ _ _ _ e (g .if1 .left)
     (check-goes _ _ _ _ h (k .if2 .left)
-    (each-goes _ _ _ _ _ (c .before .before .wrong-row .ensures) (c .before .if3 .left) (rw w at (c .check-late .ensures))))
+    (each-goes _ _ _ _ _ (c .before .before .wrong-row .ensures) (c .before .if3 .left) (rw w at (c .check-syndromes .ensures))))
 
 pub check-tail-spec : {M : Type 1} → statement M
 check-tail-spec =
@@ -121,5 +121,5 @@ check-tail-spec =
     cast-answer-3
     answer-requires-3
     returns-3
-    check-late-requires
+    check-syndromes-requires
     returns-4)

@@ -3,8 +3,8 @@ use mathlib.Core.Path.{ap, _∙_}
 use Rattle.setup.proofs.NextLaws.{check-goes, check-stops}
 use Rattle.image.specs.Check.{syndromeOk}
 use borrow.Author.Needs.{needs}
-use Rattle.image.proofs.check.check_late.Statement.{statement}
-use Rattle.image.proofs.check.check_late.Tie as tie
+use Rattle.image.proofs.check.check_syndromes.Statement.{statement}
+use Rattle.image.proofs.check.check_syndromes.Tie as tie
 
 mul-word-at : tie.Need-mul-word-at
 mul-word-at c = search needs
@@ -78,8 +78,8 @@ returns-3 c =
     check-goes _ _ _ _ e (g .if1 .left)
     (check-goes _ _ _ _ h (c .before .if2 .left) (c .check-counters .ensures))
 
-pub check-late-spec : {M : Type 1} → statement M
-check-late-spec =
+pub check-syndromes-spec : {M : Type 1} → statement M
+check-syndromes-spec =
     tie.close
     (tie.spec
     mul-word-at
