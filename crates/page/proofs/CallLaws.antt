@@ -1,15 +1,13 @@
--- What a call with a page leaves, by what the same call without one has answered; the view in an image.
+-- The view in an image, and what an output of no bytes is good for.
 use mathlib.Core.Path.{_≡_, ap, _∙_, sym}
-use mathlib.Core.Bool.{Bool, true, false, cond, not, _&&_}
+use mathlib.Core.Bool.{false}
 use mathlib.Core.List.{List, [], _++_}
 use Prim.Native.Nat.{ℕ, _+_}
 use native.Mathlib.Omega.{arith}
 use lib.ListN.{length, getD}
-use lib.Dec.{eqb}
-use borrow.Author.Tests.{eq-eqb, ne-eqb}
+use borrow.Author.Tests.{ne-eqb}
 use Rattle.words.specs.Word.{wordAt}
 use Rattle.words.specs.Bits.{bit}
-use Rattle.words.proofs.Truth.{cond-true, cond-false, and-false-l, and-false-r, and-true}
 use Rattle.words.proofs.RunLaws.{word-first}
 use Rattle.setup.specs.Setup.{headWord, sizeIn, setupBytes}
 use Rattle.image.specs.Words.{ownWord, viewIn, rowWord, syndromeWord, counterWord, imageLength}
@@ -21,35 +19,7 @@ use Rattle.presence.specs.Calls.{Called, called, refusedCall}
 use Rattle.presence.specs.declared.Answer.{Answer}
 use Rattle.presence.specs.declared.State.{State}
 use Rattle.presence.proofs.SmallLaws.{valid-small}
-use Rattle.page.specs.Page.{isPage}
-use Rattle.page.specs.Calls.{pageCalled, withPage}
-
--- ---- a call with a page
-
-module _ (passed : Bool) (c : Called) (out page next : List ℕ) where
-  -- the page is of the right length, or the call was refused before 9
-  goes : passed && not (isPage page) ≡ false → pageCalled c (cond (eqb (c .answer .number) 0) next page) ≡ withPage passed c out page next
-  unfolding withPage
-  goes f = sym (cond-false _ _ f)
-
-  lent : length page ≡ 64 → passed && not (isPage page) ≡ false
-  lent l = and-false-r passed (not (isPage page)) (ap not (eq-eqb (length page) 64 l))
-
-  pub with-accepted : length page ≡ 64 → c .answer .number ≡ 0 → pageCalled c next ≡ withPage passed c out page next
-  with-accepted l z = ap (pageCalled c) (sym (cond-true next page (eq-eqb (c .answer .number) 0 z))) ∙ goes (lent l)
-
-  stays : passed && not (isPage page) ≡ false → (c .answer .number ≡ 0 → ⊥) → pageCalled c page ≡ withPage passed c out page next
-  stays f z = ap (pageCalled c) (sym (cond-false next page (ne-eqb (c .answer .number) 0 z))) ∙ goes f
-
-  pub with-refused : length page ≡ 64 → (c .answer .number ≡ 0 → ⊥) → pageCalled c page ≡ withPage passed c out page next
-  with-refused l z = stays (lent l) z
-
-  pub with-before : passed ≡ false → (c .answer .number ≡ 0 → ⊥) → pageCalled c page ≡ withPage passed c out page next
-  with-before f z = stays (and-false-l passed (not (isPage page)) f) z
-
-  pub with-nine : passed ≡ true → (length page ≡ 64 → ⊥) → pageCalled (refusedCall 9 0 out) page ≡ withPage passed c out page next
-  unfolding withPage
-  with-nine t f = sym (cond-true _ _ (and-true passed (not (isPage page)) t (ap not (ne-eqb (length page) 64 f))))
+use Rattle.page.specs.Calls.{pageCalled}
 
 -- a refusal of a call with an output of no bytes is one of the call with the output that was lent
 pub moved : (out page : List ℕ) (number index : ℕ) {r : Answer} {l : List ℕ} → called r l ≡ refusedCall number index []

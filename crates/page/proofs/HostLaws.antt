@@ -1,18 +1,19 @@
 -- What the host's calls answer, by their tests.
-use mathlib.Core.Path.{_≡_, refl, ap, _∙_, sym}
+use mathlib.Core.Path.{_≡_, refl, ap, _∙_, sym, subst}
+use mathlib.Core.Logic.{⊎-elim}
 use mathlib.Core.Bool.{Bool, true, false, not, _&&_, _||_}
 use mathlib.Core.List.{List}
 use Prim.Native.Nat.{ℕ, _+_, _*_, _/_, _%_, _≤_}
 use native.Mathlib.Omega.{arith}
 use lib.ListN.{length}
 use lib.Dec.{eqb, ltb}
-use borrow.Author.Tests.{eq-eqb, ne-eqb, ltb-true, not-true, not-false}
+use borrow.Author.Tests.{eq-eqb, ne-eqb, eqb-true, ltb-true, not-true, not-false}
 use Rattle.words.specs.Word.{wordAt}
 use Rattle.words.specs.Bits.{b2n}
-use Rattle.words.proofs.Truth.{clash, cond-true, cond-false, and-r}
-use Rattle.page.specs.Page.{startsWord, pageWritten, interruptOn}
-use Rattle.page.specs.Host.{tell, readCall, written, wrote, writeCall, interruptCall}
-use Rattle.page.specs.declared.PageWord.{PageWord}
+use Rattle.words.proofs.Truth.{which, clash, cond-true, cond-false, cond-both, and-r}
+use Rattle.page.specs.Page.{isPage, startsWord, pageWritten, interruptOn}
+use Rattle.page.specs.Host.{tell, readCall, Written, written, wrote, writeCall, interruptCall}
+use Rattle.presence.specs.declared.WordAnswer.{WordAnswer}
 
 -- neither of two, or one of them
 neither : (a b : Bool) → not a && not b ≡ true → a || b ≡ false
@@ -27,14 +28,14 @@ one-of false false f = clash true refl f
 
 -- ---- a page of another length
 
-module _ (page : List ℕ) (f : length page ≡ 64 → ⊥) {r : PageWord} (s : r ≡ tell 9 0) where
+module _ (page : List ℕ) (f : length page ≡ 64 → ⊥) {r : WordAnswer} (s : r ≡ tell 9 0) where
   pub read-short : (offset : ℕ) → r ≡ readCall page offset
   unfolding readCall
   read-short offset = s ∙ sym (cond-false _ _ (ne-eqb (length page) 64 f))
 
   pub write-short : (offset value : ℕ) → written r page ≡ writeCall page offset value
   unfolding writeCall
-  write-short offset value = ap (λ (x : PageWord). written x page) s ∙ sym (cond-false _ _ (ne-eqb (length page) 64 f))
+  write-short offset value = ap (λ (x : WordAnswer). written x page) s ∙ sym (cond-false _ _ (ne-eqb (length page) 64 f))
 
   pub interrupt-short : r ≡ interruptCall page
   unfolding interruptCall
@@ -43,13 +44,13 @@ module _ (page : List ℕ) (f : length page ≡ 64 → ⊥) {r : PageWord} (s : 
 -- ---- a page of 64 bytes
 
 module _ (page : List ℕ) (l : length page ≡ 64) where
-  pub interrupt-told : {i : Bool} {w : ℕ} {r : PageWord} → i ≡ interruptOn page → w ≡ b2n i → r ≡ tell 0 w → r ≡ interruptCall page
+  pub interrupt-told : {i : Bool} {w : ℕ} {r : WordAnswer} → i ≡ interruptOn page → w ≡ b2n i → r ≡ tell 0 w → r ≡ interruptCall page
   unfolding interruptCall
   interrupt-told h k s = s ∙ ap (tell 0) (k ∙ ap b2n h) ∙ sym (cond-true _ _ (eq-eqb (length page) 64 l))
 
   -- b is whether the offset starts a word
   module _ (offset : ℕ) {b : Bool} (e : b ≡ startsWord offset) where
-    module _ (t : not b ≡ true) {r : PageWord} (s : r ≡ tell 17 0) where
+    module _ (t : not b ≡ true) {r : WordAnswer} (s : r ≡ tell 17 0) where
       pub read-off : r ≡ readCall page offset
       unfolding readCall
       read-off = s ∙ sym (cond-true _ _ (eq-eqb (length page) 64 l) ∙ cond-false _ _ (sym e ∙ not-true b t))
@@ -57,7 +58,7 @@ module _ (page : List ℕ) (l : length page ≡ 64) where
       pub write-off : (value : ℕ) → written r page ≡ writeCall page offset value
       unfolding writeCall
       write-off value =
-          ap (λ (x : PageWord). written x page) s ∙ sym (cond-true _ _ (eq-eqb (length page) 64 l) ∙ cond-false _ _ (sym e ∙ not-true b t))
+          ap (λ (x : WordAnswer). written x page) s ∙ sym (cond-true _ _ (eq-eqb (length page) 64 l) ∙ cond-false _ _ (sym e ∙ not-true b t))
 
     module _ (t : not b ≡ false) where
       starts : startsWord offset ≡ true
@@ -69,22 +70,35 @@ module _ (page : List ℕ) (l : length page ≡ 64) where
           let h = ltb-true offset 64 (and-r (eqb (offset % 4) 0) (ltb offset 64) starts) in
           omega arith
 
-      pub read-told : {w : ℕ} {r : PageWord} → w ≡ wordAt page (offset / 4) → r ≡ tell 0 w → r ≡ readCall page offset
+      pub read-told : {w : ℕ} {r : WordAnswer} → w ≡ wordAt page (offset / 4) → r ≡ tell 0 w → r ≡ readCall page offset
       unfolding readCall
       read-told h s = s ∙ ap (tell 0) h ∙ sym (cond-true _ _ (eq-eqb (length page) 64 l) ∙ cond-true _ _ starts)
 
       module _ (value : ℕ) where
-        pub write-outside : {r : PageWord} → r ≡ tell 18 0 → not (eqb offset 8) && not (eqb offset 12) ≡ true → written r page ≡ writeCall page offset value
+        pub write-outside : {r : WordAnswer} → r ≡ tell 18 0 → not (eqb offset 8) && not (eqb offset 12) ≡ true → written r page ≡ writeCall page offset value
         unfolding writeCall
         write-outside s o =
-            ap (λ (x : PageWord). written x page) s
+            ap (λ (x : WordAnswer). written x page) s
             ∙ sym (cond-true _ _ (eq-eqb (length page) 64 l) ∙ cond-true _ _ starts ∙ cond-false _ _ (neither (eqb offset 8) (eqb offset 12) o))
 
         -- p is the page after the write, i the interrupt in it, and w tells it
-        pub write-done : {p : List ℕ} {i : Bool} {w : ℕ} {r : PageWord} → not (eqb offset 8) && not (eqb offset 12) ≡ false
+        pub write-done : {p : List ℕ} {i : Bool} {w : ℕ} {r : WordAnswer} → not (eqb offset 8) && not (eqb offset 12) ≡ false
             → p ≡ pageWritten offset value page → i ≡ interruptOn p → w ≡ b2n i → r ≡ tell 0 w → written r p ≡ writeCall page offset value
         unfolding writeCall wrote
         write-done {p} o g h k s =
-            ap (λ (x : PageWord). written x p) (s ∙ ap (tell 0) (k ∙ ap b2n h))
+            ap (λ (x : WordAnswer). written x p) (s ∙ ap (tell 0) (k ∙ ap b2n h))
             ∙ ap (λ (x : List ℕ). written (tell 0 (b2n (interruptOn x))) x) g
             ∙ sym (cond-true _ _ (eq-eqb (length page) 64 l) ∙ cond-true _ _ starts ∙ cond-true _ _ (one-of (eqb offset 8) (eqb offset 12) o))
+
+-- ---- what becomes of a page by a write: it stays, or it is of 64 bytes and is written
+
+pub write-either : (page : List ℕ) (offset value : ℕ) (P : List ℕ → Type 0) → P page → (length page ≡ 64 → P (pageWritten offset value page))
+    → P (writeCall page offset value .page)
+unfolding writeCall wrote
+write-either page offset value P p q =
+    ⊎-elim
+    (λ (t : isPage page ≡ true).
+    subst (λ (w : Written). P (w .page)) (sym (cond-true _ _ t))
+    (cond-both (λ (w : Written). P (w .page)) (startsWord offset) _ _
+    (cond-both (λ (w : Written). P (w .page)) (eqb offset 8 || eqb offset 12) _ _ (q (eqb-true (length page) 64 t)) p) p))
+    (λ (f : isPage page ≡ false). subst (λ (w : Written). P (w .page)) (sym (cond-false _ _ f)) p) (which (isPage page))

@@ -3,9 +3,9 @@ pub mod RaisedLaws
 pub mod PageLaws
 pub mod PageWords
 pub mod HostLaws
+pub mod WithPageLaws
 pub mod CallLaws
 pub mod OpenLaws
 pub mod StepLaws
-pub mod EitherLaws
 pub mod ChargeLaws
 pub mod Promise

@@ -26,7 +26,8 @@ use Rattle.presence.proofs.StepLaws.{open-valid}
 use Rattle.presence.proofs.CallAnswers.{open-writes, open-passed}
 use Rattle.page.specs.Page.{pageOpened}
 use Rattle.page.specs.Calls.{pageCalled, pageOpenCall}
-use Rattle.page.proofs.CallLaws.{with-accepted, with-refused, with-before, with-nine, moved, refused-by, no-room, image-view, image-length}
+use Rattle.page.proofs.WithPageLaws.{with-accepted, with-refused, with-before, with-nine}
+use Rattle.page.proofs.CallLaws.{moved, refused-by, no-room, image-view, image-length}
 
 module _ (setup : List ℕ) (own : ℕ) where
   abbrev opened : Opened

@@ -20,22 +20,23 @@ use Rattle.presence.specs.Valid.{Valid}
 use Rattle.presence.specs.Opening.{openOf}
 use Rattle.presence.specs.Step.{stepOf}
 use Rattle.presence.specs.Image.{imageOf, stateOf}
-use Rattle.presence.specs.Calls.{openCall, stepCall}
+use Rattle.presence.specs.Calls.{openCall, stepCall, saveCall}
 use Rattle.presence.specs.declared.State.{State}
 use Rattle.presence.specs.declared.Stepped.{Stepped}
 use Rattle.presence.proofs.ValidLaws.{valid-fits}
 use Rattle.presence.proofs.StepLaws.{step-valid, open-valid}
 use Rattle.presence.proofs.ImageLaws.{load-valid}
-use Rattle.presence.proofs.CallAnswers.{open-writes, open-passed, step-writes, step-passed}
+use Rattle.presence.proofs.CallAnswers.{open-writes, open-passed, step-writes, step-passed, save-writes, save-passed}
 use Rattle.page.specs.Flags.{cleared}
 use Rattle.page.specs.Page.{isPage, pageOpened, somebodyCharged, raised, pageStepped, pageWritten, interruptOn}
 use Rattle.page.specs.Host.{writeCall}
 use Rattle.page.specs.Calls.{PageCalled, pageCalled, pageOpenCall, pageStepCall}
-use Rattle.page.specs.Promise.{Paged, opens, steps, refused-step, writes, Unnamed, here, stepped, written, Promise}
+use Rattle.page.specs.Promise.{Paged, opens, steps, saves, refused-opening, refused-step, writes, Unnamed, here, stepped, not-opened, written, Promise}
 use Rattle.page.proofs.CallLaws.{image-view, image-size}
 use Rattle.page.proofs.RaisedLaws.{raised-kept, raised-changed, raised-charged, cleared-kept, turns-on}
 use Rattle.page.proofs.PageWords.{opened-1, written-1, word-0, word-1, word-2, word-3}
-use Rattle.page.proofs.EitherLaws.{lent, goes-on, with-zero, with-either, with-kept, write-either}
+use Rattle.page.proofs.HostLaws.{write-either}
+use Rattle.page.proofs.WithPageLaws.{lent, goes-on, with-zero, with-either, with-kept}
 use Rattle.page.proofs.ChargeLaws.{charged-grows}
 
 -- the view of a state is read back from its image
@@ -112,22 +113,19 @@ module _ (image read : List ℕ) (controller : ℕ) (out : List ℕ) where
     enabled : (j : ℕ) → j < 32 → bit (wordAt (after .page) 2) j ≡ true → bit (wordAt page 3) j ≡ true → interruptOn (after .page) ≡ true
     enabled j h t u = turns-on (after .page) j h t (ap (λ (x : ℕ). bit x j) enable-stays ∙ u)
 
-    change-on : wordAt page 1 ≢ stateOf (after .call .out) .counters .view → bit (wordAt page 3) 0 ≡ true → interruptOn (after .page) ≡ true
-    change-on f u =
+    change-set : wordAt page 1 ≢ stateOf (after .call .out) .counters .view → bit (wordAt (after .page) 2) 0 ≡ true
+    change-set f =
         let t : not (eqb (wordAt page 1) (s .state .counters .view)) ≡ true = ap not (ne-eqb _ _ (λ e. f (e ∙ sym view-is))) in
         let c = somebodyCharged (st .setup .n) (st .counters .view) (s .health) in
-        enabled 0 (omega arith)
-        (ap (λ (x : ℕ). bit x 0) flags-are ∙ ap (λ (b : Bool). bit (raised (wordAt page 2) b c) 0) t ∙ raised-changed (wordAt page 2) c) u
+        ap (λ (x : ℕ). bit x 0) flags-are ∙ ap (λ (b : Bool). bit (raised (wordAt page 2) b c) 0) t ∙ raised-changed (wordAt page 2) c
 
-    charge-on : somebodyCharged (st .setup .n) (st .counters .view) (after .call .answer .health) ≡ true → bit (wordAt page 3) 1 ≡ true
-        → interruptOn (after .page) ≡ true
-    charge-on c u =
+    charge-set : somebodyCharged (st .setup .n) (st .counters .view) (after .call .answer .health) ≡ true → bit (wordAt (after .page) 2) 1 ≡ true
+    charge-set c =
         let t : somebodyCharged (st .setup .n) (st .counters .view) (s .health) ≡ true =
         ap (somebodyCharged (st .setup .n) (st .counters .view)) (sym health-is) ∙ c
         in
-        enabled 1 (omega arith)
-        (ap (λ (x : ℕ). bit x 1) flags-are ∙ ap (λ (b : Bool). bit (raised (wordAt page 2) (not (eqb (wordAt page 1) (s .state .counters .view))) b) 1) t
-        ∙ raised-charged (wordAt page 2) _) u
+        ap (λ (x : ℕ). bit x 1) flags-are ∙ ap (λ (b : Bool). bit (raised (wordAt page 2) (not (eqb (wordAt page 1) (s .state .counters .view))) b) 1) t
+        ∙ raised-charged (wordAt page 2) _
 
 -- ---- a page shows its module's view
 
@@ -158,10 +156,23 @@ module _ (setup : List ℕ) (own : ℕ) (out page : List ℕ) (z : pageOpenCall 
       ∙ ap (λ (x : List ℕ). stateOf x .counters .view) (open-writes setup own out (opens-zero .1))
       ∙ view-read fresh (open-valid (setupOf setup) own (open-passed setup own out (opens-zero .1) .1)))
 
+-- a refused opening leaves the page
+opening-kept : (setup : List ℕ) (own : ℕ) (out page : List ℕ) → pageOpenCall setup own out page .call .answer .number ≢ 0
+    → pageOpenCall setup own out page .page ≡ page
+unfolding pageOpenCall
+opening-kept setup own out page f =
+    let fresh = openOf (setupOf setup) own .state in
+    with-kept _ (openCall setup own out) out page (pageOpened (fresh .setup .n) (fresh .counters .view)) f
+
 shows : (image page : List ℕ) → Paged image page → wordAt page 1 ≡ stateOf image .counters .view
 unfolding pageStepCall
 shows _ _ (opens setup own out page z) = opened-view setup own out page z
 shows _ _ (steps {image} {page} p read controller out z) = view-word image read controller out page z
+shows _ page (saves {image} p out z) =
+    shows image page p
+    ∙ sym (ap (λ (x : List ℕ). stateOf x .counters .view) (save-writes image out z) ∙ view-read (stateOf image) (load-valid image (save-passed image out z)))
+shows image _ (refused-opening {page = page} p setup own out f) =
+    ap (λ (x : List ℕ). wordAt x 1) (opening-kept setup own out page f) ∙ shows image page p
 shows image _ (refused-step {page = page} p other read controller out f) =
     ap (λ (x : List ℕ). wordAt x 1) (with-kept _ (stepCall other read controller out) out page (next other read controller out page) f) ∙ shows image page p
 shows image _ (writes {page = page} p offset value) =
@@ -197,6 +208,7 @@ module _ (j : ℕ) (h : j < 32) where
   pub stays-set : (page now : List ℕ) → Unnamed j page now → Set page → Set now
   stays-set page _ here t = t
   stays-set page _ (stepped {now} u image read controller out) t = step-kept image read controller out now (stays-set page now u t)
+  stays-set page _ (not-opened {now} u setup own out f) t = subst Set (sym (opening-kept setup own out now f)) (stays-set page now u t)
   stays-set page _ (written {now} u offset value f) t = write-kept now offset value f (stays-set page now u t)
 
 pub promise : Promise
@@ -207,7 +219,10 @@ promise = record {
   view = view-word;
   shown = shows;
   grew = λ image health z. charged-grows (stateOf image .setup) (stateOf image .counters) health (valid-fits (stateOf image) (load-valid image z) .setup);
+  change-flag = change-set;
+  charge-flag = charge-set;
   kept = λ j page now h u t. stays-set j h page now u t;
-  changed = change-on;
-  charged = charge-on;
+  stays-on = λ j page now h u t e. turns-on now j h (stays-set j h page now u t) e;
+  changed = λ image read controller out page z f. enabled image read controller out page z 0 (omega arith) (change-set image read controller out page z f);
+  charged = λ image read controller out page z c. enabled image read controller out page z 1 (omega arith) (charge-set image read controller out page z c);
 }

@@ -27,7 +27,8 @@ use Rattle.presence.proofs.ImageLaws.{load-valid}
 use Rattle.presence.proofs.CallAnswers.{step-writes, step-passed}
 use Rattle.page.specs.Page.{pageStepped}
 use Rattle.page.specs.Calls.{pageCalled, pageStepCall}
-use Rattle.page.proofs.CallLaws.{with-accepted, with-refused, with-before, with-nine, moved, refused-by, no-room, image-view, image-length}
+use Rattle.page.proofs.WithPageLaws.{with-accepted, with-refused, with-before, with-nine}
+use Rattle.page.proofs.CallLaws.{moved, refused-by, no-room, image-view, image-length}
 
 module _ (image read : List ℕ) (controller : ℕ) where
   bad-image : (out : List ℕ) → isAccepted (checkImage image) ≡ false

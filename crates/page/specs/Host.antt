@@ -6,22 +6,22 @@ use lib.Dec.{eqb}
 use Rattle.words.specs.Word.{wordAt}
 use Rattle.words.specs.Bits.{b2n}
 use Rattle.page.specs.Page.{isPage, startsWord, pageWritten, interruptOn}
-use Rattle.page.specs.declared.PageWord.{PageWord}
+use Rattle.presence.specs.declared.WordAnswer.{WordAnswer}
 
-abbrev pub tell : ℕ → ℕ → PageWord
+abbrev pub tell : ℕ → ℕ → WordAnswer
 tell number word = record { number = number; index = 0; word = word }
 
 -- 9, 17
-unfoldable pub readCall : List ℕ → ℕ → PageWord
+unfoldable pub readCall : List ℕ → ℕ → WordAnswer
 readCall page offset =
     cond (isPage page) (cond (startsWord offset) (tell 0 (wordAt page (offset / 4))) (tell 17 0)) (tell 9 0)
 
 -- the answer and the page at exit
 pub record Written : Type 0 where
-  pub answer : PageWord
+  pub answer : WordAnswer
   pub page : List ℕ
 
-abbrev pub written : PageWord → List ℕ → Written
+abbrev pub written : WordAnswer → List ℕ → Written
 written a page = record { answer = a; page = page }
 
 -- an accepted write tells the interrupt after it
@@ -38,5 +38,5 @@ writeCall page offset value =
     (written (tell 9 0) page)
 
 -- 9
-unfoldable pub interruptCall : List ℕ → PageWord
+unfoldable pub interruptCall : List ℕ → WordAnswer
 interruptCall page = cond (isPage page) (tell 0 (b2n (interruptOn page))) (tell 9 0)

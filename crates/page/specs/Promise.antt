@@ -12,28 +12,34 @@ use Rattle.words.specs.Count.{any}
 use Rattle.rules.specs.Account.{countersOf}
 use Rattle.image.specs.Check.{checkImage}
 use Rattle.presence.specs.Image.{stateOf}
-use Rattle.presence.specs.Calls.{openCall, stepCall}
+use Rattle.presence.specs.Calls.{openCall, stepCall, saveCall}
 use Rattle.page.specs.Page.{somebodyCharged, interruptOn}
 use Rattle.page.specs.Host.{writeCall}
 use Rattle.page.specs.Calls.{pageOpenCall, pageStepCall}
 
--- A module's image and its page: opened together, stepped together; refused steps that were lent the page, and writes of the host, lie between.
+-- A module's image and its page: opened together, stepped together. Between lie saving and taking back the image, refused calls that were
+-- lent the page, and writes of the host.
 pub data Paged : List ℕ → List ℕ → Type 0 where
   opens : (setup : List ℕ) (own : ℕ) (out page : List ℕ) → pageOpenCall setup own out page .call .answer .number ≡ 0
       → Paged (pageOpenCall setup own out page .call .out) (pageOpenCall setup own out page .page)
   steps : {image page : List ℕ} → Paged image page → (read : List ℕ) (controller : ℕ) (out : List ℕ)
       → pageStepCall image read controller out page .call .answer .number ≡ 0
       → Paged (pageStepCall image read controller out page .call .out) (pageStepCall image read controller out page .page)
+  saves : {image page : List ℕ} → Paged image page → (out : List ℕ) → saveCall image out .answer .number ≡ 0 → Paged (saveCall image out .out) page
+  refused-opening : {image page : List ℕ} → Paged image page → (setup : List ℕ) (own : ℕ) (out : List ℕ)
+      → pageOpenCall setup own out page .call .answer .number ≢ 0 → Paged image (pageOpenCall setup own out page .page)
   refused-step : {image page : List ℕ} → Paged image page → (other read : List ℕ) (controller : ℕ) (out : List ℕ)
       → pageStepCall other read controller out page .call .answer .number ≢ 0 → Paged image (pageStepCall other read controller out page .page)
   writes : {image page : List ℕ} → Paged image page → (offset value : ℕ) → Paged image (writeCall page offset value .page)
 
--- What becomes of a page by steps, accepted or refused, and by writes of the host, accepted or refused, none of which names flag j:
--- a write names it where it is one of word 2, at offset 8, with bit j set. (Reading changes nothing.)
+-- What becomes of a page that is not opened anew, by steps, refused openings and writes of the host, accepted or refused, none of which names
+-- flag j: a write names it where it is one of word 2, at offset 8, with bit j set. (Reading changes nothing.)
 pub data Unnamed (j : ℕ) (page : List ℕ) : List ℕ → Type 0 where
   here : Unnamed j page page
   stepped : {now : List ℕ} → Unnamed j page now → (image read : List ℕ) (controller : ℕ) (out : List ℕ)
       → Unnamed j page (pageStepCall image read controller out now .page)
+  not-opened : {now : List ℕ} → Unnamed j page now → (setup : List ℕ) (own : ℕ) (out : List ℕ)
+      → pageOpenCall setup own out now .call .answer .number ≢ 0 → Unnamed j page (pageOpenCall setup own out now .page)
   written : {now : List ℕ} → Unnamed j page now → (offset value : ℕ) → eqb offset 8 && bit value j ≡ false
       → Unnamed j page (writeCall now offset value .page)
 
@@ -55,9 +61,19 @@ pub record Promise : Type 0 where
       → somebodyCharged (stateOf image .setup .n) (stateOf image .counters .view) health
       ≡ any (stateOf image .setup .n)
       (λ j. ltb (getD (stateOf image .counters .penalty) j 0) (getD (countersOf (stateOf image .setup) health (stateOf image .counters) .penalty) j 0))
-  -- A flag that is set is lost only by a write that names it.
+  -- A step sets flag 0 where the view differs from word 1, and flag 1 where somebody was charged, whatever is enabled.
+  pub change-flag : (image read : List ℕ) (controller : ℕ) (out page : List ℕ) → pageStepCall image read controller out page .call .answer .number ≡ 0
+      → wordAt page 1 ≢ stateOf (pageStepCall image read controller out page .call .out) .counters .view
+      → bit (wordAt (pageStepCall image read controller out page .page) 2) 0 ≡ true
+  pub charge-flag : (image read : List ℕ) (controller : ℕ) (out page : List ℕ) → pageStepCall image read controller out page .call .answer .number ≡ 0
+      → somebodyCharged (stateOf image .setup .n) (stateOf image .counters .view) (pageStepCall image read controller out page .call .answer .health) ≡ true
+      → bit (wordAt (pageStepCall image read controller out page .page) 2) 1 ≡ true
+  -- A flag that is set is lost only by a write that names it, or with the whole page when it is opened anew.
   pub kept : (j : ℕ) (page now : List ℕ) → j < 32 → Unnamed j page now → bit (wordAt page 2) j ≡ true → bit (wordAt now 2) j ≡ true
-  -- No interrupt is lost: a view that changes, or a charge, turns it on where its flag is enabled.
+  -- No interrupt is lost: while a flag is set, the interrupt is on whenever the flag is enabled, be it enabled before or later.
+  pub stays-on : (j : ℕ) (page now : List ℕ) → j < 32 → Unnamed j page now → bit (wordAt page 2) j ≡ true → bit (wordAt now 3) j ≡ true
+      → interruptOn now ≡ true
+  -- So a view that changes, or a charge, turns it on at once where its flag is enabled: a step leaves enable as it is.
   pub changed : (image read : List ℕ) (controller : ℕ) (out page : List ℕ) → pageStepCall image read controller out page .call .answer .number ≡ 0
       → wordAt page 1 ≢ stateOf (pageStepCall image read controller out page .call .out) .counters .view → bit (wordAt page 3) 0 ≡ true
       → interruptOn (pageStepCall image read controller out page .page) ≡ true

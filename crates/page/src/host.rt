@@ -1,7 +1,8 @@
 // The calls of the host on a page: it reads any word, writes the flags and enable, and asks for the interrupt. A refused call writes nothing.
-use crate::PageWord;
+// The answer's word is one of the page, or the interrupt as 1 or 0.
 use crate::registers::interrupt_on;
 use crate::registers::write_page;
+use presence::WordAnswer;
 use words::bits::flag;
 use words::word::word_at;
 ghost use mathlib.Core.Path.{_≡_};
@@ -9,10 +10,10 @@ ghost use Rattle.page.specs.Page.{startsWord};
 ghost use Rattle.page.specs.Host.{tell, written, readCall, writeCall, interruptCall};
 
 // A refusal.
-fn refuse(number: u32) -> PageWord
+fn refuse(number: u32) -> WordAnswer
     ensures { λ r. ⌜ r ≡ tell number 0 ⌝ }
 {
-    PageWord {
+    WordAnswer {
         number,
         index: 0,
         word: 0,
@@ -20,10 +21,10 @@ fn refuse(number: u32) -> PageWord
 }
 
 // An accepted call's word.
-fn told(word: u32) -> PageWord
+fn told(word: u32) -> WordAnswer
     ensures { λ r. ⌜ r ≡ tell 0 word ⌝ }
 {
-    PageWord {
+    WordAnswer {
         number: 0,
         index: 0,
         word,
@@ -39,7 +40,7 @@ fn starts_word(offset: u32) -> bool
 
 // The word at a byte offset: 9, 17.
 #[no_mangle]
-pub extern "C" fn presence_page_read(page: &[u8], offset: u32) -> PageWord
+pub extern "C" fn presence_page_read(page: &[u8], offset: u32) -> WordAnswer
     ensures { λ r. ⌜ r ≡ readCall (now (page .entry)) offset ⌝ }
 {
     if page.len() != 64 {
@@ -53,7 +54,7 @@ pub extern "C" fn presence_page_read(page: &[u8], offset: u32) -> PageWord
 
 // Writes a word, and tells the interrupt after it: 9, 17, 18.
 #[no_mangle]
-pub extern "C" fn presence_page_write(page: &mut [u8], offset: u32, value: u32) -> PageWord
+pub extern "C" fn presence_page_write(page: &mut [u8], offset: u32, value: u32) -> WordAnswer
     ensures { λ r. ⌜ written r (now (page .exit)) ≡ writeCall (now (page .entry)) offset value ⌝ }
 {
     if page.len() != 64 {
@@ -71,7 +72,7 @@ pub extern "C" fn presence_page_write(page: &mut [u8], offset: u32, value: u32) 
 
 // Whether the interrupt is on: 9.
 #[no_mangle]
-pub extern "C" fn presence_page_interrupt(page: &[u8]) -> PageWord
+pub extern "C" fn presence_page_interrupt(page: &[u8]) -> WordAnswer
     ensures { λ r. ⌜ r ≡ interruptCall (now (page .entry)) ⌝ }
 {
     if page.len() != 64 {

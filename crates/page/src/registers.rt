@@ -1,4 +1,4 @@
-// The words of a page, as an opening and a step write them.
+// The words of a page, as an opening, a step and the host write them, and the interrupt.
 use crate::flags::cleared;
 use crate::flags::joined;
 use crate::flags::shared;

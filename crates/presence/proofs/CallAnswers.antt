@@ -138,6 +138,12 @@ module _ (image out : List ℕ) where
   unfolding saveCall step
   save-writes z = step-wrote (checkImage image) 0 0 0 (stateOf image) out (isAccepted (checkImage image)) true (roomFor (stateOf image) out) refl refl z .0
 
+  pub save-passed : saveCall image out .answer .number ≡ 0 → checkImage image .number ≡ 0
+  unfolding saveCall step
+  save-passed z =
+      eqb-true (checkImage image .number) 0
+      (step-tests (checkImage image) 0 0 0 (stateOf image) out (isAccepted (checkImage image)) true (roomFor (stateOf image) out) refl refl z .0)
+
   pub save-keeps : saveCall image out .answer .number ≢ 0 → saveCall image out .out ≡ out
   unfolding saveCall step
   save-keeps f = step-kept (checkImage image) 0 0 0 (stateOf image) out (isAccepted (checkImage image)) true (roomFor (stateOf image) out) f

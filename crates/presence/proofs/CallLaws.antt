@@ -31,7 +31,7 @@ use Rattle.presence.specs.Image.{imageOf, stateOf, roomFor}
 use Rattle.presence.specs.Calls.{answer, called, refusedCall, wrote, openCall, stepCall, saveCall, handedOut, outgoingCall}
 use Rattle.presence.specs.declared.State.{State}
 use Rattle.presence.specs.declared.Answer.{Answer}
-use Rattle.presence.specs.declared.Outgoing.{Outgoing}
+use Rattle.presence.specs.declared.WordAnswer.{WordAnswer}
 use Rattle.presence.specs.declared.Opened.{Opened}
 use Rattle.presence.specs.declared.Stepped.{Stepped}
 use Rattle.presence.proofs.StepLaws.{step-accepted, step-valid, open-valid}
@@ -122,17 +122,17 @@ module _ (s : List ℕ) (f : ImageFits s) {n wo own : ℕ} (en : n ≡ sizeIn (w
 
 module _ (image : List ℕ) {v : Verdict} (e : v ≡ checkImage image) where
   out-by : {a : Verdict} {w : ℕ} → a ≡ checkImage image → w ≡ cond (isAccepted a) (handedOut (stateOf image)) 0
-      → _≡_ {A = Outgoing} (record { number = a .number; index = a .index; word = w }) (outgoingCall image)
+      → _≡_ {A = WordAnswer} (record { number = a .number; index = a .index; word = w }) (outgoingCall image)
   unfolding outgoingCall
   out-by {a} {w} h g =
       ap₂ (λ (x : Verdict) (y : ℕ). record { number = x .number; index = x .index; word = y }) h
       (g ∙ ap (λ (x : Verdict). cond (isAccepted x) (handedOut (stateOf image)) 0) h)
 
-  pub outgoing-refused : (v .number ≡ 0 → ⊥) → _≡_ {A = Outgoing} (record { number = v .number; index = v .index; word = 0 }) (outgoingCall image)
+  pub outgoing-refused : (v .number ≡ 0 → ⊥) → _≡_ {A = WordAnswer} (record { number = v .number; index = v .index; word = 0 }) (outgoingCall image)
   outgoing-refused f = out-by {a = v} e (sym (cond-false _ _ (ne-eqb (v .number) 0 f)))
 
   pub outgoing-made : {w : ℕ} → v .number ≡ 0 → w ≡ handedOut (stateOf image)
-      → _≡_ {A = Outgoing} (record { number = 0; index = 0; word = w }) (outgoingCall image)
+      → _≡_ {A = WordAnswer} (record { number = 0; index = 0; word = w }) (outgoingCall image)
   outgoing-made z h = out-by {a = accepted} (sym (image-zero image (ap (λ (x : Verdict). x .number) (sym e) ∙ z))) h
 
 -- ---- the setup that was read

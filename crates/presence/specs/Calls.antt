@@ -12,7 +12,7 @@ use Rattle.presence.specs.Opening.{openOf}
 use Rattle.presence.specs.Step.{markOf, stepOf}
 use Rattle.presence.specs.Image.{imageOf, stateOf, roomFor}
 use Rattle.presence.specs.declared.Answer.{Answer}
-use Rattle.presence.specs.declared.Outgoing.{Outgoing}
+use Rattle.presence.specs.declared.WordAnswer.{WordAnswer}
 use Rattle.presence.specs.declared.State.{State}
 
 -- the answer and the output at exit
@@ -71,7 +71,7 @@ unfoldable pub handedOut : State → ℕ
 handedOut st = busWord (cond (markOf st) (st .earlier) (st .latest))
 
 -- the outgoing word of an image: 1 to 8
-unfoldable pub outgoingCall : List ℕ → Outgoing
+unfoldable pub outgoingCall : List ℕ → WordAnswer
 outgoingCall image =
     let v = checkImage image in
     record { number = v .number; index = v .index; word = cond (isAccepted v) (handedOut (stateOf image)) 0 }

@@ -1,7 +1,7 @@
 // The calls from C: a state is its saved image, read from one slice and written to the output. A refused call writes nothing.
 use crate::Answer;
-use crate::Outgoing;
 use crate::State;
+use crate::WordAnswer;
 use crate::load::load;
 use crate::save::save_words;
 use image::check::check_image;
@@ -135,18 +135,18 @@ fn word_in(image: &[u8]) -> u32
 
 // The word to put on the bus, from an image: 1 to 8.
 #[no_mangle]
-pub extern "C" fn presence_outgoing(image: &[u8]) -> Outgoing
+pub extern "C" fn presence_outgoing(image: &[u8]) -> WordAnswer
     ensures { λ r. ⌜ r ≡ outgoingCall (now (image .entry)) ⌝ }
 {
     let v = check_image(image);
     if v.number != 0 {
-        return Outgoing {
+        return WordAnswer {
             number: v.number,
             index: v.index,
             word: 0,
         };
     }
-    Outgoing {
+    WordAnswer {
         number: 0,
         index: 0,
         word: word_in(image),

@@ -49,9 +49,9 @@ pub struct Answer {
     pub health: u32,
 }
 
-// What a C caller gets when it asks for the word to put on the bus; the word is 0 where the state is refused.
+// What a call from C answers that asks for a word; the word is 0 where the call is refused.
 #[repr(C)]
-pub struct Outgoing {
+pub struct WordAnswer {
     pub number: u32,
     pub index: u32,
     pub word: u32,

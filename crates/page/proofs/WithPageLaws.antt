@@ -1,32 +1,50 @@
--- What becomes of a page: it stays, or it is of 64 bytes and is written.
+-- What a call with a page leaves, by what the same call without one has answered.
 use mathlib.Core.Path.{_≡_, ap, _∙_, sym, subst}
 use mathlib.Core.Logic.{_≢_, ⊎-elim}
-use mathlib.Core.Bool.{Bool, true, false, cond, not, _&&_, _||_}
+use mathlib.Core.Bool.{Bool, true, false, cond, not, _&&_}
 use mathlib.Core.List.{List}
 use Prim.Native.Nat.{ℕ}
 use native.Mathlib.Omega.{arith}
 use lib.ListN.{length}
 use lib.Dec.{eqb}
-use borrow.Author.Tests.{ne-eqb, eqb-true}
-use Rattle.words.proofs.Truth.{which, clash, cond-true, cond-false, cond-both, and-true}
+use borrow.Author.Tests.{eq-eqb, ne-eqb, eqb-true}
+use Rattle.words.proofs.Truth.{which, clash, cond-true, cond-false, and-false-l, and-false-r, and-true}
 use Rattle.presence.specs.Calls.{Called, refusedCall}
-use Rattle.page.specs.Page.{isPage, startsWord, pageWritten}
-use Rattle.page.specs.Host.{Written, wrote, writeCall}
+use Rattle.page.specs.Page.{isPage}
 use Rattle.page.specs.Calls.{PageCalled, pageCalled, withPage}
 
--- ---- a call of the module with a page
-
 module _ (passed : Bool) (c : Called) (out page next : List ℕ) where
-  abbrev stops : Bool
+  -- a page of another length is seen once what goes before 9 has passed
+  abbrev pub stops : Bool
   stops = passed && not (isPage page)
 
   pub goes-on : stops ≡ false → withPage passed c out page next ≡ pageCalled c (cond (eqb (c .answer .number) 0) next page)
   unfolding withPage
   goes-on f = cond-false _ _ f
 
-  stopped : stops ≡ true → withPage passed c out page next ≡ pageCalled (refusedCall 9 0 out) page
+  pub stopped : stops ≡ true → withPage passed c out page next ≡ pageCalled (refusedCall 9 0 out) page
   unfolding withPage
   stopped t = cond-true _ _ t
+
+  fits : length page ≡ 64 → stops ≡ false
+  fits l = and-false-r passed (not (isPage page)) (ap not (eq-eqb (length page) 64 l))
+
+  pub with-accepted : length page ≡ 64 → c .answer .number ≡ 0 → pageCalled c next ≡ withPage passed c out page next
+  with-accepted l z = ap (pageCalled c) (sym (cond-true next page (eq-eqb (c .answer .number) 0 z))) ∙ sym (goes-on (fits l))
+
+  stays : stops ≡ false → (c .answer .number ≡ 0 → ⊥) → pageCalled c page ≡ withPage passed c out page next
+  stays f z = ap (pageCalled c) (sym (cond-false next page (ne-eqb (c .answer .number) 0 z))) ∙ sym (goes-on f)
+
+  pub with-refused : length page ≡ 64 → (c .answer .number ≡ 0 → ⊥) → pageCalled c page ≡ withPage passed c out page next
+  with-refused l z = stays (fits l) z
+
+  pub with-before : passed ≡ false → (c .answer .number ≡ 0 → ⊥) → pageCalled c page ≡ withPage passed c out page next
+  with-before f z = stays (and-false-l passed (not (isPage page)) f) z
+
+  pub with-nine : passed ≡ true → (length page ≡ 64 → ⊥) → pageCalled (refusedCall 9 0 out) page ≡ withPage passed c out page next
+  with-nine t f = sym (stopped (and-true passed (not (isPage page)) t (ap not (ne-eqb (length page) 64 f))))
+
+  -- ---- the same, from what the call with a page has answered
 
   pub lent : passed ≡ true → stops ≡ false → length page ≡ 64
   lent t f =
@@ -63,17 +81,3 @@ module _ (passed : Bool) (c : Called) (out page next : List ℕ) where
       (λ (f : stops ≡ false).
       ap (λ (x : PageCalled). x .page) (goes-on f)
       ∙ cond-false next page (ne-eqb (c .answer .number) 0 (λ e. z (ap (λ (x : PageCalled). x .call .answer .number) (goes-on f) ∙ e)))) (which stops)
-
--- ---- a write of the host
-
--- the page stays, or it is of 64 bytes and is written
-pub write-either : (page : List ℕ) (offset value : ℕ) (P : List ℕ → Type 0) → P page → (length page ≡ 64 → P (pageWritten offset value page))
-    → P (writeCall page offset value .page)
-unfolding writeCall wrote
-write-either page offset value P p q =
-    ⊎-elim
-    (λ (t : isPage page ≡ true).
-    subst (λ (w : Written). P (w .page)) (sym (cond-true _ _ t))
-    (cond-both (λ (w : Written). P (w .page)) (startsWord offset) _ _
-    (cond-both (λ (w : Written). P (w .page)) (eqb offset 8 || eqb offset 12) _ _ (q (eqb-true (length page) 64 t)) p) p))
-    (λ (f : isPage page ≡ false). subst (λ (w : Written). P (w .page)) (sym (cond-false _ _ f)) p) (which (isPage page))
