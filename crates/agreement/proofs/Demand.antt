@@ -11,7 +11,7 @@ use Rattle.presence.specs.declared.State.{State}
 use Rattle.agreement.specs.Session.{Session, Accepted, size, u, RuleFollower, Bound, state}
 use Rattle.agreement.specs.Demand.{KeptTo, Served, Agreement, Demand3}
 use Rattle.agreement.proofs.Agreement.{complete, correct}
-use Rattle.agreement.proofs.Steps.{opened, life, life-accepted}
+use Rattle.agreement.proofs.Steps.{opened, life, life-accepted, life-view}
 use Rattle.agreement.proofs.Meets.{protocol, follower, rule-follower, meets, health-eq}
 use Rattle.agreement.proofs.Ledger.{kept-step, all-agree, any-account, counters-are, fresh-counters, rule-8}
 
@@ -19,6 +19,7 @@ served : (S : Session) → Accepted S → (i : ℕ) → i < size S → Served S 
 served S ok i hi = record {
   opened = ap (λ (o : Opened). o .number) (opened S ok i hi);
   stepped = life-accepted S ok i hi;
+  view = life-view S ok i hi;
   by-rules = life S ok i hi;
 }
 

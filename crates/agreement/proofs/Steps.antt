@@ -109,3 +109,9 @@ module _ (S : Session) (ok : Accepted S) where
     unfolding acceptedStep
     life-accepted k h st l =
         ap (λ (s : State). answer S i (suc k) s .number) (life k h st l .0) ∙ ap (λ (t : Stepped). t .number) (step-is k)
+
+    pub life-view : (k h : ℕ) (st : State) → Life S i k st h → st .counters .view < 2 ^ size S
+    life-view k h st l =
+        let e : state S i k .setup .n ≡ size S = ap (λ (s : Setup). s .n) (held k .setup) in
+        subst (λ (s : State). s .counters .view < 2 ^ size S) (sym (life k h st l .0))
+        (subst (λ (n : ℕ). state S i k .counters .view < 2 ^ n) e (held k .fits .view))

@@ -1,6 +1,6 @@
 -- Demand 3: what a session promises while the fault limit is kept. (document 01, "A session")
 -- Proved in proofs/Demand.antt; docs/THEOREM.md sets each line beside the sentence of document 01 that it is.
-use Prim.Native.Nat.{ℕ, suc, _+_, _-_, _*_, _≤_, _<_}
+use Prim.Native.Nat.{ℕ, suc, _+_, _-_, _*_, _^_, _≤_, _<_}
 use mathlib.Core.Path.{_≡_}
 use mathlib.Core.Bool.{true, false}
 use mathlib.Core.Logic.{_≢_}
@@ -20,6 +20,8 @@ module _ (S : Session) where
   pub record Served (i : ℕ) : Type 0 where
     pub opened : openOf (S .setup) (i + 1) .number ≡ 0
     pub stepped : (k h : ℕ) (st : State) → Life S i k st h → answer S i (suc k) st .number ≡ 0
+    -- its view names no module above N
+    pub view : (k h : ℕ) (st : State) → Life S i k st h → st .counters .view < 2 ^ size S
     pub by-rules : (k h : ℕ) (st : State) → Life S i k st h → (st ≡ state S i k) × (h ≡ health S i k)
 
   -- After round k, of rule-followers that then hold the states st and last answered the health vectors h. The round judged is r = k - 2u - 1.

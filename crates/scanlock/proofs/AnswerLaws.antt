@@ -15,12 +15,12 @@ use Rattle.words.proofs.Truth.{which, and-l, and-r, cond-true, cond-false}
 use Rattle.words.specs.Table.{updated}
 use Rattle.words.proofs.BitLaws.{bit-high}
 use Rattle.words.proofs.TableLaws.{updated-above}
-use Rattle.scanlock.specs.Axis.{free, axis, turned, present, onAxis, shallower}
+use Rattle.scanlock.specs.Axis.{free, axis, axisAnswer, present, onAxis, shallower}
 use Rattle.scanlock.specs.Locks.{admits, axisAt, settledOf, putOf, joystickOf}
 use Rattle.scanlock.specs.Image.{axisWord, axisIn, fits, axisOk, answer}
 use Rattle.scanlock.specs.Calls.{answerOf}
 use Rattle.scanlock.specs.declared.Axis.{Axis}
-use Rattle.scanlock.specs.declared.Turned.{Turned}
+use Rattle.scanlock.specs.declared.AxisAnswer.{AxisAnswer}
 use Rattle.scanlock.specs.declared.Locks.{Locks}
 use Rattle.scanlock.specs.declared.Answered.{Answered}
 
@@ -68,7 +68,7 @@ names-all v n h k = sym (lt-ltb v (2 ^ n) (omega (arith, pow-mono {i = 32} {j = 
 
 -- ---- the axis that an event names
 
-pub asked : (st : Locks) (a : ℕ) (f : Axis → Turned) {x : Axis} {t : Turned} {r : Answered}
+pub asked : (st : Locks) (a : ℕ) (f : Axis → AxisAnswer) {x : Axis} {t : AxisAnswer} {r : Answered}
     → x ≡ axisAt st a → t ≡ f x → r ≡ settledOf st a t → r ≡ settledOf st a (f (axisAt st a))
 asked st a f h e k = k ∙ ap (settledOf st a) (e ∙ ap f h)
 
@@ -78,9 +78,9 @@ told st a f h e k = k ∙ ap (putOf st a) (e ∙ ap f h)
 
 -- the fields of an axis after an end, put together
 pub end-made : (x : Axis) {h : ℕ} → h ≡ cond (eqb (x .depth) 1) 0 (x .holder)
-    → turned 0 (axis h (x .depth - 1) (x .moving) (x .stopping)) ≡ turned 0 (shallower x)
+    → axisAnswer 0 (axis h (x .depth - 1) (x .moving) (x .stopping)) ≡ axisAnswer 0 (shallower x)
 unfolding shallower
-end-made x e = ap (λ (h : ℕ). turned 0 (axis h (x .depth - 1) (x .moving) (x .stopping))) e
+end-made x e = ap (λ (h : ℕ). axisAnswer 0 (axis h (x .depth - 1) (x .moving) (x .stopping))) e
 
 -- an axis that a loop has not come to is as it was
 pub not-yet-seen : (i : ℕ) (f : ℕ → Axis) (l : List Axis) {m : List Axis} → m ≡ updated i f l → getD m i free ≡ getD l i free

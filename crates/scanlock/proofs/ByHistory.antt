@@ -12,7 +12,7 @@ use lib.Seq.{getD-set-same, getD-set-other}
 use Rattle.words.specs.Count.{all}
 use Rattle.words.proofs.Truth.{which, cond-true, cond-false, and-l, and-r}
 use Rattle.words.proofs.TableLaws.{updated-at, updated-length}
-use Rattle.scanlock.specs.Axis.{axis, free, turned, present, onAxis, barred, begunOf, endedOf, startedOf, abortedOf, finishedOf, stoppedOf, deeper, shallower, moved, lostOf, idle}
+use Rattle.scanlock.specs.Axis.{axis, free, axisAnswer, present, onAxis, barred, begunOf, endedOf, startedOf, abortedOf, finishedOf, stoppedOf, deeper, shallower, moved, lostOf, idle}
 use Rattle.scanlock.specs.Locks.{locks, answered, opened, axisAt, withAxis, admits, refusedOf, putOf, settledOf, seenAxes, setViewOf, beginOf, endOf, startOf, abortOf, finishedBy, stoppedBy, eventOf, joystickOf}
 use Rattle.scanlock.specs.History.{depth, holder, stopping, viewIn, named, taken, number, accepted, live}
 use Rattle.scanlock.specs.ByHistory.{after, ByHistory}
@@ -110,7 +110,7 @@ module _ (n : ℕ) (t : List Event) (st : Locks) (k : Kept n t st) where
   module _ (e : Event) (by b : ℕ) (test test′ : Bool) (y : Axis) (same-view : viewIn n (e ∷ t) ≡ viewIn n t) where
     asked : eventOf st e
         ≡ cond (admits st by b)
-        (settledOf st b (cond (barred (axisAt st b) by) (turned 20 (axisAt st b)) (cond test (turned 21 (axisAt st b)) (turned 0 y))))
+        (settledOf st b (cond (barred (axisAt st b) by) (axisAnswer 20 (axisAt st b)) (cond test (axisAnswer 21 (axisAt st b)) (axisAnswer 0 y))))
         (refusedOf st 19)
         → number n t e ≡ cond (named n t by b) (cond (taken n t by b) 20 (cond test′ 21 0)) 19
         → (1 ≤ b → b ≤ 8 → test′ ≡ test)

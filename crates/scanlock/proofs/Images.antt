@@ -13,11 +13,12 @@ use Rattle.words.proofs.Truth.{which, cond-true, cond-false}
 use Rattle.scanlock.specs.Locks.{opened, openOf, eventOf}
 use Rattle.scanlock.specs.History.{number, accepted}
 use Rattle.scanlock.specs.ByHistory.{after}
-use Rattle.scanlock.specs.Image.{answer, imageOf, Sound}
+use Rattle.scanlock.specs.Image.{answer, imageOf, locksOf, checkImage, Sound}
 use Rattle.scanlock.specs.Calls.{Called, called, answerOf, saveCall, openCall, eventCall, joystickCall}
-use Rattle.scanlock.specs.Images.{RoundTrip, Held, opens, tells, refuses, ImagesByHistory}
+use Rattle.scanlock.specs.Images.{RoundTrip, Held, opens, tells, refuses, refused-other, ImagesByHistory}
 use Rattle.scanlock.specs.declared.Locks.{Locks}
 use Rattle.scanlock.specs.declared.Answer.{Answer}
+use Rattle.scanlock.specs.declared.Answered.{Answered}
 use Rattle.scanlock.specs.declared.Event.{Event}
 use Rattle.scanlock.proofs.AnswerLaws.{within}
 use Rattle.scanlock.proofs.ByHistory.{by-history}
@@ -27,6 +28,24 @@ use Rattle.scanlock.proofs.RefusalLaws.{refused-same}
 
 pub round-trip : RoundTrip
 round-trip = record { written-read = written-read; read-written = read-written; opens = opened-sound; keeps = event-sound }
+
+-- ---- a refused call leaves its output
+
+event-keeps : (image : List ℕ) (e : Event) (out : List ℕ) → (eventCall image e out .answer .number ≡ 0 → ⊥) → eventCall image e out .out ≡ out
+unfolding eventCall
+event-keeps image e out f =
+    kept (checkImage image) (eventOf (locksOf image) e) (locksOf image) (eqb (checkImage image .number) 0) (eqb (length out) 36)
+    (eqb (eventOf (locksOf image) e .number) 0) out f
+  where
+    kept : (v : Answer) (a : Answered) (st : Locks) (p q r : Bool) (out : List ℕ)
+        → (cond p (cond q (cond r (called (answerOf 0 (a .locks)) (imageOf (a .locks))) (called (answerOf (a .number) st) out)) (called (answer 9 0 0) out))
+        (called v out) .answer .number ≡ 0 → ⊥)
+        → cond p (cond q (cond r (called (answerOf 0 (a .locks)) (imageOf (a .locks))) (called (answerOf (a .number) st) out)) (called (answer 9 0 0) out))
+        (called v out) .out ≡ out
+    kept v a st true true true out f = absurd (f refl)
+    kept v a st true true false out f = refl
+    kept v a st true false r out f = refl
+    kept v a st false q r out f = refl
 
 -- ---- a call on the image of sound locks
 
@@ -118,6 +137,9 @@ held-is n g image (refuses {h = h} e out k l z) =
     z (ap (λ (x : List ℕ). eventCall x e out .answer .number) i
     ∙ ap (λ (x : Answer). x .number) (call-answers (after n h) s e out l) ∙ m) in
     (i ∙ ap imageOf (sym (refused-same (after n h) e q)), event-sound (after n h) e s)
+held-is n h image (refused-other {image = old} other e k f) =
+    let (i, s) = held-is n h old k in
+    (event-keeps other e old f ∙ i, s)
 
 pub images-by-history : ImagesByHistory
 unfolding after joystickCall
@@ -128,6 +150,7 @@ images-by-history n h image k =
       tells = λ e out l.
           ap (λ (x : List ℕ). eventCall x e out .answer) i ∙ call-answers (after n h) s e out l
           ∙ ap₂ (λ (m : ℕ) (b : Bool). answer m 0 (b2n b)) (by-history n h .answers e) (by-history n (e ∷ h) .joystick);
+      no-room = λ e out l. ap (λ (x : List ℕ). eventCall x e out) i ∙ call-short (after n h) s e out l;
       joystick =
           let (c, b) = written-read (after n h) s in
           ap joystickCall i ∙ cond-true _ _ (ap (λ (v : Answer). eqb (v .number) 0) c) ∙ ap (λ (x : Locks). answerOf 0 x) b

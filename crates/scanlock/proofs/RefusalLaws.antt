@@ -3,7 +3,7 @@ use Prim.Native.Nat.{ℕ, _^_}
 use mathlib.Core.Path.{_≡_, refl}
 use mathlib.Core.Bool.{Bool, true, false, cond}
 use lib.Dec.{eqb, leb, ltb}
-use Rattle.scanlock.specs.Axis.{onAxis, turned, barred, begunOf, endedOf, startedOf, deeper, shallower, moved}
+use Rattle.scanlock.specs.Axis.{onAxis, axisAnswer, barred, begunOf, endedOf, startedOf, deeper, shallower, moved}
 use Rattle.scanlock.specs.Locks.{answered, axisAt, admits, refusedOf, settledOf, setViewOf, beginOf, endOf, startOf, abortOf, finishedBy, stoppedBy, eventOf}
 use Rattle.scanlock.specs.declared.Axis.{Axis}
 use Rattle.scanlock.specs.declared.Locks.{Locks}
@@ -18,8 +18,8 @@ one st s false m h = refl
 
 -- three tests before it
 three : (st : Locks) (b : ℕ) (x y : Axis) (p q r : Bool)
-    → (cond p (settledOf st b (cond q (turned 20 x) (cond r (turned 21 x) (turned 0 y)))) (refusedOf st 19) .number ≡ 0 → ⊥)
-    → cond p (settledOf st b (cond q (turned 20 x) (cond r (turned 21 x) (turned 0 y)))) (refusedOf st 19) .locks ≡ st
+    → (cond p (settledOf st b (cond q (axisAnswer 20 x) (cond r (axisAnswer 21 x) (axisAnswer 0 y)))) (refusedOf st 19) .number ≡ 0 → ⊥)
+    → cond p (settledOf st b (cond q (axisAnswer 20 x) (cond r (axisAnswer 21 x) (axisAnswer 0 y)))) (refusedOf st 19) .locks ≡ st
 unfolding settledOf
 three st b x y true true r h = refl
 three st b x y true false true h = refl

@@ -11,7 +11,7 @@ use lib.Seq.{getD-set-same, getD-set-other}
 use Rattle.words.proofs.BitLaws.{full-lt}
 use Rattle.words.proofs.Truth.{which, cond-true, cond-false, and-l, and-r, and-true}
 use Rattle.words.proofs.TableLaws.{updated-at, updated-length}
-use Rattle.scanlock.specs.Axis.{axis, free, turned, present, onAxis, barred, begunOf, endedOf, startedOf, abortedOf, finishedOf, stoppedOf, deeper, shallower, moved, lostOf}
+use Rattle.scanlock.specs.Axis.{axis, free, axisAnswer, present, onAxis, barred, begunOf, endedOf, startedOf, abortedOf, finishedOf, stoppedOf, deeper, shallower, moved, lostOf}
 use Rattle.scanlock.specs.Locks.{locks, opened, axisAt, withAxis, admits, refusedOf, putOf, settledOf, seenAxes, setViewOf, beginOf, endOf, startOf, abortOf, finishedBy, stoppedBy, eventOf}
 use Rattle.scanlock.specs.Image.{heldWell, fits, Sound}
 use Rattle.scanlock.specs.declared.Axis.{Axis}
@@ -172,7 +172,7 @@ module _ (st : Locks) (s : Sound st) where
   asked-sound : (by b : ℕ) (test : Bool) (y : Axis)
       → (1 ≤ b → b ≤ 8 → present (st .view) by ≡ true → test ≡ false → Fits (st .view) y)
       → Sound (cond (admits st by b)
-      (settledOf st b (cond (barred (axisAt st b) by) (turned 20 (axisAt st b)) (cond test (turned 21 (axisAt st b)) (turned 0 y))))
+      (settledOf st b (cond (barred (axisAt st b) by) (axisAnswer 20 (axisAt st b)) (cond test (axisAnswer 21 (axisAt st b)) (axisAnswer 0 y))))
       (refusedOf st 19) .locks)
   unfolding settledOf admits
   asked-sound by b test y f =

@@ -1,8 +1,9 @@
 -- Why the scan lock stands above the presence service: rule-following cards that are handed the same events, in the same order between
 -- the same rounds, hold equal locks and give equal joystick answers. Proved in proofs/Agreement.antt, from demand 3 as
 -- crates/agreement states it.
-use Prim.Native.Nat.{ℕ, zero, suc, _≤_}
+use Prim.Native.Nat.{ℕ, zero, suc, _≤_, _<_}
 use mathlib.Core.Path.{_≡_}
+use mathlib.Core.Bool.{false}
 use mathlib.Core.List.{List, _∷_, _++_}
 use Rattle.setup.specs.Setup.{setupOf}
 use Rattle.setup.specs.Check.{checkSetup}
@@ -12,11 +13,29 @@ use Rattle.agreement.specs.Session.{Session, Accepted, size, RuleFollower, Boun
 use Rattle.agreement.specs.Life.{Life}
 use Rattle.agreement.specs.Demand.{KeptTo}
 use Rattle.agreement.specs.Images.{ImageLife}
-use Rattle.scanlock.specs.Locks.{joystickOf}
+use Rattle.scanlock.specs.Axis.{present}
+use Rattle.scanlock.specs.Locks.{axisAt, eventOf, joystickOf}
 use Rattle.scanlock.specs.ByHistory.{after}
 use Rattle.scanlock.specs.Images.{Held}
 use Rattle.scanlock.specs.declared.Event.{Event}
 use Rattle.scanlock.specs.declared.Event.the-variants.{View}
+
+-- ---- a card's own view
+
+-- Of a scan lock that was told h, and is then handed this view: it takes it, and no axis is held by a module that is not in it.
+pub record Taken (n : ℕ) (h : List Event) (view : ℕ) : Type 0 where
+  pub accepted : eventOf (after n h) (View view) .number ≡ 0
+  pub view-is : after n (View view ∷ h) .view ≡ view
+  pub freed : (a : ℕ) → 1 ≤ a → a ≤ 8 → present view (axisAt (after n (View view ∷ h)) a .holder) ≡ false
+      → axisAt (after n (View view ∷ h)) a .depth ≡ 0
+
+-- The view that a card's opening or step leaves is taken, whatever its scan lock was told before, within the fault limit and outside it.
+abbrev pub ViewsTaken : Type 0
+ViewsTaken =
+    (S : Session) → Accepted S → (i : ℕ) → i < size S → (k health : ℕ) (st : State) → Life S i k st health
+    → (h : List Event) → Taken (size S) h (st .counters .view)
+
+-- ---- the cards together
 
 -- A card of a session up to round `last`: the state that it holds after each round, in a life of the session.
 pub record Card (S : Session) (i last : ℕ) : Type 0 where

@@ -4,13 +4,13 @@ use mathlib.Core.Bool.{Bool, true, false, cond, not, _&&_, _||_}
 use lib.Dec.{eqb, leb}
 use Rattle.words.specs.Bits.{bit}
 use Rattle.scanlock.specs.declared.Axis.{Axis}
-use Rattle.scanlock.specs.declared.Turned.{Turned}
+use Rattle.scanlock.specs.declared.AxisAnswer.{AxisAnswer}
 
 abbrev pub axis : ℕ → ℕ → Bool → Bool → Axis
 axis holder depth moving stopping = record { holder = holder; depth = depth; moving = moving; stopping = stopping }
 
-abbrev pub turned : ℕ → Axis → Turned
-turned number x = record { number = number; axis = x }
+abbrev pub axisAnswer : ℕ → Axis → AxisAnswer
+axisAnswer number x = record { number = number; axis = x }
 
 -- held by nobody, at rest
 abbrev pub free : Axis
@@ -32,22 +32,22 @@ barred x by = (not (eqb (x .holder) 0) && not (eqb (x .holder) by)) || x .stoppi
 unfoldable pub deeper : Axis → ℕ → Axis
 deeper x by = axis by (x .depth + 1) (x .moving) (x .stopping)
 
-unfoldable pub begunOf : Axis → ℕ → Turned
-begunOf x by = cond (barred x by) (turned 20 x) (cond (leb 8 (x .depth)) (turned 21 x) (turned 0 (deeper x by)))
+unfoldable pub begunOf : Axis → ℕ → AxisAnswer
+begunOf x by = cond (barred x by) (axisAnswer 20 x) (cond (leb 8 (x .depth)) (axisAnswer 21 x) (axisAnswer 0 (deeper x by)))
 
 -- an end: 21 without a begin. An inner end restores the outer lock; the outermost leaves the axis to nobody. The move goes on.
 unfoldable pub shallower : Axis → Axis
 shallower x = axis (cond (eqb (x .depth) 1) 0 (x .holder)) (x .depth - 1) (x .moving) (x .stopping)
 
-unfoldable pub endedOf : Axis → ℕ → Turned
-endedOf x by = cond (barred x by) (turned 20 x) (cond (eqb (x .depth) 0) (turned 21 x) (turned 0 (shallower x)))
+unfoldable pub endedOf : Axis → ℕ → AxisAnswer
+endedOf x by = cond (barred x by) (axisAnswer 20 x) (cond (eqb (x .depth) 0) (axisAnswer 21 x) (axisAnswer 0 (shallower x)))
 
 -- a start: 21 without a begin. A start during an unfinished move joins it.
 unfoldable pub moved : Axis → Axis
 moved x = axis (x .holder) (x .depth) true (x .stopping)
 
-unfoldable pub startedOf : Axis → ℕ → Turned
-startedOf x by = cond (barred x by) (turned 20 x) (cond (eqb (x .depth) 0) (turned 21 x) (turned 0 (moved x)))
+unfoldable pub startedOf : Axis → ℕ → AxisAnswer
+startedOf x by = cond (barred x by) (axisAnswer 20 x) (cond (eqb (x .depth) 0) (axisAnswer 21 x) (axisAnswer 0 (moved x)))
 
 -- an abort during an unfinished move makes the axis stopping
 unfoldable pub abortedOf : Axis → Axis

@@ -18,7 +18,7 @@ pub data Motion : Type 0 where
   resting : Motion
   -- a move is unfinished
   moving : Motion
-  -- aborted during an unfinished move, which no stop report has ended
+  -- stopping: aborted during an unfinished move, which no stop report has ended
   halting : Motion
 
 -- a start during a move joins it
@@ -68,7 +68,7 @@ isHalting halting = true
 
 -- ---- the locks on axis a, by the events that were accepted
 
--- A lock is a begin. It was ended if an end came after it that no begin between them answers to, or a stop report of a stopping axis;
+-- A lock is a begin. It was ended if an end came after it that answers to none of the begins between them, or a stop report of a stopping axis;
 -- it was lost if a view came after it without its module. These are the locks of the events h that were neither, the newest first,
 -- each by its module: `ends` counts the ends after h whose begin is in h, and `stays` tells the modules in every view after h.
 unfoldable pub left : ℕ → ℕ → (ℕ → Bool) → List Event → List ℕ

@@ -9,7 +9,7 @@ use Rattle.scanlock.specs.Locks.{opened, eventOf}
 use Rattle.scanlock.specs.History.{number, accepted, live}
 use Rattle.scanlock.specs.ByHistory.{after}
 use Rattle.scanlock.specs.Image.{answer, imageOf, locksOf, checkImage, Sound}
-use Rattle.scanlock.specs.Calls.{openCall, eventCall, joystickCall}
+use Rattle.scanlock.specs.Calls.{called, openCall, eventCall, joystickCall}
 use Rattle.scanlock.specs.declared.Locks.{Locks}
 use Rattle.scanlock.specs.declared.Event.{Event}
 
@@ -21,20 +21,25 @@ pub record RoundTrip : Type 0 where
   pub keeps : (st : Locks) (e : Event) → Sound st → Sound (eventOf st e .locks)
 
 -- The image that a caller holds after a history: the output of the opening, and from an accepted event on its output; a refused
--- event leaves it.
--- The output lent to a call is any buffer.
+-- event leaves it. The output lent to a call is any buffer.
 pub data Held (n : ℕ) : List Event → List ℕ → Type 0 where
   opens : (out : List ℕ) → openCall n out .answer .number ≡ 0 → Held n [] (openCall n out .out)
   tells : {h : List Event} {image : List ℕ} (e : Event) (out : List ℕ) → Held n h image → eventCall image e out .answer .number ≡ 0
       → Held n (e ∷ h) (eventCall image e out .out)
+  -- the event itself is refused: there was room for its output
   refuses : {h : List Event} {image : List ℕ} (e : Event) (out : List ℕ) → Held n h image → length out ≡ 36
       → eventCall image e out .answer .number ≢ 0 → Held n (e ∷ h) image
+  -- a refused call on any bytes that was lent the image's own buffer as its output
+  refused-other : {h : List Event} {image : List ℕ} (other : List ℕ) (e : Event) → Held n h image → eventCall other e image .answer .number ≢ 0
+      → Held n h (eventCall other e image .out)
 
 -- Such an image is that of the locks after the history; each further event is answered, and the joystick is live, as the history has it.
+-- An output of another length than 36 bytes is refused by 9, and stays as it was: the event was not told.
 pub record Answers (n : ℕ) (h : List Event) (image : List ℕ) : Type 0 where
   pub one-form : image ≡ imageOf (after n h)
   pub tells : (e : Event) (out : List ℕ) → length out ≡ 36
       → eventCall image e out .answer ≡ answer (number n (accepted n h) e) 0 (b2n (live n (e ∷ h)))
+  pub no-room : (e : Event) (out : List ℕ) → length out ≢ 36 → eventCall image e out ≡ called (answer 9 0 0) out
   pub joystick : joystickCall image ≡ answer 0 0 (b2n (live n h))
 
 abbrev pub ImagesByHistory : Type 0

@@ -10,7 +10,7 @@ use Rattle.words.specs.Count.{all}
 use Rattle.words.specs.Table.{updated}
 use Rattle.scanlock.specs.Axis.{free, present, onAxis, begunOf, endedOf, startedOf, abortedOf, finishedOf, stoppedOf, lostOf, idle}
 use Rattle.scanlock.specs.declared.Axis.{Axis}
-use Rattle.scanlock.specs.declared.Turned.{Turned}
+use Rattle.scanlock.specs.declared.AxisAnswer.{AxisAnswer}
 use Rattle.scanlock.specs.declared.Locks.{Locks}
 use Rattle.scanlock.specs.declared.Answered.{Answered}
 use Rattle.scanlock.specs.declared.Event.{Event}
@@ -55,7 +55,7 @@ abbrev pub putOf : Locks → ℕ → Axis → Answered
 putOf st a x = answered 0 (withAxis st a x)
 
 -- 20 and 21 by the axis
-unfoldable pub settledOf : Locks → ℕ → Turned → Answered
+unfoldable pub settledOf : Locks → ℕ → AxisAnswer → Answered
 settledOf st a t = cond (eqb (t .number) 0) (putOf st a (t .axis)) (refusedOf st (t .number))
 
 -- a holder that leaves the view loses all its locks

@@ -3,9 +3,9 @@
 // A refusal changes nothing.
 use crate::Answered;
 use crate::Axis;
+use crate::AxisAnswer;
 use crate::Event;
 use crate::Locks;
-use crate::Turned;
 use crate::on_axis::is_present;
 use words::bits::power;
 ghost use mathlib.Core.Path.{_≡_};
@@ -88,7 +88,7 @@ impl Locks {
     }
 
     // As the axis answered.
-    fn settled(self, axis: u32, t: Turned) -> Answered
+    fn settled(self, axis: u32, t: AxisAnswer) -> Answered
         requires { ⌜ (1 ≤ axis) × (axis ≤ 8) ⌝ }
         ensures { λ r. ⌜ r ≡ settledOf self axis t ⌝ }
     {

@@ -35,7 +35,7 @@ pub struct Axis {
 }
 
 // What an axis answers to a begin, an end or a start: 0 and the axis after it, or 20 or 21 and the axis as it was.
-pub struct Turned {
+pub struct AxisAnswer {
     number: u32,
     axis: Axis,
 }

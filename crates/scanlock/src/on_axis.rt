@@ -1,9 +1,9 @@
 // What an event does to the axis that it names. (document 02, E2)
 use crate::Axis;
-use crate::Turned;
+use crate::AxisAnswer;
 use words::bits::bit_at;
 ghost use mathlib.Core.Path.{_≡_};
-ghost use Rattle.scanlock.specs.Axis.{axis, free, turned, present, barred, begunOf, endedOf, startedOf, abortedOf, finishedOf, stoppedOf, lostOf, idle};
+ghost use Rattle.scanlock.specs.Axis.{axis, free, axisAnswer, present, barred, begunOf, endedOf, startedOf, abortedOf, finishedOf, stoppedOf, lostOf, idle};
 
 // Whether a module is in a view.
 pub fn is_present(view: u32, by: u32) -> bool
@@ -29,10 +29,10 @@ impl Axis {
     }
 
     // A refusal leaves the axis as it was.
-    fn refused(self, number: u32) -> Turned
-        ensures { λ r. ⌜ r ≡ turned number self ⌝ }
+    fn refused(self, number: u32) -> AxisAnswer
+        ensures { λ r. ⌜ r ≡ axisAnswer number self ⌝ }
     {
-        Turned { number, axis: self }
+        AxisAnswer { number, axis: self }
     }
 
     // The same locks, with another move.
@@ -55,7 +55,7 @@ impl Axis {
     }
 
     // One lock more.
-    pub fn begun(self, by: u32) -> Turned
+    pub fn begun(self, by: u32) -> AxisAnswer
         ensures { λ r. ⌜ r ≡ begunOf self by ⌝ }
     {
         if self.barred(by) {
@@ -70,11 +70,11 @@ impl Axis {
             moving: self.moving,
             stopping: self.stopping,
         };
-        Turned { number: 0, axis }
+        AxisAnswer { number: 0, axis }
     }
 
     // The innermost lock ends: the outer one is restored, or after the last the axis is held by nobody.
-    pub fn ended(self, by: u32) -> Turned
+    pub fn ended(self, by: u32) -> AxisAnswer
         ensures { λ r. ⌜ r ≡ endedOf self by ⌝ }
     {
         if self.barred(by) {
@@ -90,11 +90,11 @@ impl Axis {
             moving: self.moving,
             stopping: self.stopping,
         };
-        Turned { number: 0, axis }
+        AxisAnswer { number: 0, axis }
     }
 
     // A move is unfinished from now on; a start during one joins it.
-    pub fn started(self, by: u32) -> Turned
+    pub fn started(self, by: u32) -> AxisAnswer
         ensures { λ r. ⌜ r ≡ startedOf self by ⌝ }
     {
         if self.barred(by) {
@@ -104,7 +104,7 @@ impl Axis {
             return self.refused(21);
         }
         let axis = self.in_motion(true, self.stopping);
-        Turned { number: 0, axis }
+        AxisAnswer { number: 0, axis }
     }
 
     // An abort: during an unfinished move the axis is stopping from now on.

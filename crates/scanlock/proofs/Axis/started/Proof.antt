@@ -1,7 +1,7 @@
 -- The tests of the code are those of the definition, in their order.
 use mathlib.Core.Path.{sym, ap, _∙_}
 use borrow.Author.Tests.{eq-eqb, ne-eqb}
-use Rattle.scanlock.specs.Axis.{turned, startedOf, moved}
+use Rattle.scanlock.specs.Axis.{axisAnswer, startedOf, moved}
 use Rattle.scanlock.proofs.AnswerLaws.{yes, no}
 use borrow.Author.Needs.{needs}
 use Rattle.scanlock.proofs.Axis.started.Statement.{statement}
@@ -33,7 +33,7 @@ returns-3 : tie.Need-returns-3
 unfolding startedOf moved
 returns-3 c =
     no _ (sym (c .before .before .before .before .barred .ensures) ∙ c .before .before .before .if1 .left)
-    (no _ (ne-eqb _ 0 (c .before .if2 .left)) (ap (turned 0) (c .in-motion .ensures)))
+    (no _ (ne-eqb _ 0 (c .before .if2 .left)) (ap (axisAnswer 0) (c .in-motion .ensures)))
 
 pub started-spec : {M : Type 1} → statement M
 started-spec =
