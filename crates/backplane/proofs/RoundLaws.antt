@@ -33,6 +33,7 @@ use Rattle.backplane.specs.Bus as Bus
 use Rattle.backplane.specs.Bus.{bitTo, wordTo, roundOf, arrived, readWords}
 use Rattle.backplane.specs.Limit.{hearingOf, isHalf, isBreaker, isUnheard, keptOver}
 use Rattle.backplane.specs.Play.{stateAt, sentWords, stepAt, steppedStates, answeredHealth}
+use Rattle.backplane.specs.Session.{Carries, Hears}
 use Rattle.backplane.specs.declared.Bus.{Bus}
 use Rattle.backplane.specs.declared.Hearing.{Hearing}
 
@@ -56,24 +57,15 @@ module _ (S : Session) (ok : Accepted S) where
   abbrev n : ℕ
   n = size S
 
-  -- the bus of round k, and how it is heard
-  pub record Carries (k : ℕ) (b : Bus) : Type 0 where
-    pub bits : (i j : ℕ) → i < size S → j < size S → bitTo b i j ≡ bitIn S k i j
-    pub words : (i j : ℕ) → i < size S → j < size S → wordTo b i j ≡ wordIn S k i j
-
-  pub record Hears (k : ℕ) (h : Hearing) : Type 0 where
-    pub half-heard : (j : ℕ) → j < size S → bit (h .half) j ≡ halfHeard S k j
-    pub is-heard : (j : ℕ) → j < size S → bit (h .heard) j ≡ heard (size S) (follows S) (round S k) j
-
-  hears-as : (k : ℕ) (b : Bus) → Carries k b → (i j : ℕ) → i < n → j < n → roundOf n b .hears i j ≡ round S k .hears i j
+  hears-as : (k : ℕ) (b : Bus) → Carries S k b → (i j : ℕ) → i < n → j < n → roundOf n b .hears i j ≡ round S k .hears i j
   unfolding roundOf
   hears-as k b c i j hi hj = ap₂ (λ (x : Bool) (y : ℕ). entryOf n x y .heard) (c .bits i j hi hj) (c .words i j hi hj)
 
-  word-as : (k : ℕ) (b : Bus) → Carries k b → (i j : ℕ) → i < n → j < n → roundOf n b .word i j ≡ round S k .word i j
+  word-as : (k : ℕ) (b : Bus) → Carries S k b → (i j : ℕ) → i < n → j < n → roundOf n b .word i j ≡ round S k .word i j
   unfolding roundOf
   word-as k b c = c .words
 
-  pub hears-bus : (k : ℕ) (b : Bus) → Carries k b → Hears k (hearingOf n (S .cast) b)
+  pub hears-bus : (k : ℕ) (b : Bus) → Carries S k b → Hears S k (hearingOf n (S .cast) b)
   unfolding hearingOf
   hears-bus k b c = record {
     half-heard = λ j hj. bit-pack n _ j hj ∙ half-same n (follows S) (roundOf n b) (round S k) (hears-as k b c) (word-as k b c) j hj;
@@ -86,7 +78,7 @@ module _ (S : Session) (ok : Accepted S) where
   not-not true = refl
   not-not false = refl
 
-  module _ (k k′ : ℕ) (h h′ : Hearing) (c : Hears k h) (c′ : Hears k′ h′) where
+  module _ (k k′ : ℕ) (h h′ : Hearing) (c : Hears S k h) (c′ : Hears S k′ h′) where
     half-as : (j : ℕ) → j < n → isHalf h h′ j ≡ halfIn n (follows S) (round S k) (round S k′) j
     unfolding isHalf halfIn
     half-as j hj = ap₂ (λ (x y : Bool). x || y) (c .half-heard j hj) (c′ .half-heard j hj)
@@ -131,7 +123,7 @@ module _ (S : Session) (ok : Accepted S) where
         ∙ ap busWord (mod-eq-of-lt (latest-small j hj))
         ∙ sym (sent-is S ok j hj k)
 
-    pub carries : (e : Events) → Tells k e → Carries (suc k) (arrived n (sentWords n states) e)
+    pub carries : (e : Events) → Tells k e → Carries S (suc k) (arrived n (sentWords n states) e)
     unfolding arrived bitIn wordIn
     carries e t = record {
       bits = λ i j hi hj.
@@ -151,7 +143,7 @@ module _ (S : Session) (ok : Accepted S) where
 
     -- ---- the steps
 
-    module _ (this before : Bus) (c : Carries (suc k) this) (c′ : Carries k before) where
+    module _ (this before : Bus) (c : Carries S (suc k) this) (c′ : Carries S k before) where
       choose : (b : Bool) (i j : ℕ) → i < n → j < n → cond b (wordTo this i j) (wordTo before i j) ≡ wordIn S (cond b (suc k) (suc k - 1)) i j
       choose true i j hi hj = c .words i j hi hj
       choose false i j hi hj = let e : suc k - 1 ≡ k = omega arith in rw e (c′ .words i j hi hj)

@@ -42,10 +42,10 @@ use Rattle.backplane.specs.Bus.{faultless, arrived}
 use Rattle.backplane.specs.Limit.{hearingOf, keptOver}
 use Rattle.backplane.specs.Play.{stateAt, openedStates, opened, sentWords, steppedStates, answeredHealth, earlier, played}
 use Rattle.backplane.specs.Run.{begun, goesOn, nextOf, later, runAt}
-use Rattle.backplane.specs.Session.{fateIn, toldIn, PlayedBy, HasSession, Holds, PlaysSession, InAgrees}
+use Rattle.backplane.specs.Session.{fateIn, toldIn, PlayedBy, HasSession, Carries, Hears, Holds, PlaysSession, InAgrees}
 use Rattle.backplane.specs.declared.Backplane.{Backplane}
 use Rattle.backplane.proofs.StartLaws.{accepts, setup-read}
-use Rattle.backplane.proofs.RoundLaws.{Carries, Hears, Tells, hears-bus, limit-as, carries, states-as, health-as}
+use Rattle.backplane.proofs.RoundLaws.{Tells, hears-bus, limit-as, carries, states-as, health-as}
 
 -- ---- round by round
 
@@ -58,11 +58,9 @@ module _ (S : Session) (ok : Accepted S) where
     holds : Holds S k b
     cast : b .cast ≡ S .cast
     entries : length (b .states) ≡ 16
-    bus : Carries S ok k (b .bus)
-    hearing : Hears S ok k (b .hearing)
-    before : Hears S ok (k - 1) (b .before)
+    before : Hears S (k - 1) (b .before)
 
-  carries-first : Carries S ok 0 (faultless n)
+  carries-first : Carries S 0 (faultless n)
   unfolding faultless bitIn wordIn
   carries-first = record {
     bits = λ i j hi hj. ap (λ (x : ℕ). bit x j) (array-at n _ i hi (small S ok)) ∙ bit-full n j hj;
@@ -78,25 +76,25 @@ module _ (S : Session) (ok : Accepted S) where
           round = refl;
           states = λ i hi. updated-at n _ (replicate 16 _) i blank hi (rw (length-replicate {A = State} 16 _) (small S ok));
           health = λ i hi. array-at n _ i hi (small S ok);
+          bus = carries-first;
+          hearing = hears-bus S ok 0 (faultless n) carries-first;
           kept = refl;
         };
     cast = refl;
     entries = updated-length n _ (replicate 16 _) ∙ length-replicate {A = State} 16 (openOf (S .setup) 1 .state);
-    bus = carries-first;
-    hearing = hears-bus S ok 0 (faultless n) carries-first;
     before = hears-bus S ok 0 (faultless n) carries-first;
   })
 
   -- how round k + 1 - u - 1 was heard
-  earlier-hears : (k : ℕ) (b : Backplane) → Shows k b → Hears S ok (suc k - u S - 1) (earlier b)
+  earlier-hears : (k : ℕ) (b : Backplane) → Shows k b → Hears S (suc k - u S - 1) (earlier b)
   unfolding earlier
   earlier-hears k b h =
-      subst (λ (x : Setup). Hears S ok (suc k - u S - 1) (cond (skewed (x .n) (x .places)) (b .before) (b .hearing))) (sym (h .holds .setup))
+      subst (λ (x : Setup). Hears S (suc k - u S - 1) (cond (skewed (x .n) (x .places)) (b .before) (b .hearing))) (sym (h .holds .setup))
       (go (skewed n (S .setup .places)))
     where
-      go : (t : Bool) → Hears S ok (suc k - b2n t - 1) (cond t (b .before) (b .hearing))
+      go : (t : Bool) → Hears S (suc k - b2n t - 1) (cond t (b .before) (b .hearing))
       go true = let e : suc k - 1 - 1 ≡ k - 1 = omega arith in rw e (h .before)
-      go false = let e : suc k - 0 - 1 ≡ k = omega arith in rw e (h .hearing)
+      go false = let e : suc k - 0 - 1 ≡ k = omega arith in rw e (h .holds .hearing)
 
   shows-next : (k : ℕ) (b : Backplane) (e : Events) → Shows k b → Tells S ok k e → Shows (suc k) (played b e)
   unfolding played steppedStates all kept
@@ -104,9 +102,9 @@ module _ (S : Session) (ok : Accepted S) where
       let s = h .holds .setup in
       let this = arrived (b .setup .n) (sentWords (b .setup .n) (b .states)) e in
       let q : this ≡ arrived n (sentWords n (b .states)) e = ap (λ (x : Setup). arrived (x .n) (sentWords (x .n) (b .states)) e) s in
-      let c : Carries S ok (suc k) this = subst (Carries S ok (suc k)) (sym q) (carries S ok k (b .states) (h .holds .states) e t) in
-      let heard : Hears S ok (suc k) (hearingOf (b .setup .n) (b .cast) this) =
-      subst (Hears S ok (suc k)) (sym (ap₂ (λ (x : Setup) (y : ℕ). hearingOf (x .n) y this) s (h .cast))) (hears-bus S ok (suc k) this c) in
+      let c : Carries S (suc k) this = subst (Carries S (suc k)) (sym q) (carries S ok k (b .states) (h .holds .states) e t) in
+      let heard : Hears S (suc k) (hearingOf (b .setup .n) (b .cast) this) =
+      subst (Hears S (suc k)) (sym (ap₂ (λ (x : Setup) (y : ℕ). hearingOf (x .n) y this) s (h .cast))) (hears-bus S ok (suc k) this c) in
       let limit : keptOver (b .setup .n) (b .cast) (hearingOf (b .setup .n) (b .cast) this) (earlier b) ≡ kept S (suc k) =
       ap₂ (λ (x : Setup) (y : ℕ). keptOver (x .n) y (hearingOf (b .setup .n) (b .cast) this) (earlier b)) s (h .cast)
       ∙ limit-as S ok (suc k) (suc k - u S - 1) _ _ heard (earlier-hears k b h) in
@@ -118,17 +116,17 @@ module _ (S : Session) (ok : Accepted S) where
               round = ap (λ (x : ℕ). x + 1) (h .holds .round) ∙ omega arith;
               states = λ i hi.
                   ap (λ (x : Setup). stateAt (steppedStates x (b .states) this (b .bus)) i) s
-                  ∙ states-as S ok k (b .states) (h .holds .states) this (b .bus) c (h .bus) (h .entries) i hi;
+                  ∙ states-as S ok k (b .states) (h .holds .states) this (b .bus) c (h .holds .bus) (h .entries) i hi;
               health = λ i hi.
                   ap (λ (x : Setup). getD (answeredHealth x (b .states) this (b .bus)) i 0) s
-                  ∙ health-as S ok k (b .states) (h .holds .states) this (b .bus) c (h .bus) i hi;
+                  ∙ health-as S ok k (b .states) (h .holds .states) this (b .bus) c (h .holds .bus) i hi;
+              bus = c;
+              hearing = heard;
               kept = ap₂ (λ (x y : Bool). x && y) (h .holds .kept) limit;
             };
         cast = h .cast;
         entries = updated-length (b .setup .n) _ (b .states) ∙ h .entries;
-        bus = c;
-        hearing = heard;
-        before = rw one (h .hearing);
+        before = rw one (h .holds .hearing);
       }
 
 module _ (s : List ℕ) (e : checkScript s .number ≡ 0) where

@@ -14,9 +14,13 @@ use Rattle.script.specs.Check.{checkScript}
 use Rattle.script.specs.Cursor.{cursorAt}
 use Rattle.script.specs.Told.{castOf}
 use Rattle.script.specs.Rounds.{roundsOf}
-use Rattle.agreement.specs.Session.{Session, Accepted, size, u, RuleFollower, round, state, health, sent, Bound, unheard, halfHeard, kept}
+use Rattle.agreement.specs.Fault.{heard}
+use Rattle.agreement.specs.Session.{Session, Accepted, size, u, follows, RuleFollower, bitIn, wordIn, round, state, health, sent, Bound, unheard, halfHeard, kept}
+use Rattle.backplane.specs.Bus.{bitTo, wordTo}
 use Rattle.backplane.specs.Play.{stateAt}
 use Rattle.backplane.specs.Run.{runAt}
+use Rattle.backplane.specs.declared.Bus.{Bus}
+use Rattle.backplane.specs.declared.Hearing.{Hearing}
 use Rattle.backplane.specs.declared.Backplane.{Backplane}
 
 -- what becomes in round k of the word from sender j to receiver i, and the word that it is told to send
@@ -43,12 +47,25 @@ pub record PlayedBy (s : List ℕ) (S : Session) : Type 0 where
 abbrev pub HasSession : Type 0
 HasSession = (s : List ℕ) → checkScript s .number ≡ 0 → (S : Session) × PlayedBy s S
 
--- After round k the bench holds what the session has: each module's state and health vector, and whether the limit was kept in every round so far.
+-- the bus of round k: by receiver and sender the controller bit and the word
+pub record Carries (S : Session) (k : ℕ) (b : Bus) : Type 0 where
+  pub bits : (i j : ℕ) → i < size S → j < size S → bitTo b i j ≡ bitIn S k i j
+  pub words : (i j : ℕ) → i < size S → j < size S → wordTo b i j ≡ wordIn S k i j
+
+-- how the rule-followers heard round k: which senders are half heard, and which are heard by one of them at least
+pub record Hears (S : Session) (k : ℕ) (h : Hearing) : Type 0 where
+  pub half-heard : (j : ℕ) → j < size S → bit (h .half) j ≡ halfHeard S k j
+  pub is-heard : (j : ℕ) → j < size S → bit (h .heard) j ≡ heard (size S) (follows S) (round S k) j
+
+-- After round k the bench holds what the session has: each module's state and health vector, the words on the bus and who heard what, and
+-- whether the limit was kept in every round so far.
 pub record Holds (S : Session) (k : ℕ) (b : Backplane) : Type 0 where
   pub setup : b .setup ≡ S .setup
   pub round : b .round ≡ k
   pub states : (i : ℕ) → i < size S → stateAt (b .states) i ≡ state S i k
   pub health : (i : ℕ) → i < size S → getD (b .health) i 0 ≡ health S i k
+  pub bus : Carries S k (b .bus)
+  pub hearing : Hears S k (b .hearing)
   pub kept : b .kept ≡ all k (λ ρ. kept S (suc ρ))
 
 -- of every round of the script
