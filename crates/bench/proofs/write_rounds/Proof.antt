@@ -30,15 +30,22 @@ ended : (r k : ℕ) {b : Bool} → b ≡ ltb r k → not b ≡ false → r < k
 ended r k {b} e t = ltb-true r k (sym e ∙ not-neither b t)
 
 abbrev Inv-loop : tie.InvT-loop
-Inv-loop script out₀ now₀ k₀ over₀ out now k over =
-    (length out ≡ 53248) × (now ≡ runAt script (k * 64)) × (k * 64 ≤ roundsOf script + 64) × (over ≡ ltb (roundsOf script) (k * 64))
+Inv-loop script out₀ now₀ written₀ over₀ out now written over =
+    (length out ≡ 53248) × (now ≡ runAt script (written .parts * 64)) × (written .parts * 64 ≤ roundsOf script + 64)
+    × (over ≡ ltb (roundsOf script) (written .parts * 64))
 
 abbrev μ-loop : tie.MeasureT-loop
-μ-loop script out₀ now₀ k₀ over₀ out now k over = roundsOf script + 64 - k * 64
+μ-loop script out₀ now₀ written₀ over₀ out now written over = roundsOf script + 64 - written .parts * 64
+
+nothing-requires : tie.Need-nothing-requires Inv-loop μ-loop
+nothing-requires c κs = tt
 
 loop-holds : tie.Need-loop-holds Inv-loop μ-loop
 unfolding later
-loop-holds c = (refl, c .before .pre .1, omega arith, sym (le-ltb (roundsOf (c .before .args .script .now)) 0 (omega arith)))
+loop-holds c =
+    let z = c .nothing .ensures in
+    let s = c .before .before .args .script .now in
+    (refl, c .before .before .pre .1 ∙ ap (λ (k : ℕ). runAt s (k * 64)) (sym z), omega (arith, z), sym (le-ltb (roundsOf s) _ (omega (arith, z))))
 
 slice-aggregate-fill : tie.Need-slice-aggregate-fill Inv-loop μ-loop
 slice-aggregate-fill c = sym (c .before .before .loop .inv .0)
@@ -46,19 +53,19 @@ slice-aggregate-fill c = sym (c .before .before .loop .inv .0)
 fill-requires : tie.Need-fill-requires Inv-loop μ-loop
 fill-requires c κs =
     let l = c .before .before .loop in
-    (sound-at _ (c .before .before .before .before .pre .0) _ (l .inv .1), omega (arith, l .inv .0))
+    (sound-at _ (c .before .before .before .before .before .pre .0) _ (l .inv .1), omega (arith, l .inv .0))
 
-slice-aggregate-write-part : tie.Need-slice-aggregate-write-part Inv-loop μ-loop
-slice-aggregate-write-part c = sym (wrote-length (c .before .before .fill .ensures .1) ∙ c .before .before .before .before .before .loop .inv .0)
+slice-aggregate-with-part : tie.Need-slice-aggregate-with-part Inv-loop μ-loop
+slice-aggregate-with-part c = sym (wrote-length (c .before .before .fill .ensures .1) ∙ c .before .before .before .before .before .loop .inv .0)
 
-write-part-requires : tie.Need-write-part-requires Inv-loop μ-loop
-write-part-requires c κs =
+with-part-requires : tie.Need-with-part-requires Inv-loop μ-loop
+with-part-requires c κs =
     let l = c .before .before .before .before .before .loop in
-    let s = c .before .before .before .before .before .before .before .args .script .now in
-    let e = c .before .before .before .before .before .before .before .pre .0 in
+    let s = c .before .before .before .before .before .before .before .before .args .script .now in
+    let e = c .before .before .before .before .before .before .before .before .pre .0 in
     let w = c .before .before .fill .ensures .1 in
-    let h = playing (roundsOf s) (l .k * 64) (l .inv .3) (c .before .before .before .before .loop-test .taken) in
-    (omega (arith, h, rounds-most s e), omega (arith, w .room, wrote-length w), part-wrote _ e (l .k) (l .inv .1) w)
+    let h = playing (roundsOf s) (l .written .parts * 64) (l .inv .3) (c .before .before .before .before .loop-test .taken) in
+    (omega (arith, h, rounds-most s e), omega (arith, w .room, wrote-length w), part-wrote _ e (l .written .parts) (l .inv .1) w)
 
 over-requires : tie.Need-over-requires Inv-loop μ-loop
 over-requires c κs = tt
@@ -66,19 +73,19 @@ over-requires c κs = tt
 loop-less : tie.Need-loop-less Inv-loop μ-loop
 loop-less c =
     let l = c .before .before .before .before .before .before .before .before .loop in
-    let s = c .before .before .before .before .before .before .before .before .before .before .args .script .now in
-    let h = playing (roundsOf s) (l .k * 64) (l .inv .3) (c .before .before .before .before .before .before .before .loop-test .taken) in
-    omega (arith, h, c .before .before .write-part .ensures)
+    let s = c .before .before .before .before .before .before .before .before .before .before .before .args .script .now in
+    let h = playing (roundsOf s) (l .written .parts * 64) (l .inv .3) (c .before .before .before .before .before .before .before .loop-test .taken) in
+    omega (arith, h, c .before .before .with-part .ensures)
 
 loop-again : tie.Need-loop-again Inv-loop μ-loop
 loop-again c =
     let l = c .before .before .before .before .before .before .before .before .loop in
-    let s = c .before .before .before .before .before .before .before .before .before .before .args .script .now in
-    let e = c .before .before .before .before .before .before .before .before .before .before .pre .0 in
+    let s = c .before .before .before .before .before .before .before .before .before .before .before .args .script .now in
+    let e = c .before .before .before .before .before .before .before .before .before .before .before .pre .0 in
     let f = c .before .before .before .before .before .fill .ensures in
-    let k = c .before .before .write-part .ensures in
-    let h = playing (roundsOf s) (l .k * 64) (l .inv .3) (c .before .before .before .before .before .before .before .loop-test .taken) in
-    let r = part-next _ e (l .k) (l .inv .1) (f .0) ∙ ap (λ (x : ℕ). runAt s (x * 64)) (sym k) in (
+    let k = c .before .before .with-part .ensures in
+    let h = playing (roundsOf s) (l .written .parts * 64) (l .inv .3) (c .before .before .before .before .before .before .before .loop-test .taken) in
+    let r = part-next _ e (l .written .parts) (l .inv .1) (f .0) ∙ ap (λ (x : ℕ). runAt s (x * 64)) (sym k) in (
       wrote-length (f .1) ∙ l .inv .0,
       r,
       omega (arith, h, k),
@@ -88,7 +95,7 @@ loop-again c =
 returns : tie.Need-returns Inv-loop μ-loop
 returns c =
     let l = c .before .loop in
-    parts-end _ (c .before .before .before .pre .0) (l .k) (ended _ _ (l .inv .3) (c .loop-test .left)) (l .inv .2)
+    parts-end _ (c .before .before .before .before .pre .0) (l .written .parts) (ended _ _ (l .inv .3) (c .loop-test .left)) (l .inv .2)
 
 pub write-rounds-spec : {M : Type 1} → statement M
 write-rounds-spec =
@@ -96,11 +103,12 @@ write-rounds-spec =
     (tie.spec
     Inv-loop
     μ-loop
+    nothing-requires
     loop-holds
     slice-aggregate-fill
     fill-requires
-    slice-aggregate-write-part
-    write-part-requires
+    slice-aggregate-with-part
+    with-part-requires
     over-requires
     loop-less
     loop-again

@@ -2,8 +2,8 @@
 use mathlib.Core.Path.{sym}
 use lib.Seq.{length-take-le}
 use borrow.Author.Needs.{needs}
-use Rattle.bench.proofs.write_part.Statement.{statement}
-use Rattle.bench.proofs.write_part.Tie as tie
+use Rattle.bench.proofs.written.Written.with_part.Statement.{statement}
+use Rattle.bench.proofs.written.Written.with_part.Tie as tie
 
 slice-aggregate-write-all : tie.Need-slice-aggregate-write-all
 slice-aggregate-write-all c = sym (length-take-le _ _ (c .before .before .before .pre .1))
@@ -11,12 +11,11 @@ slice-aggregate-write-all c = sym (length-take-le _ _ (c .before .before .before
 write-all-requires : tie.Need-write-all-requires
 write-all-requires c κs = search needs
 
-add-result : tie.Need-add-result
-add-result c = search needs
+add-parts : tie.Need-add-parts
+add-parts c = search needs
 
 returns : tie.Need-returns
 returns c = search needs
 
-pub write-part-spec : {M : Type 1} → statement M
-write-part-spec =
-    tie.close (tie.spec slice-aggregate-write-all write-all-requires add-result returns)
+pub with-part-spec : {M : Type 1} → statement M
+with-part-spec = tie.close (tie.spec slice-aggregate-write-all write-all-requires add-parts returns)
