@@ -15,13 +15,15 @@ module _ (S : Session) where
   abbrev pub KeptTo : ℕ → Type 0
   KeptTo k = (ρ : ℕ) → 0 < ρ → ρ ≤ k - u S → kept S ρ ≡ true
 
-  -- Of any module, within the limit and outside it: its opening and each step on a read of the session are accepted, and refused calls between
-  -- them change nothing. What it holds and answers is what the rules give.
+  -- Of any module, a rule-breaker too, within the limit and outside it.
   pub record Served (i : ℕ) : Type 0 where
+    -- its opening is accepted
     pub opened : openOf (S .setup) (i + 1) .number ≡ 0
+    -- each next step on a read of the session is accepted, whatever refused calls lie between
     pub stepped : (k h : ℕ) (st : State) → Life S i k st h → answer S i (suc k) st .number ≡ 0
     -- its view names no module above N
     pub view : (k h : ℕ) (st : State) → Life S i k st h → st .counters .view < 2 ^ size S
+    -- what it holds and last answered is what the rules give by its opening and its steps: refused calls change nothing
     pub by-rules : (k h : ℕ) (st : State) → Life S i k st h → (st ≡ state S i k) × (h ≡ health S i k)
 
   -- After round k, of rule-followers that then hold the states st and last answered the health vectors h. The round judged is r = k - 2u - 1.
@@ -39,5 +41,7 @@ module _ (S : Session) where
 
 -- For every session with an accepted setup, whatever its cast, its controller bits and its words.
 pub record Demand3 : Type 0 where
+  -- all modules, in any session: it need not be bound
   pub served : (S : Session) → Accepted S → (i : ℕ) → i < size S → Served S i
+  -- the rule-followers of a session that is bound up to round `last`, after each of these rounds while the limit is kept
   pub agreement : (S : Session) → Accepted S → (last : ℕ) → Bound S last → (k : ℕ) → 0 < k → k ≤ last → KeptTo S k → Agreement S k

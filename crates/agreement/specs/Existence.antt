@@ -29,5 +29,6 @@ pub record Plays (C : Choice) (S : Session) : Type 0 where
   pub as-sent : (k i j : ℕ) → j < size S → C .lies (suc k) i j ≡ false → S .word (suc k) i j ≡ sent S j (suc k)
   pub bound : (last : ℕ) → Bound S last
 
+-- every choice has such a session
 abbrev pub Existence : Type 0
 Existence = (C : Choice) → (S : Session) × Plays C S

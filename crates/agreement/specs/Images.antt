@@ -43,8 +43,10 @@ pub record Kept (S : Session) (i k : ℕ) (image : List ℕ) (h : ℕ) : Type 0 
 -- The setup's bytes are accepted and are the session's. By `life` all that Demand3 promises holds of the states in the images: so for instance
 -- two rule-followers' images hold the same counters and view after round k, and the calls answered the same health vector.
 pub record Demand3C : Type 0 where
+  -- every image in a life is as `Kept` says, a rule-breaker's too
   pub kept : (S : Session) (setup : List ℕ) → checkSetup setup .number ≡ 0 → S .setup ≡ setupOf setup → (i : ℕ) → i < size S
       → (k h : ℕ) (image : List ℕ) → ImageLife S setup i k image h → Kept S i k image h
+  -- the images of two rule-followers after round k, while the limit is kept: health vectors answered, penalties, rewards and view are equal
   pub agree : (S : Session) (setup : List ℕ) → checkSetup setup .number ≡ 0 → S .setup ≡ setupOf setup → (last : ℕ) → Bound S last
       → (k : ℕ) → 0 < k → k ≤ last → KeptTo S k → (i i′ h h′ : ℕ) (image image′ : List ℕ) → RuleFollower S i → RuleFollower S i′
       → ImageLife S setup i k image h → ImageLife S setup i′ k image′ h′

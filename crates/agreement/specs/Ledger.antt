@@ -10,6 +10,7 @@ unfoldable pub ledger : {A : Type 0} → A → (A → ℕ → A) → Session →
 ledger start account S i zero = start
 ledger start account S i (suc k) = account (ledger start account S i k) (health S i (suc k))
 
+-- any such account is the same at all rule-followers after round k, while the limit is kept up to round k - u
 abbrev pub AnyAccount : Type 1
 AnyAccount =
     (A : Type 0) (start : A) (account : A → ℕ → A) (S : Session) → Accepted S → (last : ℕ) → Bound S last

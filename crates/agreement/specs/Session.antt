@@ -1,5 +1,6 @@
 -- A session: an accepted setup, any cast, and for each round, sender and rule-follower a controller bit and a word of any bits.
 -- (document 01, "A session")
+-- A module is its number less one here: i, j and l stand for modules i + 1, j + 1 and l + 1.
 -- Rounds are 1, 2 and on. Round 0 stands for every round before 1, in which all hear all, with all-ones words: so a difference of
 -- rounds such as k - u - 1, which stops at 0, is right as it stands.
 use Prim.Native.Nat.{ℕ, zero, suc, _+_, _-_, _≤_, _<_}
@@ -20,12 +21,14 @@ use Rattle.presence.specs.declared.State.{State}
 use Rattle.presence.specs.declared.Stepped.{Stepped}
 use Rattle.agreement.specs.Fault.{Round, half, heard, limit}
 
+-- what a session holds; that its setup is accepted and its words are bound is said by `Accepted` and `Bound`
 pub record Session : Type 0 where
   pub setup : Setup
-  -- the rule-breakers, as a vector
+  -- the rule-breakers, as a vector: bit j is module j + 1
   pub cast : ℕ
-  -- by round, receiver and sender
+  -- by round, receiver and sender: the controller bit. What stands for round 0 is not looked at.
   pub controller : ℕ → ℕ → ℕ → Bool
+  -- the word, of any bits, by the same
   pub word : ℕ → ℕ → ℕ → ℕ
 
 module _ (S : Session) where
@@ -33,69 +36,77 @@ module _ (S : Session) where
   abbrev pub Accepted : Type 0
   Accepted = setupVerdict (S .setup) .number ≡ 0
 
+  -- N
   abbrev pub size : ℕ
   size = S .setup .n
 
-  -- rule 1
+  -- u, by rule 1
   abbrev pub u : ℕ
   u = lag size (S .setup .places)
 
+  -- i is not in the cast
   abbrev pub follows : ℕ → Bool
   follows i = not (bit (S .cast) i)
 
+  -- i is one of the N modules, and not in the cast
   pub record RuleFollower (i : ℕ) : Type 0 where
     pub below : i < size
     pub true-to : follows i ≡ true
 
   -- ---- what is heard
 
+  -- the controller bit that receiver i has of sender j in round k; before round 1 it is 1
   unfoldable pub bitIn : ℕ → ℕ → ℕ → Bool
   bitIn zero i j = true
   bitIn (suc k) i j = S .controller (suc k) i j
 
+  -- the word that receiver i has of sender j in round k; before round 1 it is the all-ones word
   unfoldable pub wordIn : ℕ → ℕ → ℕ → ℕ
   wordIn zero i j = busWord (full size)
   wordIn (suc k) i j = S .word (suc k) i j
 
-  -- by rule 2
+  -- round k as it is heard, by rule 2 on these bits and words
   abbrev pub round : ℕ → Round
   round k = record { hears = λ i j. entryOf size (bitIn k i j) (wordIn k i j) .heard; word = wordIn k }
 
   -- ---- what is read: rule 3
 
-  -- the round from which module i has entry j in its read of round k
+  -- the round from which module i has entry j in its read of round k: k where j + 1 is at most its read place, else k - 1
   unfoldable pub readRound : ℕ → ℕ → ℕ → ℕ
   readRound i k j = cond (ltb j (getD (S .setup .places) i 0)) k (k - 1)
 
+  -- the controller bits of module i's read of round k
   abbrev pub readBits : ℕ → ℕ → ℕ
   readBits i k = pack size (λ j. bitIn (readRound i k j) i j)
 
+  -- the words of the same read, as the bytes that its step is lent
   abbrev pub readBytes : ℕ → ℕ → List ℕ
   readBytes i k = bytesOf size (λ j. wordIn (readRound i k j) i j)
 
   -- ---- what a module makes of it: opened with its own number, then one step a round
 
-  -- the answer to step k, from the state that step k - 1 or the opening returned
+  -- what step k of module i answers, from the state st that step k - 1 or the opening returned
   abbrev pub answer : ℕ → ℕ → State → Stepped
   answer i k st = stepOf st (readBytes i k) (readBits i k)
 
+  -- the state of module i after its steps 1 to k; for k = 0 the one that its opening returned
   unfoldable pub state : ℕ → ℕ → State
   state i zero = openOf (S .setup) (i + 1) .state
   state i (suc k) = answer i (suc k) (state i k) .state
 
-  -- all ones before the first step
+  -- the health vector that module i answers in step k; all ones before the first step
   unfoldable pub health : ℕ → ℕ → ℕ
   health i zero = full size
   health i (suc k) = answer i (suc k) (state i k) .health
 
   -- ---- what is sent
 
-  -- the word handed out in step k; before the first step the all-ones word
+  -- the word that module i hands out in step k; before the first step the all-ones word
   unfoldable pub handed : ℕ → ℕ → ℕ
   handed i zero = busWord (full size)
   handed i (suc k) = answer i (suc k) (state i k) .word
 
-  -- the word sent in round k: handed out in that round's step with the send mark, else in the step of the round before
+  -- the word that module i sends in round k: handed out in that round's step with the send mark, else in the step of the round before
   unfoldable pub sent : ℕ → ℕ → ℕ
   sent i k = cond (bit (S .setup .marks) i) (handed i k) (handed i (k - 1))
 
@@ -105,11 +116,14 @@ module _ (S : Session) where
 
   -- ---- the fault limit, by round
 
+  -- no rule-follower hears sender j in round k
   abbrev pub unheard : ℕ → ℕ → Bool
   unheard k j = not (heard size follows (round k) j)
 
+  -- two rule-followers differ in hearing sender j in round k, or both hear it with different words
   abbrev pub halfHeard : ℕ → ℕ → Bool
   halfHeard k j = half size follows (round k) j
 
+  -- the limit is kept for round ρ, over rounds ρ and ρ - u - 1
   unfoldable pub kept : ℕ → Bool
   kept ρ = limit size follows (round ρ) (round (ρ - u - 1))

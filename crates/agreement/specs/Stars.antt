@@ -1,4 +1,4 @@
--- The starred cases of document 01 ("Bench sheet"), and two that no star sees: one table of what the definitions give and what document 01 says.
+-- The starred cases of document 01 ("Bench sheet"), and two that are not starred: one table of what the definitions give and what document 01 says.
 -- The checker computes it whole, in proofs/Stars.antt.
 use Prim.Native.Nat.{ℕ, zero, suc, _+_, _*_}
 use mathlib.Core.Bool.{Bool, true, false, cond, not, _&&_, _||_}
@@ -21,10 +21,12 @@ use Rattle.agreement.specs.Session.{Session, size, round, wordIn, state,
 
 -- ---- the table: what the definitions give, and what document 01 says
 
+-- one line of the table
 pub record Case : Type 0 where
   pub gives : ℕ
   pub says : ℕ
 
+-- a line of two numbers
 abbrev pub case : ℕ → ℕ → Case
 case gives says = record { gives = gives; says = says }
 
@@ -32,6 +34,7 @@ case gives says = record { gives = gives; says = says }
 abbrev pub test : Bool → Bool → Case
 test gives says = case (b2n gives) (b2n says)
 
+-- in every line both are equal
 abbrev pub right : List Case → Bool
 right [] = true
 right (c ∷ cs) = eqb (c .gives) (c .says) && right cs
@@ -49,15 +52,16 @@ sheetBytes =
     bytesOf 7
     (λ i. getD (0x1000_0004 ∷ 0x2000_0001 ∷ 0x3000_0003 ∷ 0x4088_0001 ∷ 0x4108_0001 ∷ 0x4188_0001 ∷ 0x4208_0001 ∷ []) i 0)
 
+-- the setup that these words hold
 abbrev pub sheet : Setup
 sheet = setupOf sheetBytes
 
--- the sheet's limits with other read places and send marks, for n modules
+-- the sheet's limits and criticality with other send marks and read places, for n modules
 abbrev pub like : ℕ → ℕ → List ℕ → Setup
 like n marks places =
     record { n = n; p = 1; r = 3; marks = marks; places = array n (λ j. getD places j 0); criticality = array n (λ j. 1) }
 
--- rule-followers all: who hears whom by round, receiver and sender, and the row sent by round and sender
+-- all follow the rules: who hears whom by round, receiver and sender, and the row sent by round and sender
 abbrev pub session : Setup → (ℕ → ℕ → ℕ → Bool) → (ℕ → ℕ → ℕ) → Session
 session s hears rows = record { setup = s; cast = 0; controller = hears; word = λ k i j. busWord (rows k j) }
 
@@ -68,16 +72,17 @@ bound S last =
     (λ k. all (size S)
     (λ i. all (size S) (λ l. not (round S (suc k) .hears i l) || eqb (wordIn S (suc k) i l) (sent S l (suc k)))))
 
--- the limit was kept so far
+-- the limit was kept in every round from 1 to k
 unfoldable pub keptTo : Session → ℕ → Bool
 keptTo S k = all k (λ ρ. kept S (suc ρ))
 
--- the health vector of round k at all n modules
+-- the health vector that each of the four modules answers in step k
 abbrev pub healths : Session → ℕ → ℕ → List Case
 healths S k says =
     case (printed 4 (health S 0 k)) says ∷ case (printed 4 (health S 1 k)) says
     ∷ case (printed 4 (health S 2 k)) says ∷ case (printed 4 (health S 3 k)) says ∷ []
 
+-- the view of each of the four modules after step k
 abbrev pub views : Session → ℕ → ℕ → List Case
 views S k says =
     case (printed 4 (state S 0 k .counters .view)) says ∷ case (printed 4 (state S 1 k .counters .view)) says
@@ -93,6 +98,7 @@ votes =
 abbrev pub sheetRun : Session
 sheetRun = session sheet (λ k i j. not (eqb k 1 && eqb j 1)) (λ k j. getD (15 ∷ 15 ∷ 13 ∷ []) k 15)
 
+-- the setup is accepted, the session bound; health vectors, views and `in` of both rounds
 abbrev pub sheetCases : List Case
 sheetCases =
     case (checkSetup sheetBytes .number) 0 ∷ test (bound sheetRun 2) true
@@ -104,6 +110,7 @@ abbrev pub markedRun : Session
 markedRun =
     session (like 4 14 (0 ∷ 0 ∷ 1 ∷ 2 ∷ [])) (λ k i j. not (eqb k 1 && eqb j 1)) (λ k j. getD (15 ∷ 15 ∷ 15 ∷ 13 ∷ []) k 15)
 
+-- the session is bound; the health vectors of rounds 1 to 4
 abbrev pub markedCases : List Case
 markedCases =
     test (bound markedRun 4) true
@@ -115,6 +122,7 @@ missRun =
     session sheet (λ k i j. not (eqb k 1 && eqb i 2 && eqb j 0))
     (λ k j. cond (eqb k 2) (cond (eqb j 2) 14 15) (getD (15 ∷ 15 ∷ 15 ∷ 11 ∷ []) k 15))
 
+-- the session is bound; the health vectors of rounds 1 to 4
 abbrev pub missCases : List Case
 missCases =
     test (bound missRun 4) true
@@ -124,6 +132,7 @@ missCases =
 abbrev pub deadRun : Session
 deadRun = session sheet (λ k i j. leb 3 k) (λ k j. getD (15 ∷ 15 ∷ 0 ∷ 0 ∷ []) k 15)
 
+-- the session is bound; the health vectors and views of rounds 2 and 3
 abbrev pub deadCases : List Case
 deadCases =
     test (bound deadRun 3) true
@@ -131,14 +140,16 @@ deadCases =
 
 -- ---- * P = 1: one charge stays in, a second leaves; one charge and three good rounds clear both counters (R = 3)
 
--- module 1 by the health vectors of rounds one after the other, the others always healthy
+-- the counters after rounds with these health vectors, one after the other
 abbrev pub counts : List ℕ → Counters → Counters
 counts [] c = c
 counts (h ∷ hs) c = counts hs (countersOf sheet h c)
 
+-- the counters of a fresh module
 abbrev pub opened : Counters
 opened = fresh sheet 1 .counters
 
+-- By 14 module 1 alone has health 0. The view after one charge and after two; both counters after one charge and two good rounds, then three.
 abbrev pub countCases : List Case
 countCases =
     case (printed 4 (counts (14 ∷ []) opened .view)) 1111 ∷ case (printed 4 (counts (14 ∷ 14 ∷ []) opened .view)) 111
@@ -155,23 +166,26 @@ wordCases =
 abbrev pub halfRun : ℕ → Session
 halfRun n = session (like n 0 (replicate 16 n)) (λ k i j. not (eqb i 1 && eqb j 0)) (λ k j. full n)
 
+-- round 1, for three modules and for four
 abbrev pub halfCases : List Case
 halfCases = test (kept (halfRun 3) 1) false ∷ test (kept (halfRun 4) 1) true ∷ []
 
--- ---- no star sees: u = 1, nobody heard in rounds 2 and 3; the empty votes of step 4 fall back on the syndromes of round 2, all ones, and not
+-- ---- not starred: u = 1, nobody heard in rounds 2 and 3; the empty votes of step 4 fall back on the syndromes of round 2, all ones, and not
 -- on those of round 3, all zeros
 abbrev pub emptyRun : Session
 emptyRun = session (like 4 0 (0 ∷ 0 ∷ 0 ∷ 0 ∷ [])) (λ k i j. not (eqb k 2) && not (eqb k 3)) (λ k j. cond (leb 4 k) 0 15)
 
+-- the session is bound; module 1's syndromes of rounds 3 and 2; the health vectors of step 4, and of step 5, by rows of zeros
 abbrev pub emptyCases : List Case
 emptyCases =
     test (bound emptyRun 5) true ∷ case (printed 4 (state emptyRun 0 3 .latest)) 0 ∷ case (printed 4 (state emptyRun 0 3 .earlier)) 1111
     ∷ healths emptyRun 4 1111 ++ healths emptyRun 5 0
 
--- ---- no star sees: 1, 0, 0 on module 1 give 0, which its own row, a 1, would make a tie
+-- ---- not starred: 1, 0, 0 on module 1 give 0, which its own row, a 1, would make a tie
 abbrev pub ownRowCases : List Case
 ownRowCases = test (voteOf 4 15 (1 ∷ 1 ∷ 0 ∷ 0 ∷ []) 15 0) false ∷ []
 
+-- the whole table
 abbrev pub stars : List Case
 stars =
     votes ++ (sheetCases ++ (markedCases ++ (missCases ++ (deadCases ++ (countCases ++ (wordCases ++ (halfCases ++ (emptyCases ++ ownRowCases))))))))

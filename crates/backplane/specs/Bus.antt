@@ -13,12 +13,13 @@ use Rattle.script.specs.declared.Events.{Events}
 use Rattle.agreement.specs.Fault.{Round}
 use Rattle.backplane.specs.declared.Bus.{Bus}
 
--- ---- by receiver i and sender j
+-- ---- by receiver i + 1 and sender j + 1
 
--- the controller bit, and the word
+-- the controller bit
 abbrev pub bitTo : Bus → ℕ → ℕ → Bool
 bitTo b i j = bit (getD (b .bits) i 0) j
 
+-- the word: its entry stands at 16 * i + j
 abbrev pub wordTo : Bus → ℕ → ℕ → ℕ
 wordTo b i j = getD (b .words) (i * 16 + j) 0
 
@@ -41,10 +42,10 @@ arrived n sent e = record {
 
 -- ---- rule 3: the words of this round for j below the read place, and those of the round before for the others
 
--- of the words of both rounds
+-- the words that receiver i + 1 reads, as bytes, from those of both rounds; the entry of sender j + 1 stands at 16 * i + j
 unfoldable pub readWords : ℕ → ℕ → ℕ → List ℕ → List ℕ → List ℕ
 readWords n place i this before = bytesOf n (λ j. cond (ltb j place) (getD this (i * 16 + j) 0) (getD before (i * 16 + j) 0))
 
--- of the controller bits of both rounds
+-- the controller bits of that read, from those of the receiver in both rounds
 unfoldable pub readBits : ℕ → ℕ → ℕ → ℕ → ℕ
 readBits n place this before = pack n (λ j. bit (cond (ltb j place) this before) j)

@@ -1,5 +1,6 @@
+-- A helper of the contracts of the inner functions of src/half_heard.rt; no public contract rests on it: that of `hearing` names document 01's own
+-- definition (`hearingOf`, Limit.antt), and proofs/HearingLaws.antt shows that both say the same.
 -- How the code finds which senders are half heard: each rule-follower's word of a sender is compared with that of one rule-follower.
--- (The contract of `hearing` names document 01's own definition; proofs/HearingLaws.antt shows that this is the same.)
 use Prim.Native.Nat.{ℕ, _+_, _-_, _*_, _/_, _%_}
 use mathlib.Core.Bool.{Bool, cond, not, _&&_}
 use mathlib.Core.List.{List}
@@ -10,10 +11,11 @@ use Rattle.words.specs.Count.{any, lowest}
 use Rattle.words.specs.Table.{table}
 use Rattle.rules.specs.Hearing.{entryOf}
 
--- the word where it is heard, else 0
+-- the word w where it is heard, else 0, which no heard word is
 unfoldable pub heardWord : ℕ → Bool → ℕ → ℕ
 heardWord n on w = cond (entryOf n on w .heard) w 0
 
+-- the same for every receiver and sender; the entry of receiver i + 1 and sender j + 1 stands at 16 * i + j
 unfoldable pub heardWords : ℕ → List ℕ → List ℕ → List ℕ
 heardWords n bits words = table (λ x. heardWord n (bit (getD bits (x / 16) 0) (x % 16)) (getD words x 0))
 
@@ -21,6 +23,6 @@ heardWords n bits words = table (λ x. heardWord n (bit (getD bits (x / 16) 0) (
 unfoldable pub firstFollower : ℕ → ℕ → ℕ
 firstFollower n cast = lowest n (λ i. not (bit cast i)) - 1
 
--- a rule-follower has another word of sender j than w
+-- a rule-follower has another heard word of sender j + 1 than w
 unfoldable pub otherwise : ℕ → ℕ → List ℕ → ℕ → ℕ → Bool
 otherwise n cast heard j w = any n (λ i. not (bit cast i) && not (eqb (getD heard (i * 16 + j) 0) w))

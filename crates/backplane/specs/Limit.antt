@@ -8,7 +8,7 @@ use Rattle.backplane.specs.Bus.{roundOf}
 use Rattle.backplane.specs.declared.Bus.{Bus}
 use Rattle.backplane.specs.declared.Hearing.{Hearing}
 
--- the rule-followers
+-- module i + 1 is not in the cast
 abbrev pub followsIn : ℕ → ℕ → Bool
 followsIn cast i = not (bit cast i)
 
@@ -33,6 +33,6 @@ isBreaker cast h h′ j = not (isHalf h h′ j) && (bit cast j && (bit (h .heard
 unfoldable pub isUnheard : ℕ → Hearing → Hearing → ℕ → Bool
 isUnheard cast h h′ j = not (isHalf h h′ j) && (not (isBreaker cast h h′ j) && (not (bit (h .heard) j) || not (bit (h′ .heard) j)))
 
--- the limit over a round and the round u + 1 before it
+-- the limit is kept over a round and the round u + 1 before it
 unfoldable pub keptOver : ℕ → ℕ → Hearing → Hearing → Bool
 keptOver n cast h h′ = within n (count n (isHalf h h′)) (count n (isBreaker cast h h′)) (count n (isUnheard cast h h′))

@@ -16,7 +16,7 @@ unfoldable pub linesTo : List ℕ → ℕ → List ℕ
 linesTo s zero = []
 linesTo s (suc k) = linesTo s k ++ printed (runAt s (suc k) .backplane)
 
--- of an accepted script the lines of all its rounds
+-- of an accepted script the lines of all its rounds, of a refused one the line of the refusal
 unfoldable pub outputOf : List ℕ → List ℕ
 outputOf s =
     let v = checkScript s in
@@ -33,12 +33,13 @@ unfoldable pub nextLines : List ℕ → Run → ℕ → List ℕ
 nextLines s r zero = []
 nextLines s r (suc m) = nextLines s r m ++ roundLines (later s r (suc m))
 
+-- part k, from 0 on: the lines of rounds 64k + 1 to 64k + 64, as far as the script has them; of a refused script the line of the refusal
 unfoldable pub partOf : List ℕ → ℕ → List ℕ
 partOf s k =
     let v = checkScript s in
     cond (isAccepted v) (nextLines s (runAt s (k * 64)) 64) (refusedLine (v .number) (v .index))
 
--- how many parts there are
+-- how many parts there are; the last is empty where 64 divides the rounds
 unfoldable pub partsOf : List ℕ → ℕ
 partsOf s = cond (isAccepted (checkScript s)) (roundsOf s / 64 + 1) 1
 

@@ -32,11 +32,11 @@ pub record Sound (b : Backplane) : Type 0 where
   pub entries : length (b .states) ≡ 16
   pub valid : (i : ℕ) → i < b .setup .n → Valid (stateAt (b .states) i)
 
--- Before round 1: every module is opened with its own number.
+-- every module opened with its own number; entries from N on hold the state of module 1 and are not used
 unfoldable pub openedStates : Setup → List State
 openedStates s = updated (s .n) (λ i. openOf s (i + 1) .state) (replicate 16 (openOf s 1 .state))
 
--- and all that the first round looks back on is faultless
+-- before round 1: the opened modules, all-ones health vectors, and faultless rounds before
 unfoldable pub opened : Setup → ℕ → Backplane
 opened s cast =
     let n = s .n in

@@ -29,17 +29,17 @@ begun s =
 unfoldable pub idle : Run
 idle = record { cursor = record { at = 0; left = 0; over = true; events = none }; backplane = opened blankSetup 0 }
 
--- a script is checked whole before anything of it is played
+-- what starting a script answers; it is checked whole before anything of it is played
 unfoldable pub startOf : List ℕ → Started
 startOf s =
     let v = checkScript s in
     record { number = v .number; index = v .index; run = cond (isAccepted v) (begun s) idle }
 
--- The next round, if the script has one. (An accepted script has at most 100,000 rounds.)
+-- there is a next round, at the place c. (The bound does not stop an accepted script, which has at most 100,000 rounds.)
 unfoldable pub goesOn : Cursor → Backplane → Bool
 goesOn c b = not (c .over) && ltb (b .round) 100000
 
--- a script that is over leaves the backplane as it is
+-- the run after its next round; a script that is over leaves the backplane as it is
 unfoldable pub nextOf : List ℕ → Run → Run
 nextOf s r =
     let c = advanced s (r .cursor) in
@@ -50,7 +50,7 @@ unfoldable pub later : List ℕ → Run → ℕ → Run
 later s r zero = r
 later s r (suc m) = nextOf s (later s r m)
 
--- the run after round k
+-- the run of an accepted script after round k
 abbrev pub runAt : List ℕ → ℕ → Run
 runAt s k = later s (begun s) k
 

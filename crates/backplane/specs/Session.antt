@@ -23,10 +23,11 @@ use Rattle.backplane.specs.declared.Bus.{Bus}
 use Rattle.backplane.specs.declared.Hearing.{Hearing}
 use Rattle.backplane.specs.declared.Backplane.{Backplane}
 
--- what becomes in round k of the word from sender j to receiver i, and the word that it is told to send
+-- what becomes in round k of the word from sender j + 1 to receiver i + 1: 0 it arrives as sent, 7 it is lost, 8 a told word arrives
 abbrev pub fateIn : List ℕ → ℕ → ℕ → ℕ → ℕ
 fateIn s k i j = getD (cursorAt s k .events .fate) (i * 16 + j) 0
 
+-- the told word that arrives in its place
 abbrev pub toldIn : List ℕ → ℕ → ℕ → ℕ → ℕ
 toldIn s k i j = getD (cursorAt s k .events .told) (i * 16 + j) 0
 
@@ -68,18 +69,21 @@ pub record Holds (S : Session) (k : ℕ) (b : Backplane) : Type 0 where
   pub hearing : Hears S k (b .hearing)
   pub kept : b .kept ≡ all k (λ ρ. kept S (suc ρ))
 
--- of every round of the script
+-- of every round of an accepted script, and before round 1
 abbrev pub PlaysSession : Type 0
 PlaysSession = (s : List ℕ) → checkScript s .number ≡ 0 → (S : Session) → PlayedBy s S → (k : ℕ) → k ≤ roundsOf s → Holds S k (runAt s k .backplane)
 
 -- Of a round that is printed `in`: all rule-followers have the same health vector and view, and demand 3's other two claims hold of what is printed.
 -- The round judged is r = k - 2u - 1.
 pub record PrintedIn (S : Session) (k : ℕ) (b : Backplane) : Type 0 where
+  -- health vector and view are equal at all rule-followers
   pub same : (i i′ : ℕ) → RuleFollower S i → RuleFollower S i′
       → (getD (b .health) i 0 ≡ getD (b .health) i′ 0)
       × (stateAt (b .states) i .counters .view ≡ stateAt (b .states) i′ .counters .view)
+  -- whoever is unheard in r has health 0 at every rule-follower
   pub charged : (j : ℕ) → j < size S → unheard S (k - 2 * u S - 1) j ≡ true
       → (i : ℕ) → RuleFollower S i → bit (getD (b .health) i 0) j ≡ false
+  -- a rule-follower heard in r by all rule-followers has health 1 at each, unless a sender other than itself was half heard in r - u - 1
   pub cleared : (j : ℕ) → RuleFollower S j → ((l : ℕ) → RuleFollower S l → round S (k - 2 * u S - 1) .hears l j ≡ true)
       → ((l : ℕ) → l < size S → l ≢ j → halfHeard S (k - 2 * u S - 1 - u S - 1) l ≡ false)
       → (i : ℕ) → RuleFollower S i → bit (getD (b .health) i 0) j ≡ true

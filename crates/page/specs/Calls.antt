@@ -17,6 +17,7 @@ pub record PageCalled : Type 0 where
   pub call : Called
   pub page : List ℕ
 
+-- a call with the page at exit
 abbrev pub pageCalled : Called → List ℕ → PageCalled
 pageCalled c page = record { call = c; page = page }
 

@@ -8,10 +8,11 @@ use Rattle.words.specs.Bits.{b2n}
 use Rattle.page.specs.Page.{isPage, startsWord, pageWritten, interruptOn}
 use Rattle.presence.specs.declared.WordAnswer.{WordAnswer}
 
+-- an answer with a word; the index is 0
 abbrev pub tell : ℕ → ℕ → WordAnswer
 tell number word = record { number = number; index = 0; word = word }
 
--- 9, 17
+-- reading the word at a byte offset: 9, 17
 unfoldable pub readCall : List ℕ → ℕ → WordAnswer
 readCall page offset =
     cond (isPage page) (cond (startsWord offset) (tell 0 (wordAt page (offset / 4))) (tell 17 0)) (tell 9 0)
@@ -21,14 +22,15 @@ pub record Written : Type 0 where
   pub answer : WordAnswer
   pub page : List ℕ
 
+-- an answer with the page at exit
 abbrev pub written : WordAnswer → List ℕ → Written
 written a page = record { answer = a; page = page }
 
--- an accepted write tells the interrupt after it
+-- an accepted write tells the interrupt after it, 1 for on
 unfoldable pub wrote : List ℕ → Written
 wrote page = written (tell 0 (b2n (interruptOn page))) page
 
--- 9, 17, then 18 for a write outside words 2 and 3
+-- writing a word at a byte offset: 9, 17, then 18 for a write outside words 2 and 3
 unfoldable pub writeCall : List ℕ → ℕ → ℕ → Written
 writeCall page offset value =
     cond (isPage page)
@@ -37,6 +39,6 @@ writeCall page offset value =
     (written (tell 17 0) page))
     (written (tell 9 0) page)
 
--- 9
+-- whether the interrupt is on, 1 for on: 9
 unfoldable pub interruptCall : List ℕ → WordAnswer
 interruptCall page = cond (isPage page) (tell 0 (b2n (interruptOn page))) (tell 9 0)

@@ -10,6 +10,7 @@ use Rattle.words.specs.Bits.{bit, b2n, full}
 use Rattle.words.specs.Count.{any}
 use Rattle.page.specs.Flags.{joined, cleared, shared}
 
+-- a page has 64 bytes
 abbrev pub isPage : List ℕ → Bool
 isPage page = eqb (length page) 64
 
@@ -19,9 +20,11 @@ startsWord offset = eqb (offset % 4) 0 && ltb offset 64
 
 -- ---- opened: health all ones, the module's view, no flags, enable 0
 
+-- word i of such a page, for n modules
 unfoldable pub openedWord : ℕ → ℕ → ℕ → ℕ
 openedWord n view i = cond (eqb i 0) (full n) (cond (eqb i 1) view 0)
 
+-- the whole page, 16 words
 unfoldable pub pageOpened : ℕ → ℕ → List ℕ
 pageOpened n view = bytesOf 16 (openedWord n view)
 
@@ -35,6 +38,7 @@ somebodyCharged n view health = any n (λ j. bit view j && not (bit health j))
 unfoldable pub raised : ℕ → Bool → Bool → ℕ
 raised flags changed charged = joined flags (b2n changed + b2n charged * 2)
 
+-- words 0 to 2 after the step, the others as they were; the view has changed where word 1 of the lent page differs from `after`
 unfoldable pub pageStepped : ℕ → ℕ → ℕ → ℕ → List ℕ → List ℕ
 pageStepped n before health after page =
     let changed = not (eqb (wordAt page 1) after) in
@@ -42,7 +46,7 @@ pageStepped n before health after page =
 
 -- ---- the host
 
--- a write of word 2, at offset 8, clears the flags written as ones; word 3 is stored whole
+-- a write of word 2, at offset 8, clears the flags written as ones; any other offset stands for that of word 3, which is stored whole
 unfoldable pub pageWritten : ℕ → ℕ → List ℕ → List ℕ
 pageWritten offset value page = cond (eqb offset 8) (putWord page 2 (cleared (wordAt page 2) value)) (putWord page 3 value)
 

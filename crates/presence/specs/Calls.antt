@@ -20,16 +20,19 @@ pub record Called : Type 0 where
   pub answer : Answer
   pub out : List ℕ
 
+-- what a call answers: number, index, and after an accepted step the health vector, else 0
 abbrev pub answer : ℕ → ℕ → ℕ → Answer
 answer number index health = record { number = number; index = index; health = health }
 
+-- an answer with the output at exit
 abbrev pub called : Answer → List ℕ → Called
 called a out = record { answer = a; out = out }
 
+-- a refusal: health 0, and the output as it was
 unfoldable pub refusedCall : ℕ → ℕ → List ℕ → Called
 refusedCall number index out = called (answer number index 0) out
 
--- a state written to the output
+-- an accepted call: number 0 and index 0, and the output is the image of st
 unfoldable pub wrote : ℕ → State → Called
 wrote health st = called (answer 0 0 health) (imageOf st)
 
@@ -70,7 +73,7 @@ saveCall image out =
 unfoldable pub handedOut : State → ℕ
 handedOut st = busWord (cond (markOf st) (st .earlier) (st .latest))
 
--- the outgoing word of an image: 1 to 8
+-- the outgoing word of an image, 0 where it is refused: 1 to 8
 unfoldable pub outgoingCall : List ℕ → WordAnswer
 outgoingCall image =
     let v = checkImage image in

@@ -43,9 +43,11 @@ previousPart st =
 abbrev pub ownPart : State → List ℕ
 ownPart st = wordBytes (ownWord (st .own) (st .counters .view)) ++ previousPart st
 
+-- the image of a state: the bytes of its setup, then the other words
 unfoldable pub imageOf : State → List ℕ
 imageOf st = setupBytes (st .setup) ++ ownPart st
 
+-- the state that the words of s hold, N by the head; whether they are right is checked apart (`checkImage`)
 unfoldable pub stateOf : List ℕ → State
 stateOf s =
     let n = sizeIn (wordAt s 0) in
@@ -75,7 +77,7 @@ loadOf image =
     let v = checkImage image in
     record { number = v .number; index = v .index; state = cond (isAccepted v) (stateOf image) blank }
 
--- the output has the length of the state's image
+-- the output has the length of the state's image, 4N + 6 words
 unfoldable pub roomFor : State → List ℕ → Bool
 roomFor st out = eqb (length out) (imageLength (st .setup .n))
 

@@ -24,7 +24,7 @@ fresh s own = record {
   earlier = full (s .n);
 }
 
--- What a refused opening holds, which document 01 leaves free: nothing at all. A step of it is refused by 2 at 0, since no setup has N = 0.
+-- What a refused opening or reading holds, which document 01 leaves free: all zeros. A step of it is refused by 2 at 0, since no setup has N = 0.
 unfoldable pub blank : State
 blank =
     let zeros : List ℕ = replicate 16 0 in
@@ -37,10 +37,11 @@ blank =
       earlier = 0;
     }
 
--- numbers 1 to 6 of the setup, then 7 with index 0
+-- numbers 2 and 4 to 6 of the setup, then 7 with index 0
 unfoldable pub checkOpening : Setup → ℕ → Verdict
 checkOpening s own = checkFields s (check (between 1 (s .n) own) 7 0 accepted)
 
+-- what an opening answers: the fresh module, or blank where it is refused
 unfoldable pub openOf : Setup → ℕ → Opened
 openOf s own =
     let v = checkOpening s own in

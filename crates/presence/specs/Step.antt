@@ -23,10 +23,11 @@ use Rattle.presence.specs.declared.Stepped.{Stepped}
 abbrev pub skewOf : State → Bool
 skewOf st = skewed (st .setup .n) (st .setup .places)
 
--- the module's own read place and send mark
+-- the module's own read place l; its entry stands at its number less one
 unfoldable pub placeOf : State → ℕ
 placeOf st = getD (st .setup .places) (st .own - 1) 0
 
+-- whether the module has the send mark
 unfoldable pub markOf : State → Bool
 markOf st = bit (st .setup .marks) (st .own - 1)
 
@@ -36,19 +37,19 @@ ownSyndrome st = cond (skewOf st) (st .earlier) (st .latest)
 
 -- ---- a round, from this read
 
--- rule 3
+-- rule 3: this read aligned with the previous one; of reads that rule 3 describes all entries are then of round k - u
 unfoldable pub alignedFor : State → Reading → Reading
 alignedFor st this = alignedOf (st .setup .n) (skewOf st) (placeOf st) (st .previous) this
 
--- rules 4 to 6
+-- rules 4 to 6: the health vector, the accusations and the syndrome of this round
 unfoldable pub judgementFor : State → Reading → Judgement
 judgementFor st this = judgementOf (st .setup .n) (alignedFor st this) (ownSyndrome st)
 
--- rule 7
+-- rule 7: the word handed out
 unfoldable pub outgoingFor : State → Reading → ℕ
 outgoingFor st this = outgoingOf (markOf st) (st .latest) (judgementFor st this .syndrome)
 
--- rule 8, and what the next step needs
+-- rule 8, and what the next step needs: this read, and the syndromes of this round and the one before
 unfoldable pub afterRound : State → Reading → State
 afterRound st this = record {
   setup = st .setup;
@@ -61,11 +62,12 @@ afterRound st this = record {
 
 -- ---- the answer
 
--- a refusal leaves the state as it was
+-- a refusal leaves the state as it was; health, accusations and word are 0
 unfoldable pub refusedStep : State → ℕ → ℕ → Stepped
 refusedStep st number index =
     record { number = number; index = index; health = 0; accusations = replicate 16 0; word = 0; state = st }
 
+-- number 0, what the rules give, and the state after the round
 unfoldable pub acceptedStep : State → Reading → Stepped
 acceptedStep st this = record {
   number = 0;
@@ -76,18 +78,18 @@ acceptedStep st this = record {
   state = afterRound st this;
 }
 
--- Rule 9: the outgoing word is tested as in rule 2.
+-- rule 9: the outgoing word is tested as in rule 2, else number 11 with index 0
 unfoldable pub testedStep : State → Reading → Stepped
 testedStep st this = cond (wordHeard (st .setup .n) (outgoingFor st this)) (acceptedStep st this) (refusedStep st 11 0)
 
--- 9: a read of other than N words; 10: a controller bit at N or above
+-- 9: a read of other than N words; 10: a controller bit at N or above; both with index 0
 unfoldable pub readStep : State → List ℕ → ℕ → Stepped
 readStep st read controller =
     cond (eqb (length read) (st .setup .n * 4))
     (cond (ltb controller (2 ^ st .setup .n)) (testedStep st (readingOf (st .setup .n) read controller)) (refusedStep st 10 0))
     (refusedStep st 9 0)
 
--- a state outside the limits is refused first
+-- what a step answers; a state outside the limits is refused first
 unfoldable pub stepOf : State → List ℕ → ℕ → Stepped
 stepOf st read controller =
     let v = stateVerdict st in

@@ -14,7 +14,7 @@ unfoldable pub charged : ℕ → ℕ → Account → Account
 charged p criticality a =
     record { present = leb (a .penalty + criticality) p; penalty = a .penalty + criticality; reward = 0 }
 
--- health 1 with a penalty: the reward grows by 1, and at R both become 0
+-- health 1 with a penalty: the reward grows by 1, and at R both become 0; without a penalty nothing changes
 unfoldable pub rewarded : ℕ → Account → Account
 rewarded r a =
     cond (eqb (a .penalty) 0) a
@@ -29,10 +29,11 @@ accounted p r criticality healthy a = cond (a .present) (cond healthy (rewarded 
 unfoldable pub accountAt : Counters → ℕ → Account
 accountAt c j = record { present = bit (c .view) j; penalty = getD (c .penalty) j 0; reward = getD (c .reward) j 0 }
 
+-- the account of module j + 1 after a round with this health vector
 unfoldable pub accountedAt : Setup → ℕ → Counters → ℕ → Account
 accountedAt s health c j = accounted (s .p) (s .r) (getD (s .criticality) j 0) (bit health j) (accountAt c j)
 
--- all modules
+-- all modules: the view and the counters after a round with this health vector
 unfoldable pub countersOf : Setup → ℕ → Counters → Counters
 countersOf s health c = record {
   view = pack (s .n) (λ j. accountedAt s health c j .present);

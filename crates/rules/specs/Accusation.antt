@@ -16,5 +16,6 @@ differsAt row health j h = not (eqb h j) && not (Bool·beq (bit row h) (bit heal
 unfoldable pub accusationOf : ℕ → ℕ → ℕ → ℕ → ℕ → ℕ
 accusationOf n voters row health j = cond (bit voters j) (lowest n (differsAt row health j)) 0
 
+-- all modules: entry j is the accusation of module j + 1
 unfoldable pub accusationsOf : ℕ → ℕ → List ℕ → ℕ → List ℕ
 accusationsOf n voters rows health = array n (λ j. accusationOf n voters (getD rows j 0) health j)

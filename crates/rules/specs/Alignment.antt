@@ -11,7 +11,7 @@ use Rattle.rules.specs.declared.Reading.{Reading}
 abbrev pub fromPrevious : Bool → ℕ → ℕ → Bool
 fromPrevious skew place j = skew && ltb j place
 
--- controller bits and words alike
+-- who is heard and the rows, both from the same read
 unfoldable pub alignedOf : ℕ → Bool → ℕ → Reading → Reading → Reading
 alignedOf n skew place previous this = record {
   heard = pack n (λ j. cond (fromPrevious skew place j) (bit (previous .heard) j) (bit (this .heard) j));

@@ -17,13 +17,13 @@ busWord syndrome = 5 * 2 ^ 28 + syndrome
 unfoldable pub wordHeard : ℕ → ℕ → Bool
 wordHeard n w = eqb (w / 2 ^ 28) 5 && ltb (w % 2 ^ 28) (2 ^ n)
 
--- a module whose controller bit is `on` and whose word is w
+-- one module, whose controller bit is `on` and whose word is w: whether it is heard, and its row, 0 where it is missing
 unfoldable pub entryOf : ℕ → Bool → ℕ → Entry
 entryOf n on w =
     let heard = on && wordHeard n w in
     record { heard = heard; row = cond heard (w % 2 ^ 28) 0 }
 
--- all modules of a read
+-- all modules of a read: word j and bit j of `controller` are those of module j + 1
 unfoldable pub readingOf : ℕ → List ℕ → ℕ → Reading
 readingOf n read controller = record {
   heard = pack n (λ j. entryOf n (bit controller j) (wordAt read j) .heard);

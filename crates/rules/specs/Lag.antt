@@ -1,4 +1,4 @@
--- Rule 1: how many rounds lie between a round and the step that votes on its words.
+-- Rule 1: u. Step k votes on the words of round k - u.
 use Prim.Native.Nat.{ℕ}
 use mathlib.Core.Bool.{Bool, not}
 use mathlib.Core.List.{List}

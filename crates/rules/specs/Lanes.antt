@@ -1,3 +1,4 @@
+-- A helper of the contracts of the inner functions of src/vote.rt, `ballot` to `four_from`: no public contract rests on it.
 -- Counting the votes on all modules at once: sixteen counts of at most 15, in four lanes of four.
 use Prim.Native.Nat.{ℕ, _+_, _-_, _*_, _/_, _%_, _^_, _≤_}
 use mathlib.Core.Bool.{Bool, cond, not, _&&_}
@@ -30,7 +31,7 @@ columnIn lane j = lane / 2 ^ (j / 4 * 4) % 16
 unfoldable pub columnOf : List ℕ → ℕ → ℕ
 columnOf lanes j = columnIn (getD lanes (j % 4) 0) j
 
--- the rows present without that of j
+-- how many rows are present without that of j
 abbrev pub votesBut : ℕ → ℕ → ℕ → ℕ
 votesBut present voters j = present - b2n (bit voters j)
 

@@ -15,7 +15,7 @@ use Rattle.rules.specs.declared.Judgement.{Judgement}
 unfoldable pub syndromeOf : ℕ → ℕ → List ℕ → ℕ
 syndromeOf n heard accusations = pack n (λ j. bit heard j && eqb (getD accusations j 0) 0)
 
--- whose rows vote and are accused: all that are present
+-- whose rows vote and can be accused: all that are present
 abbrev pub votersOf : Reading → ℕ
 votersOf aligned = aligned .heard
 

@@ -15,10 +15,10 @@ decision votes ones own = cond (eqb votes 0) own (leb (votes - ones) ones)
 unfoldable pub tally : ℕ → (ℕ → Bool) → (ℕ → Bool) → Bool → Bool
 tally n present says own = decision (count n present) (count n (λ l. present l && says l)) own
 
--- the vote on j over the rows of all voters but j
+-- the vote on j over the rows of all voters but j; an empty one is bit j of the own syndrome
 unfoldable pub voteOf : ℕ → ℕ → List ℕ → ℕ → ℕ → Bool
 voteOf n voters rows own j = tally n (λ l. not (eqb l j) && bit voters l) (λ l. bit (getD rows l 0) j) (bit own j)
 
--- the health vector
+-- the health vector: bit j is the vote on module j + 1
 unfoldable pub healthOf : ℕ → ℕ → List ℕ → ℕ → ℕ
 healthOf n voters rows own = pack n (voteOf n voters rows own)

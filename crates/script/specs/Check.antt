@@ -16,15 +16,15 @@ use Rattle.script.specs.declared.Scan.{Scan}
 
 -- ---- one word after the cast
 
--- 12: a wrong count; 15: over 100,000 rounds
+-- the number by which a play w is refused after so many rounds, or 0. 12: a wrong count; 15: over 100,000 rounds
 unfoldable pub playRefusal : ℕ → ℕ → ℕ
 playRefusal rounds w = cond (playOk w) (cond (leb (rounds + roundsIn w) 100000) 0 15) 12
 
--- 12: a wrong kind, spare bits, sender or mask; 13: a lie by one outside the cast
+-- the number by which a loss or a lie w is refused, or 0. 12: a wrong kind, spare bits, sender or mask; 13: a lie by one outside the cast
 unfoldable pub eventRefusal : ℕ → ℕ → ℕ → ℕ
 eventRefusal n cast w = cond (between 7 8 (kindOf w) && eventOk n w) (cond (eqb (kindOf w) 7 || bit cast (senderIn w - 1)) 0 13) 12
 
--- a told word is taken as it is
+-- the number by which the word w is refused, or 0; a told word is taken as it is
 unfoldable pub refusal : ℕ → ℕ → Scan → ℕ → ℕ
 refusal n cast sc w =
     cond (sc .told) 0
@@ -37,12 +37,13 @@ scanned sc w =
     (cond (eqb (kindOf w) 9) (record { told = false; pending = false; rounds = sc .rounds + roundsIn w })
     (record { told = eqb (kindOf w) 8; pending = true; rounds = sc .rounds }))
 
--- 14 otherwise: no told word missing, every event played, at least one play
+-- no told word missing, every event played, at least one play, else number 14
 unfoldable pub finished : Scan → Bool
 finished sc = not (sc .told) && not (sc .pending) && ltb 0 (sc .rounds)
 
 -- ---- the words that are left, from `at` on
 
+-- 12, 13 and 15 word by word, each at its word; then 14 at the word count
 unfoldable pub scan : List ℕ → ℕ → ℕ → ℕ → ℕ → Scan → Verdict
 scan s n cast zero at sc = check (finished sc) 14 at accepted
 scan s n cast (suc left) at sc =
@@ -50,10 +51,11 @@ scan s n cast (suc left) at sc =
     let number = refusal n cast sc w in
     check (eqb number 0) number at (scan s n cast left (at + 1) (scanned sc w))
 
+-- what is known before the first of these words
 abbrev pub begun : Scan
 begun = record { told = false; pending = false; rounds = 0 }
 
--- the cast stands first; without it 14 at the word count
+-- the cast stands first, else 12, and without any word 14 at the word count; then the words after it
 unfoldable pub checkPlay : List ℕ → ℕ → Verdict
 checkPlay s n =
     let count = length s / 4 in
@@ -61,5 +63,6 @@ checkPlay s n =
     check (ltb (n + 3) count) 14 count
     (check (castOk n cast) 12 (n + 3) (scan s n (castIn cast) (count - (n + 4)) (n + 4) begun))
 
+-- the verdict on a run script
 unfoldable pub checkScript : List ℕ → Verdict
 checkScript s = check (leb (length s) 65536) 16 0 (checkFront s (checkPlay s (sizeIn (wordAt s 0))))

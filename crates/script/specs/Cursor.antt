@@ -17,7 +17,7 @@ use Rattle.script.specs.declared.Cursor.{Cursor}
 unfoldable pub isPlay : ℕ → ℕ → Bool
 isPlay lie w = eqb lie 0 && eqb (kindOf w) 9
 
--- the lie that waits for its told word after the word w
+-- the lie that waits for its told word after the word w, or 0
 unfoldable pub lieAfter : ℕ → ℕ → ℕ
 lieAfter lie w = cond (eqb lie 0 && eqb (kindOf w) 8) w 0
 
@@ -45,7 +45,7 @@ advanced s c =
     cond (eqb (c .left) 0) (gather s (length s / 4 - c .at) (c .at) 0 none)
     (record { at = c .at; left = c .left - 1; over = false; events = none })
 
--- the place of round k
+-- the place of round k; k = 0 is before round 1
 unfoldable pub cursorAt : List ℕ → ℕ → Cursor
 cursorAt s zero = start (sizeIn (wordAt s 0))
 cursorAt s (suc k) = advanced s (cursorAt s k)

@@ -12,7 +12,7 @@ use Rattle.script.specs.declared.Events.{Events}
 unfoldable pub none : Events
 none = record { fate = replicate 256 0; told = replicate 256 0 }
 
--- the event w is about the receiver and the sender whose entry stands at x
+-- the event w is about the receiver i + 1 and the sender j + 1 whose entry stands at x = 16 * i + j
 unfoldable pub concerns : ℕ → ℕ → Bool
 concerns w x = eqb (senderIn w) (x % 16 + 1) && bit (receiversIn w) (x / 16)
 

@@ -22,11 +22,13 @@ roundsOf s =
     let from = sizeIn (wordAt s 0) + 4 in
     lastScan s (length s / 4 - from) from begun .rounds
 
+-- from 1 to 100,000 rounds; the script is not over in any of them, and over after them
 pub record Played (s : List ℕ) : Type 0 where
   pub least : 1 ≤ roundsOf s
   pub most : roundsOf s ≤ 100000
   pub playing : (k : ℕ) → k ≤ roundsOf s → cursorAt s k .over ≡ false
   pub over : (k : ℕ) → roundsOf s < k → cursorAt s k .over ≡ true
 
+-- of every accepted script
 abbrev pub PlaysAll : Type 0
 PlaysAll = (s : List ℕ) → checkScript s .number ≡ 0 → Played s

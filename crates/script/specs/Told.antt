@@ -21,5 +21,6 @@ ToldBy cast e = (x : ℕ) → x < 256 → getD (e .fate) x 0 ≡ 8 → bit cast 
 abbrev pub castOf : List ℕ → ℕ
 castOf s = castIn (wordAt s (sizeIn (wordAt s 0) + 3))
 
+-- of every round of an accepted script
 abbrev pub OnlyCast : Type 0
 OnlyCast = (s : List ℕ) → checkScript s .number ≡ 0 → (k : ℕ) → ToldBy (castOf s) (cursorAt s k .events)

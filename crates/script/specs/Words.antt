@@ -5,29 +5,34 @@ use lib.Dec.{eqb, ltb}
 use Rattle.words.specs.Word.{field}
 use Rattle.setup.specs.Verdict.{between}
 
+-- the kind: the top four bits
 abbrev pub kindOf : ℕ → ℕ
 kindOf w = w / 2 ^ 28
 
--- kind 6: bits 15..0 the rule-breakers, may be 0
+-- kind 6: bits 15..0 the rule-breakers, may be 0; here with the spare bits 27..16, which the check refuses
 abbrev pub castIn : ℕ → ℕ
 castIn w = w % 2 ^ 28
 
+-- kind 6, no bit at N or above, else number 12
 unfoldable pub castOk : ℕ → ℕ → Bool
 castOk n w = eqb (kindOf w) 6 && ltb (castIn w) (2 ^ n)
 
--- kinds 7, a loss, and 8, a lie: 27..23 sender, 15..0 receivers, never empty
+-- kinds 7, a loss, and 8, a lie: bits 27..23 the sender's number
 abbrev pub senderIn : ℕ → ℕ
 senderIn w = field 23 5 w
 
+-- bits 15..0 the receivers, never empty; here with the spare bits 22..16, which the check refuses
 abbrev pub receiversIn : ℕ → ℕ
 receiversIn w = w % 2 ^ 23
 
+-- a sender 1..N, receivers that are not empty and have no bit at N or above, else number 12
 unfoldable pub eventOk : ℕ → ℕ → Bool
 eventOk n w = between 1 n (senderIn w) && ltb 0 (receiversIn w) && ltb (receiversIn w) (2 ^ n)
 
--- kind 9: play n rounds, 1..1,000
+-- kind 9: how many rounds are played
 abbrev pub roundsIn : ℕ → ℕ
 roundsIn w = w % 2 ^ 28
 
+-- kind 9, 1..1,000 rounds, else number 12
 unfoldable pub playOk : ℕ → Bool
 playOk w = eqb (kindOf w) 9 && between 1 1000 (roundsIn w)

@@ -13,34 +13,39 @@ use Rattle.setup.specs.declared.Setup.{Setup}
 abbrev pub headWord : ℕ → ℕ
 headWord n = 1 * 2 ^ 28 + n
 
+-- the N in a head
 abbrev pub sizeIn : ℕ → ℕ
 sizeIn w = w % 2 ^ 5
 
--- kinds 2 and 3: a limit
+-- kinds 2 and 3: bits 27..0 a limit, P or R
 abbrev pub limitWord : ℕ → ℕ → ℕ
 limitWord kind limit = kind * 2 ^ 28 + limit
 
+-- the limit in such a word
 abbrev pub limitIn : ℕ → ℕ
 limitIn w = w % 2 ^ 28
 
--- kind 4: 27..23 number, 22 send mark, 21..17 read place, 16..0 criticality
+-- kind 4, of module j + 1: 27..23 number, 22 send mark, 21..17 read place, 16..0 criticality
 abbrev pub moduleWord : ℕ → Bool → ℕ → ℕ → ℕ
 moduleWord j mark place criticality = 4 * 2 ^ 28 + (j + 1) * 2 ^ 23 + b2n mark * 2 ^ 22 + place * 2 ^ 17 + criticality
 
+-- the send mark in such a word
 abbrev pub markIn : ℕ → Bool
 markIn w = bit w 22
 
+-- the read place in it
 abbrev pub placeIn : ℕ → ℕ
 placeIn w = field 17 5 w
 
+-- the criticality in it
 abbrev pub criticalityIn : ℕ → ℕ
 criticalityIn w = w % 2 ^ 17
 
--- the bytes of a setup of n modules
+-- the length in bytes of a setup of n modules, N + 3 words
 abbrev pub setupLength : ℕ → ℕ
 setupLength n = (n + 3) * 4
 
--- the setup that n module words and their head and limits hold
+-- the setup that the first N + 3 words of s hold, N by the head; whether they are right is checked apart (`checkSetup`)
 unfoldable pub setupOf : List ℕ → Setup
 setupOf s =
     let n = sizeIn (wordAt s 0) in

@@ -6,12 +6,15 @@ use lib.Dec.{eqb, leb}
 use Rattle.words.specs.Count.{lowest}
 use Rattle.setup.specs.declared.Verdict.{Verdict}
 
+-- a number and an index
 abbrev pub verdict : ℕ → ℕ → Verdict
 verdict number index = record { number = number; index = index }
 
+-- nothing is refused: number 0, index 0
 abbrev pub accepted : Verdict
 accepted = verdict 0 0
 
+-- the number is 0
 abbrev pub isAccepted : Verdict → Bool
 isAccepted v = eqb (v .number) 0
 

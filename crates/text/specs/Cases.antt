@@ -5,6 +5,7 @@ use mathlib.Core.List.{[], _∷_}
 use Rattle.text.specs.Text.{decimal}
 use Rattle.text.specs.Lines.{lineOf, refusedLine}
 
+-- each text is written out in ASCII codes
 pub record Cases : Type 0 where
   -- `2 1 1011 1111 in`: health is bits 0, 2 and 3
   pub line : lineOf 4 2 true 0 13 15

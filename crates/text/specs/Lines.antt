@@ -18,7 +18,7 @@ lineWith round n kept i health view =
 abbrev pub lineOf : ℕ → ℕ → Bool → ℕ → ℕ → ℕ → List ℕ
 lineOf n round kept i health view = lineWith (decimal round) n kept i health view
 
--- the lines of the first modules of a round
+-- the lines of the first modules of a round, as many as the last number says
 unfoldable pub linesOf : ℕ → ℕ → Bool → (ℕ → ℕ) → (ℕ → ℕ) → ℕ → List ℕ
 linesOf n round kept health view zero = []
 linesOf n round kept health view (suc i) = linesOf n round kept health view i ++ lineOf n round kept i (health i) (view i)

@@ -10,7 +10,7 @@ unfoldable pub numeral : ℕ → ℕ → List ℕ
 numeral zero n = []
 numeral (suc places) n = cond (ltb n 10) ((48 + n) ∷ []) (numeral places (n / 10) ++ ((48 + n % 10) ∷ []))
 
--- any 32-bit number has at most 10 digits
+-- n in decimal: any 32-bit number has at most 10 digits
 abbrev pub decimal : ℕ → List ℕ
 decimal n = numeral 10 n
 
