@@ -18,7 +18,7 @@ use Rattle.presence.specs.Opening.{blank}
 use Rattle.presence.specs.declared.State.{State}
 use Rattle.presence.specs.declared.Opened.{Opened}
 
--- ---- written and read
+-- ---- written: each part with what follows it, so the last part stands first here
 
 -- penalties, then rewards
 abbrev pub countersPart : State → List ℕ
@@ -46,6 +46,8 @@ ownPart st = wordBytes (ownWord (st .own) (st .counters .view)) ++ previousPart 
 -- the image of a state: the bytes of its setup, then the other words
 unfoldable pub imageOf : State → List ℕ
 imageOf st = setupBytes (st .setup) ++ ownPart st
+
+-- ---- read
 
 -- the state that the words of s hold, N by the head; whether they are right is checked apart (`checkImage`)
 unfoldable pub stateOf : List ℕ → State

@@ -9,7 +9,7 @@ use lib.Dec.{eqb, leb}
 use borrow.Author.Tests.{le-leb}
 use Rattle.words.proofs.TableLaws.{table-length, table-at}
 use Rattle.rules.specs.Vote.{decision}
-use Rattle.rules.specs.VoteTable.{entryOf, voteTable}
+use Rattle.rules.specs.VoteTable.{empty, good, bad, entryOf, voteTable}
 
 abbrev entryAt : ℕ → ℕ
 entryAt k = entryOf (k / 16) (k % 16)
@@ -27,13 +27,13 @@ entry-at votes ones hv ho =
 
 -- what an entry says, with the own syndrome's bit where nobody votes
 abbrev said : ℕ → Bool → Bool
-said entry own = cond (eqb entry 63) own (eqb entry 49)
+said entry own = cond (eqb entry empty) own (eqb entry good)
 
 said-decision : (votes ones : ℕ) (own : Bool) → ones ≤ votes → said (entryOf votes ones) own ≡ decision votes ones own
 unfolding decision entryOf
 said-decision votes ones own h = rw (le-leb ones votes h) (go (eqb votes 0) (leb (votes - ones) ones) own)
   where
-    go : (none more own : Bool) → said (cond none 63 (cond more 49 48)) own ≡ cond none own more
+    go : (none more own : Bool) → said (cond none empty (cond more good bad)) own ≡ cond none own more
     go true more own = refl
     go false true own = refl
     go false false own = refl
