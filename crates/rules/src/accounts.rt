@@ -3,62 +3,33 @@ use crate::Account;
 use crate::Counters;
 use setup::Setup;
 use words::bits::bit_at;
+use words::bits::flag;
+use words::bits::pick;
 use words::bits::with_bit;
 ghost use mathlib.Core.Path.{_≡_};
-ghost use Prim.Native.Nat.{ℕ, _+_, _^_, _≤_, _<_};
+ghost use Prim.Native.Nat.{ℕ, _≤_, _<_};
 ghost use lib.ListN.{getD};
-ghost use Rattle.rules.specs.Account.{charged, rewarded, accounted, accountAt, countersOf};
+ghost use Rattle.rules.specs.Account.{accounted, accountAt, countersOf};
 ghost use Rattle.rules.specs.Range.{InRange};
 
 impl Account {
+    // A module in the view is charged or rewarded; the counters of one out of the view stay. No branch, so that modules are taken four at a time.
     // Health 0: the penalty grows, the reward becomes 0, and above p the module leaves the view.
-    pub fn charged(self, p: u32, criticality: u32) -> Account
-        requires { ⌜ self .penalty + criticality < 2 ^ 32 ⌝ }
-        ensures { λ t. ⌜ t ≡ charged p criticality self ⌝ }
-    {
-        let grown = self.penalty + criticality;
-        Account {
-            present: grown <= p,
-            penalty: grown,
-            reward: 0,
-        }
-    }
-
     // Health 1: with a penalty the reward grows, and at r both become 0.
-    pub fn rewarded(self, r: u32) -> Account
-        requires { ⌜ self .reward + 1 < 2 ^ 32 ⌝ }
-        ensures { λ t. ⌜ t ≡ rewarded r self ⌝ }
-    {
-        if self.penalty == 0 {
-            return self;
-        }
-        let grown = self.reward + 1;
-        if r <= grown {
-            return Account {
-                present: self.present,
-                penalty: 0,
-                reward: 0,
-            };
-        }
-        Account {
-            present: self.present,
-            penalty: self.penalty,
-            reward: grown,
-        }
-    }
-
-    // A module in the view is charged or rewarded; the counters of one out of the view stay.
     pub fn accounted(self, p: u32, r: u32, criticality: u32, healthy: bool) -> Account
         requires { ⌜ InRange criticality self ⌝ }
         ensures { λ t. ⌜ t ≡ accounted p r criticality healthy self ⌝ }
     {
-        if self.present {
-            if healthy {
-                return self.rewarded(r);
-            }
-            return self.charged(p, criticality);
+        let grown = self.penalty + criticality;
+        let charged = self.present & !healthy;
+        let rewarded = self.present & healthy & (self.penalty != 0);
+        let more = self.reward + flag(rewarded);
+        let cleared = rewarded & (r <= more);
+        Account {
+            present: self.present & (healthy | (grown <= p)),
+            penalty: pick(charged, grown, pick(cleared, 0, self.penalty)),
+            reward: pick(charged | cleared, 0, more),
         }
-        self
     }
 }
 

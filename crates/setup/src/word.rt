@@ -12,11 +12,12 @@ pub fn module_fits(n: usize, place: u32, criticality: u32) -> bool
     (place as usize <= n) & ((1 <= criticality) & (criticality <= 100000))
 }
 
-// No send mark, or one on a module other than 1 whose read place is below its number j + 1.
+// No send mark, or one on a module other than 1 whose read place is below its number j + 1. (Compared in 32 bits, as four modules at a time are.)
 pub fn mark_fits(j: usize, mark: bool, place: u32) -> bool
+    requires { ⌜ j < 16 ⌝ }
     ensures { λ r. ⌜ r ≡ markFits j mark place ⌝ }
 {
-    !mark | ((0 < j) & (place as usize <= j))
+    !mark | ((0 < j) & (place <= j as u32))
 }
 
 // Kind 1, N from 2 to 16.
@@ -45,6 +46,7 @@ pub fn module_ok(n: usize, j: usize, w: u32) -> bool
 
 // The send mark of module j + 1.
 pub fn mark_ok(j: usize, w: u32) -> bool
+    requires { ⌜ j < 16 ⌝ }
     ensures { λ r. ⌜ r ≡ markOk j w ⌝ }
 {
     mark_fits(j, bit_at(w, 22), field(w, 17, 5))
