@@ -13,20 +13,20 @@ use script::Cursor;
 use setup::Setup;
 
 // A round as it reaches every receiver: its controller bits, and the words.
-pub struct Bus {
+struct Bus {
     pub bits: [u32; 16],
     pub words: [u32; 256],
 }
 
 // How the rule-followers hear the senders of a round: which are half heard, and which are heard by one of them at least.
-pub struct Hearing {
+struct Hearing {
     pub half: u32,
     pub heard: u32,
 }
 
 // All modules after a round: their states, the health vectors that they answered, the round's bus, how it was heard and how the round before
 // was, and whether the fault limit was kept in every round so far.
-pub struct Backplane {
+struct Backplane {
     setup: Setup,
     cast: u32,
     round: u32,

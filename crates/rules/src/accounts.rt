@@ -16,7 +16,7 @@ impl Account {
     // A module in the view is charged or rewarded; the counters of one out of the view stay. No branch, so that modules are taken four at a time.
     // Health 0: the penalty grows, the reward becomes 0, and above p the module leaves the view.
     // Health 1: with a penalty the reward grows, and at r both become 0.
-    pub fn accounted(self, p: u32, r: u32, criticality: u32, healthy: bool) -> Account
+    fn accounted(self, p: u32, r: u32, criticality: u32, healthy: bool) -> Account
         requires { ⌜ InRange criticality self ⌝ }
         ensures { λ t. ⌜ t ≡ accounted p r criticality healthy self ⌝ }
     {

@@ -27,7 +27,7 @@ pub enum Event {
 }
 
 // One axis: the module that holds it (0 for none) and how deep, whether a move is unfinished, and whether it is stopping.
-pub struct Axis {
+struct Axis {
     holder: u32,
     depth: u32,
     moving: bool,
@@ -35,7 +35,7 @@ pub struct Axis {
 }
 
 // What an axis answers to a begin, an end or a start: 0 and the axis after it, or 20 or 21 and the axis as it was.
-pub struct AxisAnswer {
+struct AxisAnswer {
     number: u32,
     axis: Axis,
 }

@@ -4,7 +4,7 @@ mod event;
 mod play;
 
 // How far a run script has been checked: whether the next word is a told word, whether an event waits for a play, and the rounds so far.
-pub struct Scan {
+struct Scan {
     pub told: bool,
     pub pending: bool,
     pub rounds: u32,
