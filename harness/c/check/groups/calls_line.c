@@ -94,6 +94,12 @@ static int parse_length(const char *text, size_t *len)
     return value <= OUT_MAX;
 }
 
+/* A page that is longer than a test may lend is malformed. */
+static int parse_page(const char *text, struct call *c)
+{
+    return parse_block(text, &c->page, &c->page_len) && c->page_len <= OUT_MAX;
+}
+
 /* The arguments of a call on a page.  Returns 0 if malformed. */
 static int parse_page_call(char **field, struct call *c)
 {
@@ -112,16 +118,16 @@ static int parse_page_call(char **field, struct call *c)
                parse_block(field[2], &c->read, &c->read_len) &&
                parse_number(field[3], 16, &c->argument) &&
                parse_length(field[4], &c->out_len) &&
-               parse_block(field[5], &c->page, &c->page_len);
+               parse_page(field[5], c);
     case PAGE_WRITE:
-        return parse_block(field[1], &c->page, &c->page_len) &&
+        return parse_page(field[1], c) &&
                parse_number(field[2], 10, &c->argument) &&
                parse_number(field[3], 16, &c->value);
     case PAGE_READ:
-        return parse_block(field[1], &c->page, &c->page_len) &&
+        return parse_page(field[1], c) &&
                parse_number(field[2], 10, &c->argument);
     default:
-        return parse_block(field[1], &c->page, &c->page_len);
+        return parse_page(field[1], c);
     }
 }
 
