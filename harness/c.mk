@@ -16,8 +16,6 @@ C_BUILD ?= target/c
 C_FLAGS = -std=c99 -Wall -Wextra -Werror -Iinclude
 C_LINK = -L$(PRESENCE_LIB) -lgirmaut $(PRESENCE_LIBS)
 C_ARCHIVE = $(PRESENCE_LIB)/libgirmaut.a
-C_CHECK = harness/c/check.c harness/c/plain.c harness/c/plain_page.c
-C_HEADERS = include/presence.h harness/c/plain.h
 
 .PHONY: check check-asan check-valgrind header firmware stage measure c-all
 
@@ -59,13 +57,17 @@ measure: $(C_ARCHIVE)
 $(C_BUILD):
 	mkdir -p $(C_BUILD)
 
-$(C_BUILD)/check: $(C_CHECK) $(C_HEADERS) $(C_ARCHIVE) | $(C_BUILD)
-	gcc $(C_FLAGS) -O2 $(C_CHECK) $(C_LINK) -o $@
+CHECK = $(wildcard harness/c/check/*.c harness/c/check/groups/*.c) harness/c/plain.c harness/c/plain_page.c
+CHECK_HEADERS = $(wildcard harness/c/check/*.h harness/c/check/groups/*.h) harness/c/plain.h include/presence.h
+CHECK_NEEDS = $(CHECK) $(CHECK_HEADERS) $(C_ARCHIVE)
 
-$(C_BUILD)/check-asan: $(C_CHECK) $(C_HEADERS) $(C_ARCHIVE) | $(C_BUILD)
-	gcc $(C_FLAGS) -O1 -g -fsanitize=address,undefined -fno-sanitize-recover=all $(C_CHECK) $(C_LINK) -o $@
+$(C_BUILD)/check: $(CHECK_NEEDS) | $(C_BUILD)
+	gcc $(C_FLAGS) -Iharness/c -O2 $(CHECK) $(C_LINK) -o $@
 
-$(C_BUILD)/card: examples/firmware/card.c $(C_HEADERS) $(C_ARCHIVE) | $(C_BUILD)
+$(C_BUILD)/check-asan: $(CHECK_NEEDS) | $(C_BUILD)
+	gcc $(C_FLAGS) -Iharness/c -O1 -g -fsanitize=address,undefined -fno-sanitize-recover=all $(CHECK) $(C_LINK) -o $@
+
+$(C_BUILD)/card: examples/firmware/card.c include/presence.h $(C_ARCHIVE) | $(C_BUILD)
 	gcc $(C_FLAGS) -O2 examples/firmware/card.c $(C_LINK) -o $@
 
 STAGE = examples/stage/stage.c

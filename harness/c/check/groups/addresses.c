@@ -1,0 +1,63 @@
+/* addresses.c - calls at all addresses modulo 8. */
+#include "check/groups/groups.h"
+
+#include <string.h>
+
+#include "check/inputs.h"
+#include "check/place.h"
+#include "check/report.h"
+#include "check/sizes.h"
+
+/* An accepted call: the arguments that op takes of those given. */
+static struct call accepted_call(enum op op, uint32_t n, const uint8_t *setup,
+                                 const uint8_t *image, const uint8_t *read,
+                                 uint32_t controller)
+{
+    int of_setup = op == SETUP || op == OPEN;
+    int writes = op != SETUP && op != OUTGOING;
+    struct call c = {.op = op, .read = read};
+
+    c.in = of_setup ? setup : image;
+    c.in_len = of_setup ? PRESENCE_SETUP_BYTES(n) : PRESENCE_IMAGE_BYTES(n);
+    c.read_len = op == STEP ? PRESENCE_READ_BYTES(n) : 0;
+    c.argument = op == OPEN ? n : controller;
+    c.out_len = writes ? PRESENCE_IMAGE_BYTES(n) : 0;
+    return c;
+}
+
+static void call_at_all_addresses(const struct call *c)
+{
+    struct result wanted, r;
+    size_t in_off, read_off, out_off;
+
+    call_plain(c, &wanted);
+    for (in_off = 0; in_off < 8; in_off++)
+        for (read_off = 0; read_off < 8; read_off++)
+            for (out_off = 0; out_off < 8; out_off++) {
+                place_call(c, in_off, read_off, out_off, &r);
+                same("number", r.number, 0);
+                same("health or word", r.value, wanted.value);
+                if (memcmp(r.out, wanted.out, c->out_len) != 0)
+                    differ("image", 1, 0);
+            }
+}
+
+void group_addresses(void)
+{
+    uint8_t s[PRESENCE_MAX_SETUP_BYTES], image[IMAGE_MAX];
+    uint8_t read[PRESENCE_MAX_READ_BYTES];
+    struct call c;
+    uint32_t n, op, controller;
+
+    begin_group("odd addresses");
+    for (n = 2; n <= MAX_N; n += 7) {
+        random_setup(s, n, 1, 5, 3);
+        lived_image(image, s, n, 1, 30);
+        for (op = SETUP; op <= OUTGOING; op++) {
+            controller = random_read(read, n, 4);
+            c = accepted_call((enum op)op, n, s, image, read, controller);
+            call_at_all_addresses(&c);
+        }
+    }
+    end_group();
+}

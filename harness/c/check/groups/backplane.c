@@ -1,0 +1,72 @@
+/* backplane.c - modules on a backplane, round after round. */
+#include "check/groups/backplane.h"
+
+#include "check/expect.h"
+#include "check/words.h"
+
+/* Before round 1 all count as heard with all ones. */
+static void open_all(struct backplane *b)
+{
+    uint32_t n = b->n, i, j;
+
+    for (i = 0; i < n; i++) {
+        open_module(b->setup, PRESENCE_SETUP_BYTES(n), i + 1,
+                    PRESENCE_IMAGE_BYTES(n), 0, 0, b->image[i]);
+        for (j = 0; j < n; j++)
+            put(b->read[i], j, 0x50000000 | ones(n));
+        b->controller[i] = ones(n);
+    }
+}
+
+/* Module i + 1 takes the word that its image hands out. */
+static void take_word(struct backplane *b, uint32_t i)
+{
+    b->word[i] = outgoing(b->image[i], PRESENCE_IMAGE_BYTES(b->n), 0, 0);
+}
+
+/* Module j sends in round k. */
+static void send_word(struct backplane *b, uint32_t k, uint32_t j)
+{
+    uint32_t bit = 1u << (j - 1), i;
+
+    for (i = 0; i < b->n; i++) {
+        put(b->read[i], j - 1, b->word[j - 1]);
+        b->controller[i] |= bit;
+        if (b->silent[k][j - 1] >> i & 1)
+            b->controller[i] &= ~bit;
+    }
+}
+
+/* Those with read place l make their step of round k. */
+static void step_at(struct backplane *b, uint32_t k, uint32_t l)
+{
+    size_t len = PRESENCE_IMAGE_BYTES(b->n);
+    uint32_t n = b->n, i, of_setup;
+
+    for (i = 0; i < n; i++) {
+        of_setup = get(b->setup, 3 + i);
+        if ((of_setup >> 17 & 0x1F) != l)
+            continue;
+        b->health[k][i] = step(b->image[i], len, b->read[i], 4 * n,
+                               b->controller[i], len, 0, 0, b->image[i]);
+        b->view[k][i] = PRESENCE_VIEW(b->image[i], n);
+        if (of_setup >> 22 & 1) /* with the mark */
+            take_word(b, i);
+    }
+}
+
+void play(struct backplane *b, uint32_t rounds)
+{
+    uint32_t i, k, l;
+
+    open_all(b);
+    for (k = 1; k <= rounds; k++) {
+        for (i = 0; i < b->n; i++) /* word of the step before, rule 7 */
+            take_word(b, i);
+        step_at(b, k, 0);
+        for (l = 1; l <= b->n; l++) {
+            send_word(b, k, l);
+            step_at(b, k, l);
+        }
+    }
+}

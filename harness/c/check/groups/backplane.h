@@ -1,0 +1,26 @@
+/* backplane.h - modules on a backplane, round after round. */
+#ifndef CHECK_BACKPLANE_H
+#define CHECK_BACKPLANE_H
+
+#include "check/sizes.h"
+
+#define ROUNDS 8 /* most rounds that are played */
+
+/* A backplane; n, setup and silent are given.  Module j stands at j-1, round k
+   at k. */
+struct backplane {
+    uint32_t n;
+    const uint8_t *setup;
+    uint32_t silent[ROUNDS + 1][MAX_N]; /* receivers without j */
+    uint8_t image[MAX_N][IMAGE_MAX];
+    uint32_t word[MAX_N]; /* what the module sends next */
+    uint8_t read[MAX_N][PRESENCE_MAX_READ_BYTES];
+    uint32_t controller[MAX_N];
+    uint32_t health[ROUNDS + 1][MAX_N];
+    uint32_t view[ROUNDS + 1][MAX_N];
+};
+
+/* Opens all modules and plays rounds 1, 2, ...; every call must be accepted. */
+void play(struct backplane *b, uint32_t rounds);
+
+#endif

@@ -1,0 +1,150 @@
+/* setups_refused.c - setups with a wrong word: answers 2, 4, 5 and 6. */
+#include "check/groups/groups.h"
+
+#include <string.h>
+
+#include "check/expect.h"
+#include "check/inputs.h"
+#include "check/report.h"
+#include "check/sizes.h"
+#include "check/words.h"
+
+/*
+ * A faulty setup of the right length: refused by the setup check and the
+ * opening, and in an image by step, saving and outgoing word, always with the
+ * same number and index.
+ */
+static void refused_setup(const uint8_t *setup, uint32_t n, uint32_t number,
+                          uint32_t index)
+{
+    uint8_t good[PRESENCE_MAX_SETUP_BYTES], image[IMAGE_MAX];
+    uint8_t read[PRESENCE_MAX_READ_BYTES];
+    size_t setup_len = PRESENCE_SETUP_BYTES(n);
+    size_t image_len = PRESENCE_IMAGE_BYTES(n);
+
+    check_setup(setup, setup_len, number, index);
+    open_module(setup, setup_len, 1, image_len, number, index, NULL);
+    /* Own number and output wrong too: the lower number counts. */
+    open_module(setup, setup_len, 0, 7, number, index, NULL);
+
+    usual_setup(good, n);
+    open_module(good, setup_len, 1, image_len, 0, 0, image);
+    memcpy(image, setup, setup_len);
+    memset(read, 0, sizeof read);
+    save(image, image_len, image_len, number, index);
+    outgoing(image, image_len, number, index);
+    step(image, image_len, read, 4 * n, 0, image_len, number, index, NULL);
+    /* The rest of the image, the lengths and the controller wrong too. */
+    memset(image + setup_len, 0xFF, image_len - setup_len);
+    step(image, image_len, read, 3, 0xFFFFFFFF, 5, number, index, NULL);
+    save(image, image_len, 0, number, index);
+}
+
+/* The usual setup with one word replaced, which is named. */
+static void refused_setup_word(uint8_t *setup, uint32_t n, uint32_t at,
+                               uint32_t word, uint32_t number)
+{
+    usual_setup(setup, n);
+    put(setup, at, word);
+    refused_setup(setup, n, number, at);
+}
+
+/* 2 */
+static void heads_refused(uint32_t n)
+{
+    static const uint32_t heads[] = {
+        0x10000000, 0x10000001, 0x10000011, 0x1000001F, 0x10000024, 0x18000004,
+        0x00000004, 0x20000004, 0x90000004, 0xF0000004, 0xFFFFFFFF, 0x10010004
+    };
+    uint8_t s[PRESENCE_MAX_SETUP_BYTES];
+    uint32_t i;
+
+    for (i = 0; i < COUNT(heads); i++)
+        refused_setup_word(s, n, 0, heads[i], 2);
+}
+
+/* 4 at word 1, at word 2, at both */
+static void limits_refused(uint32_t n)
+{
+    static const uint32_t penalty_limits[] = {
+        0x20000000, 0x200F4241, 0x2FFFFFFF, 0x28000001, 0x30000005, 0x00000005,
+        0xA0000005
+    };
+    static const uint32_t reward_limits[] = {
+        0x30000000, 0x307A1201, 0x3FFFFFFF, 0x38000001, 0x20000005, 0x40000005,
+        0xB0000005
+    };
+    uint8_t s[PRESENCE_MAX_SETUP_BYTES];
+    uint32_t i;
+
+    for (i = 0; i < COUNT(penalty_limits); i++) {
+        refused_setup_word(s, n, 1, penalty_limits[i], 4);
+        put(s, 2, 0x30000000);
+        put(s, 3, 0);
+        refused_setup(s, n, 4, 1);
+    }
+    for (i = 0; i < COUNT(reward_limits); i++) {
+        refused_setup_word(s, n, 2, reward_limits[i], 4);
+        put(s, 3, module_word(1, 1, n, 1));
+        refused_setup(s, n, 4, 2);
+    }
+}
+
+/* 5 at module j */
+static void module_words_refused(uint32_t n, uint32_t j)
+{
+    const uint32_t wrong[] = {
+        module_word(j, 0, n + 1, 1), /* l over N */
+        module_word(j, 0, n, 0),     /* criticality */
+        module_word(j, 0, n, 100001),
+        module_word(j - 1, 0, n, 1), /* out of turn */
+        module_word(j + 1, 0, n, 1),
+        0x50000000 | (module_word(j, 0, n, 1) & 0x0FFFFFFF),
+        module_word(j, 1, 31, 131071),
+        0
+    };
+    uint8_t s[PRESENCE_MAX_SETUP_BYTES];
+    uint32_t i;
+
+    for (i = 0; i < COUNT(wrong); i++) {
+        refused_setup_word(s, n, 2 + j, wrong[i], 5);
+        /* A second one further on: the first is named. */
+        put(s, 2 + n, 0);
+        refused_setup(s, n, 5, 2 + j);
+        /* A wrong mark before it: 5 goes before 6. */
+        if (j > 1) {
+            put(s, 3, module_word(1, 1, 0, 1));
+            refused_setup(s, n, 5, 2 + j);
+        }
+    }
+}
+
+/* 6 at module j */
+static void marks_refused(uint32_t n, uint32_t j)
+{
+    uint8_t s[PRESENCE_MAX_SETUP_BYTES];
+    uint32_t l;
+
+    /* Every l that is the own number or more; every l at module 1. */
+    for (l = j == 1 ? 0 : j; l <= n; l++)
+        refused_setup_word(s, n, 2 + j, module_word(j, 1, l, 1), 6);
+    /* Two wrong marks: the first is named. */
+    put(s, 2 + n, module_word(n, 1, n, 1));
+    refused_setup(s, n, 6, 2 + j);
+}
+
+void group_setups_refused(void)
+{
+    uint32_t n, j;
+
+    begin_group("setups refused");
+    for (n = 2; n <= MAX_N; n++) {
+        heads_refused(n);
+        limits_refused(n);
+        for (j = 1; j <= n; j++) {
+            module_words_refused(n, j);
+            marks_refused(n, j);
+        }
+    }
+    end_group();
+}

@@ -1,0 +1,11 @@
+/* sizes.h - sizes that several files need. */
+#ifndef CHECK_SIZES_H
+#define CHECK_SIZES_H
+
+#include "presence.h"
+
+#define MAX_N PRESENCE_MAX_MODULES
+#define IMAGE_MAX PRESENCE_MAX_IMAGE_BYTES
+#define COUNT(array) (sizeof (array) / sizeof (array)[0])
+
+#endif

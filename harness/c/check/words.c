@@ -1,0 +1,81 @@
+/* words.c - words of setups and images, and where they stand. */
+#include "check/words.h"
+
+uint32_t get(const uint8_t *bytes, uint32_t index)
+{
+    const uint8_t *b = bytes + 4 * index;
+
+    return (uint32_t)b[0] << 24 | (uint32_t)b[1] << 16 | (uint32_t)b[2] << 8 |
+           (uint32_t)b[3];
+}
+
+void put(uint8_t *bytes, uint32_t index, uint32_t word)
+{
+    uint8_t *b = bytes + 4 * index;
+
+    b[0] = (uint8_t)(word >> 24);
+    b[1] = (uint8_t)(word >> 16);
+    b[2] = (uint8_t)(word >> 8);
+    b[3] = (uint8_t)word;
+}
+
+uint32_t ones(uint32_t n)
+{
+    return (1u << n) - 1;
+}
+
+uint32_t own_at(uint32_t n)
+{
+    return n + 3;
+}
+
+uint32_t previous_at(uint32_t n, uint32_t j)
+{
+    return n + 3 + j;
+}
+
+uint32_t latest_at(uint32_t n)
+{
+    return 2 * n + 4;
+}
+
+uint32_t before_at(uint32_t n)
+{
+    return 2 * n + 5;
+}
+
+uint32_t penalty_at(uint32_t n, uint32_t j)
+{
+    return 2 * n + 5 + j;
+}
+
+uint32_t reward_at(uint32_t n, uint32_t j)
+{
+    return 3 * n + 5 + j;
+}
+
+uint32_t module_word(uint32_t j, uint32_t mark, uint32_t l,
+                     uint32_t criticality)
+{
+    return 0x40000000 | j << 23 | mark << 22 | l << 17 | criticality;
+}
+
+uint32_t own_word(uint32_t own, uint32_t view)
+{
+    return 0xA0000000 | own << 16 | view;
+}
+
+uint32_t previous_word(uint32_t j, uint32_t heard, uint32_t row)
+{
+    return 0xB0000000 | j << 23 | heard << 22 | row;
+}
+
+uint32_t penalty_word(uint32_t j, uint32_t penalty)
+{
+    return 0xD0000000 | j << 23 | penalty;
+}
+
+uint32_t reward_word(uint32_t j, uint32_t reward)
+{
+    return 0xE0000000 | j << 23 | reward;
+}

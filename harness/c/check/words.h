@@ -1,0 +1,33 @@
+/*
+ * words.h - words of setups and images, and where they stand.  The tables are
+ * in presence.h.
+ */
+#ifndef CHECK_WORDS_H
+#define CHECK_WORDS_H
+
+#include <stdint.h>
+
+/* The word at an index from 0. */
+uint32_t get(const uint8_t *bytes, uint32_t index);
+void put(uint8_t *bytes, uint32_t index, uint32_t word);
+
+/* The vector of all N modules. */
+uint32_t ones(uint32_t n);
+
+/* Index of a word of an image of N modules; of module j where there are N. */
+uint32_t own_at(uint32_t n);
+uint32_t previous_at(uint32_t n, uint32_t j);
+uint32_t latest_at(uint32_t n);
+uint32_t before_at(uint32_t n);
+uint32_t penalty_at(uint32_t n, uint32_t j);
+uint32_t reward_at(uint32_t n, uint32_t j);
+
+/* Words by what they hold; l is the read place. */
+uint32_t module_word(uint32_t j, uint32_t mark, uint32_t l,
+                     uint32_t criticality);
+uint32_t own_word(uint32_t own, uint32_t view);
+uint32_t previous_word(uint32_t j, uint32_t heard, uint32_t row);
+uint32_t penalty_word(uint32_t j, uint32_t penalty);
+uint32_t reward_word(uint32_t j, uint32_t reward);
+
+#endif
