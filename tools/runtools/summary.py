@@ -1,6 +1,8 @@
 """A run in plain text: who was charged, who left the view, when the limit was broken, whether the modules agreed."""
 
 from .account import plural, rounds_text
+from .causes import Causes
+from .causetext import cause_lines
 
 
 def summary(account):
@@ -52,10 +54,13 @@ def detail_lines(account, number):
 
 def charge_lines(account):
     lines = ["Charged (health 0 while in the view):"]
+    causes = Causes(account) if account.script else None
     for j, by_judges in enumerate(account.charges(), 1):
         for judges, rounds in in_order(by_judges):
             count = f"{len(rounds):,} {plural(len(rounds), 'charge')}"
             lines.append(f"  module {account_label(account, j)}: {count} in {rounds_text(rounds)}{only_by(account, judges)}")
+            if causes:
+                lines += ["    " + line for line in cause_lines(account.script, causes, j, rounds, judges)]
     return lines if len(lines) > 1 else lines + ["  nobody"]
 
 

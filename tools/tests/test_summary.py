@@ -29,6 +29,7 @@ agreement: all rule-followers gave the same health and view in every round
 
 Charged (health 0 while in the view):
   module 2: 1 charge in round 2
+    round 2: its word of round 1 was lost to everybody
 
 Left the view:
   nobody
