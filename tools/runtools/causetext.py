@@ -4,6 +4,7 @@ from .account import plural, rounds_text
 
 MOST_CAUSES = 8      # lines below a line of charges
 MOST_SENDERS = 2     # of whom a line says what became of their words
+MOST_NAMES = 3       # longer lists of modules have their numbers only
 
 
 def cause_lines(script, causes, module, rounds, judges):
@@ -70,12 +71,16 @@ def to_whom(script, sender, receivers):
     if not left:
         return "everybody"
     if 2 * len(left) < len(named):
-        return "everybody but " + ", ".join(map(script.label, left))
+        return "everybody but " + labels(script, left)
     return modules_label(script, named)
 
 
 def modules_label(script, modules):
-    return f"{plural(len(modules), 'module')} {', '.join(map(script.label, modules))}"
+    return f"{plural(len(modules), 'module')} {labels(script, modules)}"
+
+
+def labels(script, modules):
+    return ", ".join(map(script.label if len(modules) <= MOST_NAMES else str, modules))
 
 
 def span(first, last):
