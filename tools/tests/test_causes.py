@@ -3,6 +3,7 @@ import unittest
 from common import SHEET, bench, needs_bench, printed, read, root, stored
 
 from runtools import check, script
+from runtools import words as w
 from runtools.account import Account
 from runtools.assemble import assemble
 from runtools.causes import Causes
@@ -30,14 +31,42 @@ def vote(hearing, judge, module, number):
     return sum(rows) * 2 >= len(rows) if rows else hearing.sent(judge, number - hearing.u) >> (module - 1) & 1
 
 
+def named_events(cause, module, number, u):
+    """Sender and round of each event that a cause names."""
+    judged, reported, voted = number - 2 * u - 1, number - 3 * u - 2, number - u
+    events = {(module, judged)} if cause.own else set()
+    events |= {(sender.module, reported) for sender in cause.senders}
+    events |= {(liar, voted) for liar in cause.liars}
+    return events | {(liar, judged) for _, liars in cause.lied_about for liar in liars}
+
+
+def without(data, loaded, left_out):
+    """The bytes of a script without the events of these senders and rounds."""
+    words = w.to_words(data)[:loaded.n + 4]
+    for number in range(1, loaded.rounds + 1):
+        for sender, events in loaded.events.get(number, {}).items():
+            if (sender, number) not in left_out:
+                words += [w.event_word(w.LOSS, sender, w.mask_of([receiver])) for receiver in events.losses]
+                for receiver, told in events.lies:
+                    words += [w.event_word(w.LIE, sender, w.mask_of([receiver])), told]
+        words.append(w.make(w.PLAY, 1))
+    return w.to_bytes(words)
+
+
+def charges(account):
+    for module, by_judges in enumerate(account.charges(), 1):
+        for judges, rounds in by_judges.items():
+            yield from ((module, number, judges) for number in rounds)
+
+
 class StoredRuns(unittest.TestCase):
-    def accounts(self):
-        for name, data, output in stored():
+    def accounts(self, *folders):
+        for name, data, output in stored(*folders):
             if check.refusal(data) is None:
-                yield name, Account(read_run(output.splitlines(True)), script.load(data, name))
+                yield name, data, Account(read_run(output.splitlines(True)), script.load(data, name))
 
     def test_the_words_heard_give_the_printed_health(self):
-        for name, account in self.accounts():
+        for name, _, account in self.accounts():
             hearing = Hearing(account.run, account.script)
             modules = range(1, account.n + 1)
             for number in range(1, len(account.run.rounds) + 1):
@@ -47,14 +76,26 @@ class StoredRuns(unittest.TestCase):
 
     def test_every_charge_has_a_cause(self):
         found = 0
-        for name, account in self.accounts():
+        for name, _, account in self.accounts():
             causes = Causes(account)
-            for module, by_judges in enumerate(account.charges(), 1):
-                for judges, rounds in by_judges.items():
-                    for number in rounds:
-                        self.assertTrue(causes.of(module, number, judges).explained, (name, module, number))
-                        found += 1
+            for charge in charges(account):
+                self.assertTrue(causes.of(*charge).explained, (name, charge))
+                found += 1
         self.assertGreater(found, 500)
+
+    @needs_bench
+    def test_without_the_events_that_are_named_there_is_no_charge(self):
+        played = 0
+        for name, data, account in self.accounts("vectors"):
+            causes = Causes(account)
+            for module, number, judges in charges(account):
+                # outside the limit another event may take the place of one that is left out
+                if account.run.rounds[number - 1].kept:
+                    events = named_events(causes.of(module, number, judges), module, number, account.script.u)
+                    run = read_run(bench(without(data, account.script, events)).splitlines(True))
+                    self.assertEqual({run.rounds[number - 1].rows[i - 1][0][module - 1] for i in judges}, {"1"}, (name, module, number))
+                    played += 1
+        self.assertGreater(played, 50)
 
 
 @needs_bench
