@@ -25,6 +25,9 @@ class Account:
         self._known = {}
         self.first_out = next((k for k, round_ in enumerate(run.rounds, 1) if not round_.kept), None)
 
+    def label(self, module):
+        return self.script.label(module) if self.script else str(module)
+
     def rounds(self):
         """Number, round, and the round before, for every round."""
         before = self._fresh

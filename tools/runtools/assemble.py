@@ -8,7 +8,7 @@ A line holds one statement; everything from a # on is a comment.
     module 1 x-axis place 4 criticality 1      one line for each module in turn; the name may be left out,
     module 2 place 1 criticality 1 mark        and may later stand in place of the number; mark is the send mark
     ...
-    cast none                                  the rule-breakers: none, all, or a list
+    cast none                                  the rule-breakers: none, all, all but a list, or a list
     loss 2 to all                              in the next round nobody hears module 2
     loss x-axis to 3 4                         receivers: all, all but a list, or a list
     lie 2 to 3 says 1011                       module 2 is in the cast: module 3 hears this syndrome, module 1 leftmost
@@ -31,7 +31,7 @@ FORMS = {
     "penalty": "penalty limit P",
     "reward": "reward limit R",
     "module": "module NUMBER [NAME] place L criticality C [mark]",
-    "cast": "cast none, cast all or cast MODULES",
+    "cast": "cast none, cast all, cast all but MODULES or cast MODULES",
     "loss": "loss SENDER to RECEIVERS",
     "lie": "lie SENDER to RECEIVERS says VECTOR, or ... word 0xHEX",
     "play": "play ROUNDS",

@@ -79,11 +79,15 @@ def told_text(told, n):
 
 
 def modules_text(mask, n):
+    """A mask as the language has it; by those left out where they are few."""
     if mask == 0:
         return "none"
     if mask == w.all_modules(n):
         return "all"
-    return " ".join(str(j) for j in w.modules_of(mask))
+    listed, left = w.modules_of(mask), w.modules_of(w.all_modules(n) & ~mask)
+    if 2 * len(left) < len(listed):
+        return "all but " + " ".join(map(str, left))
+    return " ".join(map(str, listed))
 
 
 def rounds_text(first, last):

@@ -41,8 +41,8 @@ def account(args):
 
 def read_run(file):
     if file == "-":
-        return lines.read_run(io.TextIOWrapper(sys.stdin.buffer, encoding="utf-8"))
-    with open(file, encoding="utf-8") as opened:
+        return lines.read_run(io.TextIOWrapper(sys.stdin.buffer, encoding="utf-8-sig"))
+    with open(file, encoding="utf-8-sig") as opened:
         return lines.read_run(opened)
 
 

@@ -62,12 +62,16 @@ def by_sender(pending):
     return found
 
 
+def is_text(data):
+    """Whether these bytes are a script text rather than a script: every script has a 0 in its head, and a text has none."""
+    return bool(data) and b"\0" not in data
+
+
 def load(data, name):
     """The Script of a file's bytes, which hold a script or its text; a ValueError with one sentence if it is refused."""
-    # every script of bytes has a 0 in its head, and a text has none
-    if b"\0" not in data:
+    if is_text(data):
         try:
-            source = assemble(data.decode("utf-8"))
+            source = assemble(data.decode("utf-8-sig"))
         except ScriptError as error:
             raise ValueError(f"{name}:{error.line}: {error}") from None
         except UnicodeDecodeError:

@@ -1,6 +1,8 @@
 """A run in plain text: who was charged, who left the view, when the limit was broken, whether the modules agreed."""
 
 from .account import plural, rounds_text
+from .causes import Causes
+from .causetext import cause_lines
 
 
 def summary(account):
@@ -47,15 +49,18 @@ def agreement_lines(account):
 def detail_lines(account, number):
     """What each rule-follower says in a round in which they differ."""
     rows = account.run.rounds[number - 1].rows
-    return [f"    round {number}, module {account_label(account, i)}: health {rows[i - 1][0]}, view {rows[i - 1][1]}" for i in account.judges]
+    return [f"    round {number}, module {account.label(i)}: health {rows[i - 1][0]}, view {rows[i - 1][1]}" for i in account.judges]
 
 
 def charge_lines(account):
     lines = ["Charged (health 0 while in the view):"]
+    causes = Causes(account) if account.script else None
     for j, by_judges in enumerate(account.charges(), 1):
         for judges, rounds in in_order(by_judges):
             count = f"{len(rounds):,} {plural(len(rounds), 'charge')}"
-            lines.append(f"  module {account_label(account, j)}: {count} in {rounds_text(rounds)}{only_by(account, judges)}")
+            lines.append(f"  module {account.label(j)}: {count} in {rounds_text(rounds)}{by_whom(account, judges, CHARGED_BY)}")
+            if causes:
+                lines += ["    " + line for line in cause_lines(account.script, causes, j, rounds, judges)]
     return lines if len(lines) > 1 else lines + ["  nobody"]
 
 
@@ -63,11 +68,11 @@ def leaving_lines(account):
     lines = ["Left the view:"]
     for j, by_judges in enumerate(account.leavings(), 1):
         for judges, rounds in in_order(by_judges):
-            lines.append(f"  module {account_label(account, j)}: in {rounds_text(rounds)}{only_by(account, judges)}")
+            lines.append(f"  module {account.label(j)}: in {rounds_text(rounds)}{by_whom(account, judges, LEFT_FROM)}")
         left = {i for judges in by_judges for i in judges}
         stays = [i for i in account.judges if i not in left]
         if left and stays:
-            lines.append(f"  module {account_label(account, j)}: still in the view of {labels(account, stays)}")
+            lines.append(f"  module {account.label(j)}: still in the view of {labels(account, stays)}")
     return lines if len(lines) > 1 else lines + ["  nobody"]
 
 
@@ -75,17 +80,19 @@ def in_order(by_judges):
     return sorted(by_judges.items(), key=lambda item: item[1])
 
 
-def only_by(account, judges):
-    """Nothing if all judges say so, else who does, or who does not, whichever are fewer."""
+# what to say of some judges only, and of all but some
+CHARGED_BY = ", only by {}", ", but not by {}"
+LEFT_FROM = ", from the view of {} only", ", but not from the view of {}"
+
+
+def by_whom(account, judges, forms):
+    """Nothing if it happened at all judges, else at whom it did, or at whom it did not, whichever are fewer."""
+    only, but = forms
     others = [i for i in account.judges if i not in judges]
     if not others:
         return ""
-    return f", only by {labels(account, judges)}" if len(judges) <= len(others) else f", but not by {labels(account, others)}"
+    return only.format(labels(account, judges)) if len(judges) <= len(others) else but.format(labels(account, others))
 
 
 def labels(account, modules):
-    return ", ".join(account_label(account, j) for j in modules)
-
-
-def account_label(account, module):
-    return account.script.label(module) if account.script else str(module)
+    return ", ".join(map(account.label, modules))

@@ -38,9 +38,16 @@ def group(parts, title=None, **attributes):
     return element("g", content, **attributes)
 
 
-def text_width(content, size=12):
+# Widths of letters in the font above, bold, as parts of its size; OTHER is a small letter or a digit.
+WIDTHS = {letter: width for letters, width in (("mwMW@%…", 1.11), ("frt()-–/", 0.5), ("ijlI.,:;!|' \u00a0", 0.4)) for letter in letters}
+CAPITAL, OTHER = 0.85, 0.7
+NOT_BOLD = 0.91
+
+
+def text_width(content, size=12, bold=False):
     """About the width of a text in the font above, rather too wide than too narrow."""
-    return len(content) * size * 0.64
+    bold_width = sum(WIDTHS.get(letter, CAPITAL if letter.isupper() else OTHER) for letter in content) * size
+    return bold_width if bold else bold_width * NOT_BOLD
 
 
 def document(width, height, definitions, parts):

@@ -78,7 +78,7 @@ def vector_text(mask_, n):
 
 
 def vector_mask(text):
-    return sum(1 << j for j, digit in enumerate(text) if digit == "1")
+    return int(text[::-1], 2)
 
 
 def is_heard(word, n):

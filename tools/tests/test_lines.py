@@ -63,6 +63,11 @@ class Command(unittest.TestCase):
                 with self.subTest(name, given=given):
                     self.assertEqual((ran.returncode, ran.stdout, ran.stderr.count(b"\n")), (1, b"", 1))
 
+    def test_a_byte_order_mark_is_left_out(self):
+        ran = tool("runsummary", given=b"\xef\xbb\xbf" + SHEET_LINES.replace("\n", "\r\n").encode())
+        self.assertEqual((ran.returncode, ran.stderr), (0, b""))
+        self.assertTrue(ran.stdout.startswith(b"4 modules, 2 rounds\n"))
+
     def test_a_script_that_does_not_fit(self):
         for name in ("runpicture", "runsummary"):
             ran = tool(name, "--script", "harness/data/vectors/002-star-marks.bin", given=SHEET_LINES.encode())

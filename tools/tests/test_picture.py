@@ -8,6 +8,7 @@ from common import SHEET, printed, read, root, stored, tool
 from runtools import check, marks, script, svg
 from runtools.account import Account, Cell
 from runtools.columns import columns, label
+from runtools.layout import MOST_HEIGHT, wrapped
 from runtools.lines import read_run
 from runtools.picture import picture
 
@@ -64,12 +65,13 @@ class Picture(unittest.TestCase):
         width, height = float(tree.get("width")), float(tree.get("height"))
         for text in tree.iter(SVG + "text"):
             x, y, size = float(text.get("x")), float(text.get("y")), float(text.get("font-size"))
-            across = 0 if text.get("transform") else svg.text_width(text.text, size * 0.9)
+            across = 0 if text.get("transform") else svg.text_width(text.text, size, text.get("font-weight") == "bold")
             start = {"end": x - across, "middle": x - across / 2}.get(text.get("text-anchor"), x)
             self.assertGreaterEqual(start, 0, text.text)
             self.assertLessEqual(start + across, width, text.text)
             self.assertLessEqual(y, height, text.text)
             self.assertGreaterEqual(size, 10)
+        self.assertLessEqual(height, MOST_HEIGHT)
         self.assertFalse(re.search(r"<script|<image|href|@import", drawn))
 
     def test_stored_runs(self):
@@ -94,6 +96,37 @@ class Picture(unittest.TestCase):
         self.check_drawing(drawn)
         self.assertIn("3 a-very-long-nam…", drawn)
 
+    def test_wide_letters_are_not_cut_off(self):
+        text = SETUP.replace("module 3", "module 3 " + "W" * 30).replace("module 4", "module 4 " + "M" * 12) + "cast 3 4\nplay 1"
+        self.check_drawing(picture(account(printed(("in", *[ALL] * 4)), text), "A-LONG-NAME-OF-A-FILE-" * 9 + " AND MORE" * 9))
+
+    def test_names_with_hyphens_stay_whole(self):
+        names = SETUP
+        for number, name in enumerate(("stage-controller-x-axis", "stage-controller-y-axis", "filter-wheel-upper", "filter-wheel-lower"), 1):
+            names = names.replace(f"module {number} place", f"module {number} {name} place")
+        gone = ("0000", "0000")
+        drawn = picture(account(printed(("in", *[gone] * 4)), names + "cast 1\nplay 1"), "names")
+        self.check_drawing(drawn)
+        for name in ("1\u00a0stage-controller-x-axis", "4\u00a0filter-wheel-lower"):
+            self.assertIn(f"{name}\u00a0in\u00a0round\u00a01", drawn)
+
+    def test_when_a_module_left_the_first_view_and_the_last(self):
+        gone = ("0111", "0111")
+        differ, all_gone = ("out", ALL, gone, ALL, ALL), ("out", *[gone] * 4)
+        text = SETUP + "cast none\nplay 3"
+        drawn = picture(account(printed(("out", *[ALL] * 4), differ, all_gone), text), "view by view").replace("\u00a0", " ")
+        self.assertIn("Left the view: 1 in round 2 from the first view, in round 3 from the last.", drawn)
+        drawn = picture(account(printed(("out", *[ALL] * 4), differ, differ), text), "some views").replace("\u00a0", " ")
+        self.assertIn("Left the view: 1 in round 2 from the first view, still in 3 of 4 views.", drawn)
+        drawn = picture(account(printed(("out", *[ALL] * 4), all_gone, all_gone), text), "all views").replace("\u00a0", " ")
+        self.assertIn("Left the view: 1 in round 2.", drawn)
+
+    def test_the_legend_tells_of_agreement_and_of_ranges_of_rounds(self):
+        words = " ".join(xml.fromstring(picture(account(printed(*[("in", *[ALL] * 4)] * 5)), "quiet")).itertext())
+        self.assertIn("row agreement: all modules agree", words)
+        self.assertIn("row agreement: modules differ", words)
+        self.assertIn("a mark in it stands for every round of it", " ".join(words.split()))
+
     def test_a_fault_has_a_banner(self):
         drawn = picture(account(printed(("in", ALL, GONE, ALL, ALL)), SETUP + "cast none\nplay 1"), "fault")
         self.assertIn("FAULT: rule-followers differ while the limit was kept, in round 1.", drawn)
@@ -112,14 +145,28 @@ class Picture(unittest.TestCase):
         self.assertLess(len(drawn), 20_000)
         self.assertLess(time.time() - started, 5)
 
-    def test_too_many_columns(self):
-        lines = "".join(f"{k} 1 {h} 11 in\n{k} 2 {h} 11 in\n" for k in range(1, 4_002) for h in ["11" if k % 2 else "01"])
+    def test_a_picture_too_high_for_some_viewers(self):
+        lines = "".join(f"{k} {j} {h} {'1' * 16} in\n" for k in range(1, 2_001) for h in ["1" * 16 if k % 2 else "0" + "1" * 15] for j in range(1, 17))
         ran = tool("runpicture", given=lines.encode())
-        self.assertEqual((ran.returncode, ran.stderr.count(b"\n")), (1, 1))
-        self.assertIn(b"--rounds", ran.stderr)
-        ran = tool("runpicture", "--rounds", "100-140", given=lines.encode())
+        self.assertEqual((ran.returncode, ran.stdout, ran.stderr.count(b"\n")), (1, b"", 1))
+        part = re.search(rb"pixels high, and not every viewer shows more than 16,000; .* --rounds (1-[0-9]+)", ran.stderr)[1]
+        ran = tool("runpicture", "--rounds", part.decode(), given=lines.encode())
         self.assertEqual(ran.returncode, 0)
         self.check_drawing(ran.stdout.decode())
+
+
+class Texts(unittest.TestCase):
+    def test_lines_are_broken_at_blanks_and_no_wider_than_asked(self):
+        text = "7 filter-wheel in round 5; 8 nose-piece in round 6"
+        for width in range(90, 400, 7):
+            pieces = wrapped(text, width)
+            self.assertEqual(" ".join(pieces), text)
+            self.assertLessEqual(max(map(svg.text_width, pieces)), width)
+
+    def test_a_word_wider_than_the_line_is_cut(self):
+        pieces = wrapped("W" * 50, 100)
+        self.assertEqual("".join(pieces), "W" * 50)
+        self.assertLessEqual(max(map(svg.text_width, pieces)), 100)
 
 
 if __name__ == "__main__":

@@ -2,9 +2,9 @@ import unittest
 
 from common import SHEET, bench, needs_bench, read, root, stored, tool
 
-from runtools import check
+from runtools import check, script
 from runtools.assemble import ScriptError, assemble
-from runtools.disassemble import disassemble
+from runtools.disassemble import disassemble, modules_text
 
 
 class RoundTrip(unittest.TestCase):
@@ -28,6 +28,15 @@ class RoundTrip(unittest.TestCase):
         data = read(root("harness/data/vectors/001-star-sheet.bin"))
         self.assertEqual(assemble(SHEET).data(), data)
         self.assertEqual(disassemble(data), SHEET)
+
+
+    def test_masks_of_nearly_all_modules_name_those_left_out(self):
+        run = "cast all but 3\n\nloss 1 to all but 1\nloss 1 to 1 4\nlie 1 to all says 1111\nloss 2 to 3\nplay 1  # round 1\n"
+        text = SHEET.split("cast")[0] + run
+        self.assertEqual(disassemble(assemble(text).data()), text)
+        self.assertEqual([modules_text(mask, 6) for mask in (0b111110, 0b111100, 0b111111, 0)], ["all but 1", "3 4 5 6", "all", "none"])
+        self.assertEqual(modules_text(0xFFF0, 16), "all but 1 2 3 4")
+        self.assertEqual([modules_text(mask, 2) for mask in (1, 2, 3)], ["1", "2", "all"])
 
 
 class Language(unittest.TestCase):
@@ -121,6 +130,23 @@ class Command(unittest.TestCase):
         ran = tool("runscript", "assemble", given=b"\x10\0\0\x04\xff")
         self.assertEqual(ran.returncode, 1)
         self.assertEqual(ran.stderr.count(b"\n"), 1)
+
+    def test_a_byte_order_mark_is_left_out(self):
+        ran = tool("runscript", "assemble", given=b"\xef\xbb\xbf" + SHEET.replace("\n", "\r\n").encode())
+        self.assertEqual((ran.returncode, ran.stdout, ran.stderr), (0, assemble(SHEET).data(), b""))
+        self.assertEqual(script.load(b"\xef\xbb\xbf" + SHEET.encode(), "text").rounds, 2)
+
+    def test_disassembling_says_by_what_a_script_is_refused(self):
+        ran = tool("runscript", "disassemble", given=assemble(SHEET.replace("play 2", "play 0"), unchecked=True).data())
+        self.assertEqual((ran.returncode, ran.stderr), (0, b"runscript: standard input: refused 12 at 9: the play count is 0, not within 1 to 1,000\n"))
+        self.assertTrue(ran.stdout.startswith(b"# refused 12 at 9: "))
+        ran = tool("runscript", "disassemble", given=assemble(SHEET).data())
+        self.assertEqual((ran.returncode, ran.stdout.decode(), ran.stderr), (0, SHEET, b""))
+
+    def test_disassembling_a_text_says_that_it_is_one(self):
+        ran = tool("runscript", "disassemble", "examples/incident/joystick.txt")
+        self.assertEqual(ran.returncode, 0)
+        self.assertRegex(ran.stderr.decode(), r"^runscript: examples/incident/joystick.txt: refused [12] at 0: .*'runscript assemble' reads it\n$")
 
     def test_help(self):
         ran = tool("runscript", "--help")

@@ -29,6 +29,7 @@ agreement: all rule-followers gave the same health and view in every round
 
 Charged (health 0 while in the view):
   module 2: 1 charge in round 2
+    round 2: its word of round 1 was lost to everybody
 
 Left the view:
   nobody
@@ -47,7 +48,7 @@ Left the view:
         output = printed(("out", ALL, gone, ALL, ALL), ("out", ALL, gone, gone, ALL))
         text = told(output, SETUP + "cast none\nplay 2")
         self.assertIn("agreement: rule-followers differ in rounds 1 to 2, all after the limit was broken\n", text)
-        self.assertIn("  module 1: in round 1, only by 2\n  module 1: in round 2, only by 3\n  module 1: still in the view of 1, 4\n", text)
+        self.assertIn("  module 1: in round 1, from the view of 2 only\n  module 1: in round 2, from the view of 3 only\n  module 1: still in the view of 1, 4\n", text)
 
     def test_a_fault_is_said_loudly(self):
         output = printed(("in", *[ALL] * 4), ("in", ALL, ("1101", "1111"), ALL, ALL))

@@ -4,7 +4,10 @@ import importlib.machinery
 import importlib.util
 import os
 import subprocess
+import sys
+import tempfile
 import unittest
+from unittest import mock
 
 from common import ROOT, TOOLS
 
@@ -33,6 +36,19 @@ class VoteTable(unittest.TestCase):
         for votes, line in enumerate(lines):
             cells = [cell.strip() for cell in line.strip("|").split("|")]
             self.assertEqual(cells, ["**%d**" % votes] + [rule(votes, ones) for ones in range(16)])
+
+    def test_the_rule_on_the_page_for_checking_a_row(self):
+        source = votetable.rows(votetable.read(votetable.SOURCE))
+        self.assertEqual(source[0], "?" + "-" * 15)
+        for votes in range(1, 16):
+            zeros = sum(2 * ones < votes for ones in range(16))
+            self.assertEqual(source[votes], "0" * zeros + "1" * (votes + 1 - zeros) + "-" * (15 - votes))
+
+    def test_of_another_page_it_says_how_to_write_it_anew(self):
+        with tempfile.NamedTemporaryFile("w", suffix=".md") as other, mock.patch.object(votetable, "PAGE", other.name), \
+                mock.patch.object(sys, "argv", ["votetable", "--check"]), self.assertRaises(SystemExit) as caught:
+            votetable.main()
+        self.assertIn("write it anew with: tools/votetable > docs/VOTE-TABLE.md", str(caught.exception))
 
     def test_another_entry_makes_another_page(self):
         source = votetable.read(votetable.SOURCE)

@@ -1,0 +1,44 @@
+"""Measures and small texts that all parts of a picture share."""
+
+from . import marks, svg
+
+WIDE, NARROW = 26, 20    # width of a column of one round, and of a range of rounds
+ROW = marks.BAND + marks.JUDGED
+STRIP = 18
+MARGIN = 20
+MOST_WIDTH = 1040        # of the columns of a panel
+LEAST_WIDTH = 660        # of the whole picture, for its texts
+MOST_HEIGHT = 16_000     # viewers and converters that refuse a picture do so above this
+MOST_LABEL = 18          # letters of a module's label
+NO_BREAK = "\u00a0"
+
+
+def width_of(column):
+    return WIDE if column.first == column.last else NARROW
+
+
+def wrapped(text, width, size=12, bold=False):
+    """The text in lines no wider than width. It is broken at blanks alone, so that names with hyphens stay whole."""
+    lines = []
+    for word in text.split(" "):
+        for piece in cut(word, width, size, bold):
+            if lines and svg.text_width(f"{lines[-1]} {piece}", size, bold) <= width:
+                lines[-1] += " " + piece
+            else:
+                lines.append(piece)
+    return lines
+
+
+def cut(word, width, size, bold):
+    """A word in pieces no wider than width; only a title, which may be a file's name, is ever that long."""
+    start = 0
+    for end in range(1, len(word) + 1):
+        if svg.text_width(word[start:end + 1], size, bold) > width or end == len(word):
+            yield word[start:end]
+            start = end
+
+
+def module_label(account, module):
+    """A module's number and name beside its row; long names are cut off."""
+    text = account.label(module)
+    return text if len(text) <= MOST_LABEL else text[:MOST_LABEL - 1] + "…"

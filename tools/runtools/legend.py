@@ -1,0 +1,95 @@
+"""What stands below the panels of a picture: what the marks mean."""
+
+from . import marks, svg
+from .layout import MARGIN, NARROW, WIDE, wrapped
+from .panel import agreement
+
+PITCH = 30    # from an entry to the next one
+INDENT = 36   # from a mark to its words
+
+STATES = [
+    ("healthy", "in the view, judged healthy"),
+    ("charged", "charged: in the view, judged 0"),
+    ("leaves", "charged and leaves the view"),
+    ("outside", "outside the view"),
+    ("outside, judged 0", "outside the view, judged 0"),
+    ("healths differ", "{who} differ about its health"),
+    ("views differ", "{who} differ about the view"),
+]
+EVENTS = [
+    ("loss to all", "loss: no module hears it in this round"),
+    ("loss to some", "loss: some modules do not hear it"),
+    ("lie to all", "lie: all modules hear a told word"),
+    ("lie to some", "lie: some modules hear a told word"),
+]
+
+
+def legend(account, found, width, y):
+    """The legend for the drawn columns, and the height of the whole picture."""
+    listed = entries(account, found)
+    across = 2 if width < 1000 else 3
+    wide = (width - 2 * MARGIN) / across
+    down = -(-len(listed) // across)
+    y += 14
+    parts = [svg.text(MARGIN, y, "Legend", 13, font_weight="bold")]
+    for i, (sample, words) in enumerate(listed):
+        parts += entry(sample, words, MARGIN + (i // down) * wide, y + 10 + (i % down) * PITCH, wide - INDENT)
+    y += 10 + down * PITCH + 20
+    for sentence in notes(account):
+        for piece in wrapped(sentence, width - 2 * MARGIN):
+            parts.append(svg.text(MARGIN, y, piece, 12))
+            y += 17
+    return parts, y + 8
+
+
+def entries(account, found):
+    """Each entry's mark and words."""
+    who = "rule-followers" if account.of_followers else "modules"
+    listed = [(state_sample(name), words.format(who=who)) for name, words in STATES]
+    listed += [(agreement(False, 0, WIDE, 1), f"row agreement: all {who} agree"),
+               (agreement(True, 0, WIDE, 1), f"row agreement: {who} differ")]
+    if account.script:
+        listed += [(event_sample(name), words) for name, words in EVENTS]
+    if any(column.first != column.last for column in found):
+        listed.append((folded_sample(), "a range of rounds without change; a mark in it stands for every round of it"))
+    if account.first_out is not None:
+        listed.append((broken_sample(), "the fault limit is broken from here on"))
+    return listed
+
+
+def entry(sample, words, x, y, width):
+    """A mark and its words, beside its middle, in one line or two."""
+    parts = [svg.group([sample], transform=f"translate({svg.number(x)} {svg.number(y)})")]
+    pieces = wrapped(words, width)
+    for i, piece in enumerate(pieces):
+        parts.append(svg.text(x + INDENT, y + 15 + 14 * i - 7 * (len(pieces) - 1), piece, 12))
+    return parts
+
+
+def notes(account):
+    said = ["Each cell has two bands: above, what was lost or told of the module's word in this round; "
+            "below, how the module is judged in this round."]
+    if account.script:
+        said.append(f"What is judged in round k is round k − {2 * account.script.u + 1}, by the read places of this script.")
+    else:
+        said.append("The upper bands are empty because no script was given.")
+    if account.of_followers and account.script.cast:
+        said.append("Judged by the rule-followers; what rule-breakers print of others is not shown.")
+    return said
+
+
+def state_sample(name):
+    frame = svg.rect(0, 0, WIDE, marks.JUDGED, fill="none", stroke="#9A9A9A", stroke_width=0.7)
+    return marks.judged(name, 0, 0, WIDE) + frame
+
+
+def event_sample(name):
+    return marks.event(name, WIDE / 2, marks.JUDGED / 2)
+
+
+def folded_sample():
+    return svg.rect(3, 0, NARROW, marks.JUDGED, fill="none", stroke="#000", stroke_width=1.5, stroke_dasharray="2 3")
+
+
+def broken_sample():
+    return svg.line(WIDE / 2, 0, WIDE / 2, marks.JUDGED, stroke="#000", stroke_width=3.5)

@@ -1,0 +1,118 @@
+"""A panel of a picture: one line of columns, with a row for the fault limit, one for agreement, and one for each module."""
+
+from . import marks, svg
+from .columns import label
+from .disassemble import modules_text, told_text
+from .layout import MARGIN, ROW, STRIP, module_label, width_of
+from .words import mask_of
+
+
+def panel_height(account, row):
+    return header_height(row) + 4 + 2 * STRIP + 4 + account.n * ROW + 20
+
+
+def panel(account, row, left, y):
+    """The panel whose columns begin at left and whose labels begin at y."""
+    top = y + header_height(row) + 4
+    cells_top = top + 2 * STRIP + 4
+    bottom = cells_top + account.n * ROW
+    parts = row_labels(account, left, top, cells_top)
+    x = left
+    for column in row:
+        parts.append(column_parts(account, column, x, top, cells_top))
+        x += width_of(column)
+    parts.append(svg.rect(left, cells_top, x - left, account.n * ROW, fill="none", stroke="#000"))
+    for j in range(1, account.n):
+        parts.append(svg.line(MARGIN + 6, cells_top + j * ROW, x, cells_top + j * ROW, stroke="#000", stroke_width=0.7))
+    middle = (cells_top + bottom) / 2
+    parts.append(svg.text(MARGIN - 4, middle, "module", 11, text_anchor="middle",
+                          transform=f"rotate(-90 {MARGIN - 4} {svg.number(middle)})"))
+    parts.append(broken_line(account, row, left, top, bottom))
+    return parts
+
+
+def header_height(row):
+    """Short labels lie across, long ones stand."""
+    return max(14 if lies_across(column) else round(svg.text_width(label(column), 11)) + 6 for column in row)
+
+
+def lies_across(column):
+    return column.first == column.last and len(label(column)) <= 3
+
+
+def row_labels(account, left, top, cells_top):
+    right = left - 8
+    parts = [svg.text(right, top - 6, "round", 11, text_anchor="end"),
+             svg.text(right, top + 13, "fault limit", 11, text_anchor="end"),
+             svg.text(right, top + STRIP + 13, "agreement", 11, text_anchor="end")]
+    for j in range(1, account.n + 1):
+        y = cells_top + (j - 1) * ROW
+        breaker = account.script is not None and j in account.script.cast
+        parts.append(svg.text(right, y + (15 if breaker else 21), module_label(account, j), 12, text_anchor="end", font_weight="bold"))
+        if breaker:
+            parts.append(svg.text(right, y + 28, "in the cast", 10, text_anchor="end", font_style="italic"))
+    return parts
+
+
+def column_parts(account, column, x, top, cells_top):
+    width, middle = width_of(column), x + width_of(column) / 2
+    parts = [header(column, middle, top), *strips(column, x, width, top)]
+    folded = column.first != column.last
+    for j, cell in enumerate(column.cells, 1):
+        y = cells_top + (j - 1) * ROW
+        happened = column.events.get(j)
+        drawn = [svg.rect(x, y, width, ROW, fill="#fff"),
+                 marks.judged(marks.state(cell), x, y + marks.BAND, width),
+                 svg.line(x, y + marks.BAND, x + width, y + marks.BAND, stroke="#D0D0D0", stroke_width=0.7)]
+        if happened:
+            drawn.append(marks.events(happened, account.n, x, y, width))
+        parts.append(svg.group(drawn, cell_title(account, column, j, cell)))
+    parts.append(svg.line(x, cells_top, x, cells_top + account.n * ROW, stroke="#9A9A9A", stroke_width=0.7))
+    if folded:
+        parts.append(svg.rect(x, cells_top, width, account.n * ROW, fill="none", stroke="#000", stroke_width=1.5, stroke_dasharray="2 3"))
+    return svg.group(parts)
+
+
+def header(column, middle, top):
+    if lies_across(column):
+        return svg.text(middle, top - 6, label(column), 11, text_anchor="middle")
+    return svg.text(middle + 4, top - 6, label(column), 11, transform=f"rotate(-90 {svg.number(middle + 4)} {svg.number(top - 6)})")
+
+
+def strips(column, x, width, top):
+    """The cells of the fault limit and of agreement."""
+    return [strip("in" if column.kept else "out", not column.kept, 10, x, width, top),
+            agreement(column.differ, x, width, top + STRIP)]
+
+
+def agreement(differ, x, width, y):
+    return strip("≠" if differ else "=", differ, 13, x, width, y)
+
+
+def strip(word, dark, size, x, width, y):
+    return (svg.rect(x, y, width, STRIP, fill="#000" if dark else "#fff", stroke="#9A9A9A", stroke_width=0.7)
+            + svg.text(x + width / 2, y + 13, word, size, text_anchor="middle", fill="#fff" if dark else "#444",
+                       font_weight="bold" if dark else None))
+
+
+def broken_line(account, row, left, top, bottom):
+    """A thick line before the round in which the limit was broken."""
+    x = left
+    for column in row:
+        if column.first == account.first_out:
+            return svg.line(x, top - 2, x, bottom + 6, stroke="#000", stroke_width=3.5)
+        x += width_of(column)
+    return ""
+
+
+def cell_title(account, column, module, cell):
+    """What a browser shows under the pointer."""
+    said = [f"round {label(column)}, module {module_label(account, module)}: {marks.state(cell)}"]
+    found = column.events.get(module)
+    if found:
+        if found.losses:
+            said.append(f"loss to {modules_text(mask_of(found.losses), account.n)}")
+        for word in sorted({told for _, told in found.lies}):
+            receivers = mask_of(receiver for receiver, told in found.lies if told == word)
+            said.append(f"lie to {modules_text(receivers, account.n)} {told_text(word, account.n)}")
+    return "\n".join(said)
