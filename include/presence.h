@@ -28,8 +28,11 @@
  * A module's state is its image, a block of bytes that the caller keeps.
  * Nothing is kept between calls: the result of a call and the bytes it writes
  * follow from its arguments alone.  The functions use no heap, no static
- * variables and no C library calls, and are re-entrant: calls for different
- * images may run at the same time, in interrupts too.
+ * variables and no C library calls, and are re-entrant: calls that are lent
+ * different outputs and pages may run at the same time, in interrupts too.
+ * Calls that are lent the same output or the same page must not overlap in
+ * time: if a step with a page interrupted the host's write of that page, or
+ * the write the step, a flag could be lost or a cleared one come back.
  * presence_step takes 2,032 bytes of stack at N = 16 on x86-64 (measured),
  * presence_page_step 2,544.
  *
@@ -111,8 +114,9 @@
  * word 2 clears the flags that are written as ones.  A write of word 3 is
  * stored whole.  A step leaves enable, words 4 to 15 and the other bits of
  * word 2 as they are.  The interrupt is on exactly while flags and enable
- * share a set bit.  So a flag is lost only by a write that names it, and where
- * its bit of enable is set a change turns the interrupt on.
+ * share a set bit.  So a flag is lost only by a write that names it, or when
+ * the page is opened anew; and while a flag is set the interrupt is on whenever
+ * its bit of enable is set, be it set before the change or later.
  *
  *
  * ANSWERS
@@ -283,6 +287,9 @@ presence_answer presence_open(const uint8_t *setup, size_t setup_len,
  * before this one if every l is N, else the one three rounds before this one.
  * Refused: the output stays as it was, no step has been made, and the image
  * that was passed is still the current one.
+ * That cards agree is proved of cards that make the step of every round, each
+ * on the read of that round.  A card that leaves a step out no longer follows
+ * the rules: for the others it counts as a rule-breaker from then on.
  */
 presence_answer presence_step(const uint8_t *state, size_t state_len,
                               const uint8_t *read, size_t read_len,
@@ -292,7 +299,9 @@ presence_answer presence_step(const uint8_t *state, size_t state_len,
 /*
  * Tests an image and writes it to the output, word for word the same.  Serves
  * to put a state into a store that survives a restart, and to take it back
- * from there: an accepted image is one that a step may go on from.
+ * from there: an accepted image is one that a step may go on from.  An image
+ * of another setup or another slot is accepted too: a card that goes on from a
+ * stored image compares the setup and the own number (word N+3) itself.
  *   state, state_len   the image, PRESENCE_IMAGE_BYTES(N)
  *   out, out_len       output, PRESENCE_IMAGE_BYTES(N)
  * Order of the checks: 1, 2, 3, 4, 5, 6, 7, 8 (image), 9 (output).
@@ -362,6 +371,7 @@ presence_word presence_page_read(const uint8_t *page, size_t page_len,
  *   page, page_len     the page, PRESENCE_PAGE_BYTES
  *   offset             PRESENCE_PAGE_FLAGS or PRESENCE_PAGE_ENABLE
  *   value              the flags to clear, or the new enable word
+ * Must not overlap in time with a step that is lent the same page.
  * Order of the checks: 9, 17, 18.
  * Refused: the page stays as it was.
  */

@@ -6,9 +6,10 @@
  * is locked or stopping, the joystick is dead; otherwise it is live.
  *
  * Each card keeps a scan lock of its own and tells it every event.  Cards that
- * are told the same events in the same order between the same rounds, with the
- * views of a presence service that keeps its fault limit, hold equal locks
- * (proved).
+ * follow the rules of presence.h and tell their scan locks the same events in
+ * the same order between the same rounds, and after each step the view of
+ * their own image, hold equal locks while the fault limit is kept (proved).
+ * Such a view is never refused (proved).
  *
  * Nine functions:
  *
@@ -28,7 +29,8 @@
  * A scan lock is its image, a block of bytes that the caller keeps.  Nothing
  * is kept between calls: the result of a call and the bytes it writes follow
  * from its arguments alone.  The functions use no heap, no static variables
- * and no C library calls, and are re-entrant.
+ * and no C library calls, and are re-entrant: calls that are lent different
+ * outputs may run at the same time, in interrupts too.
  *
  *
  * LOCKS AND MOVES
@@ -64,7 +66,10 @@
  *
  * Bits that are not named are 0.  A fresh scan lock has a full view and
  * nothing in its axes.  An image may be stored and taken back: every function
- * tests the image it is given.
+ * tests the image it is given.  A card that goes on from a stored image hands
+ * over the view of its presence image first.  A card that opens its scan lock
+ * anew while others hold locks knows nothing of those, and so holds other
+ * locks than the rest: open the scan locks of all cards together.
  *
  *
  * ANSWERS

@@ -1,4 +1,4 @@
--- A helper of the contracts of `without` (src/mask.rt) and, by Lanes.antt, `ballot` (src/vote.rt), inner functions: no public contract rests on it.
+-- A helper of the contracts of `without` (src/mask.rt) and, by specs/Lanes.antt, `ballot` (src/vote.rt), inner functions: no public contract rests on it.
 -- A vector without one of its bits.
 use Prim.Native.Nat.{ℕ}
 use mathlib.Core.Bool.{not, _&&_}

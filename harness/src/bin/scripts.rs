@@ -83,10 +83,12 @@ fn run_long(bench: &str) -> Result<(), String> {
 fn run_folder(folder: &str, bench: &str) -> Result<(), String> {
     let entries = fs::read_dir(folder).map_err(|error| format!("{folder}: {error}"))?;
     let mut paths: Vec<PathBuf> = entries.filter_map(|entry| Some(entry.ok()?.path())).collect();
-    paths.retain(|path| path.extension().is_some_and(|extension| extension == "bin"));
+    let with = |path: &PathBuf, ending: &str| path.extension().is_some_and(|extension| extension == ending);
+    let outputs = paths.iter().filter(|path| with(path, "out")).count();
+    paths.retain(|path| with(path, "bin"));
     paths.sort();
-    if paths.is_empty() {
-        return Err(format!("no .bin file in {folder}"));
+    if paths.is_empty() || paths.len() != outputs {
+        return Err(format!("{folder} has {} .bin and {outputs} .out files", paths.len()));
     }
     let mut differences = 0;
     for path in &paths {
@@ -137,7 +139,7 @@ fn by_bench(bench: &str, bytes: &[u8]) -> Result<Vec<u8>, String> {
     });
     let output = child.wait_with_output().map_err(|error| format!("{bench}: {error}"))?;
     writer.join().expect("the writer ends");
-    if output.status.code().is_none() {
+    if !output.status.success() {
         return Err(format!("{bench}: {}", output.status));
     }
     Ok(output.stdout)

@@ -34,5 +34,10 @@ impl Line {
 
 fn answer(text: &str) -> Option<(u32, bool)> {
     let (number, joystick) = text.split_once(':')?;
-    Some((number.parse().ok()?, joystick == "1"))
+    let live = match joystick {
+        "0" => false,
+        "1" => true,
+        _ => return None,
+    };
+    Some((number.parse().ok()?, live))
 }
