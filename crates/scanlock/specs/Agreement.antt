@@ -49,6 +49,7 @@ unfoldable pub history : (ℕ → List Event) → (ℕ → ℕ) → ℕ → List
 history between views zero = between zero
 history between views (suc k) = between (suc k) ++ (View (views (suc k)) ∷ history between views k)
 
+-- what the scan lock of a card is told: the views of its own states, and the events between
 abbrev pub told : {S : Session} {i last : ℕ} → (ℕ → List Event) → Card S i last → ℕ → List Event
 told between card k = history between (λ j. card .state j .counters .view) k
 
@@ -71,6 +72,7 @@ CardsAgree =
 
 -- ---- the same of cards whose states are images, as C callers keep them
 
+-- a card whose state after each round is an image, in an image's life of the session
 pub record ImageCard (S : Session) (setup : List ℕ) (i last : ℕ) : Type 0 where
   pub image : ℕ → List ℕ
   pub health : ℕ → ℕ

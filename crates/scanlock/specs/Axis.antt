@@ -6,9 +6,11 @@ use Rattle.words.specs.Bits.{bit}
 use Rattle.scanlock.specs.declared.Axis.{Axis}
 use Rattle.scanlock.specs.declared.AxisAnswer.{AxisAnswer}
 
+-- an axis by its fields; holder 0 is nobody
 abbrev pub axis : ℕ → ℕ → Bool → Bool → Axis
 axis holder depth moving stopping = record { holder = holder; depth = depth; moving = moving; stopping = stopping }
 
+-- what an axis answers to a begin, an end or a start: 0 and the axis after it, or the number of the refusal and the axis as it was
 abbrev pub axisAnswer : ℕ → Axis → AxisAnswer
 axisAnswer number x = record { number = number; axis = x }
 
@@ -28,24 +30,27 @@ onAxis a = leb 1 a && leb a 8
 unfoldable pub barred : Axis → ℕ → Bool
 barred x by = (not (eqb (x .holder) 0) && not (eqb (x .holder) by)) || x .stopping
 
--- a begin: 21 for a ninth depth
+-- one lock more
 unfoldable pub deeper : Axis → ℕ → Axis
 deeper x by = axis by (x .depth + 1) (x .moving) (x .stopping)
 
+-- a begin: 20, then 21 for a ninth depth
 unfoldable pub begunOf : Axis → ℕ → AxisAnswer
 begunOf x by = cond (barred x by) (axisAnswer 20 x) (cond (leb 8 (x .depth)) (axisAnswer 21 x) (axisAnswer 0 (deeper x by)))
 
--- an end: 21 without a begin. An inner end restores the outer lock; the outermost leaves the axis to nobody. The move goes on.
+-- one lock less: an inner end restores the outer lock, the outermost leaves the axis to nobody; the move goes on
 unfoldable pub shallower : Axis → Axis
 shallower x = axis (cond (eqb (x .depth) 1) 0 (x .holder)) (x .depth - 1) (x .moving) (x .stopping)
 
+-- an end: 20, then 21 without a begin
 unfoldable pub endedOf : Axis → ℕ → AxisAnswer
 endedOf x by = cond (barred x by) (axisAnswer 20 x) (cond (eqb (x .depth) 0) (axisAnswer 21 x) (axisAnswer 0 (shallower x)))
 
--- a start: 21 without a begin. A start during an unfinished move joins it.
+-- a move is unfinished from now on; a start during one joins it
 unfoldable pub moved : Axis → Axis
 moved x = axis (x .holder) (x .depth) true (x .stopping)
 
+-- a start: 20, then 21 without a begin
 unfoldable pub startedOf : Axis → ℕ → AxisAnswer
 startedOf x by = cond (barred x by) (axisAnswer 20 x) (cond (eqb (x .depth) 0) (axisAnswer 21 x) (axisAnswer 0 (moved x)))
 

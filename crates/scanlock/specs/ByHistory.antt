@@ -13,6 +13,7 @@ unfoldable pub after : ℕ → List Event → Locks
 after n [] = opened n
 after n (e ∷ h) = eventOf (after n h) e .locks
 
+-- the state after a history h of n modules shows what the history leaves
 pub record Shown (n : ℕ) (h : List Event) : Type 0 where
   -- the answer to one event more
   pub answers : (e : Event) → eventOf (after n h) e .number ≡ number n (accepted n h) e
@@ -23,5 +24,6 @@ pub record Shown (n : ℕ) (h : List Event) : Type 0 where
       ≡ axis (holder a (accepted n h)) (depth a (accepted n h)) (unfinished a (accepted n h)) (stopping a (accepted n h))
   pub joystick : joystickOf (after n h) ≡ live n h
 
+-- after every history, of any number of modules
 abbrev pub ByHistory : Type 0
 ByHistory = (n : ℕ) (h : List Event) → Shown n h

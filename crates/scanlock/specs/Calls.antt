@@ -16,6 +16,7 @@ pub record Called : Type 0 where
   pub answer : Answer
   pub out : List ℕ
 
+-- an answer with the output at exit
 abbrev pub called : Answer → List ℕ → Called
 called a out = record { answer = a; out = out }
 

@@ -14,6 +14,7 @@ use Rattle.scanlock.specs.declared.Event.the-variants.{View, Begin, End,
 
 -- ---- the move of axis a, by the events that were accepted
 
+-- what the accepted events leave of an axis's move
 pub data Motion : Type 0 where
   resting : Motion
   -- a move is unfinished
@@ -56,11 +57,13 @@ motion a (Abort by b ∷ h) = cond (eqb b a) (aborted (motion a h)) (motion a h)
 motion a (Finished b ∷ h) = cond (eqb b a) (finished (motion a h)) (motion a h)
 motion a (Stopped b ∷ h) = cond (eqb b a) (stopped (motion a h)) (motion a h)
 
+-- a move is unfinished, also on a stopping axis
 unfoldable pub isUnfinished : Motion → Bool
 isUnfinished resting = false
 isUnfinished moving = true
 isUnfinished halting = true
 
+-- the axis is stopping
 unfoldable pub isHalting : Motion → Bool
 isHalting resting = false
 isHalting moving = false
@@ -84,6 +87,7 @@ left a ends stays (Abort by b ∷ h) = left a ends stays h
 left a ends stays (Finished b ∷ h) = left a ends stays h
 left a ends stays (Stopped b ∷ h) = cond (eqb b a && isHalting (motion a h)) [] (left a ends stays h)
 
+-- the locks on axis a that a history leaves, the newest first, each by its module
 abbrev pub standing : ℕ → List Event → List ℕ
 standing a h = left a 0 (λ by. true) h
 
@@ -91,12 +95,15 @@ standing a h = left a 0 (λ by. true) h
 abbrev pub depth : ℕ → List Event → ℕ
 depth a h = length (standing a h)
 
+-- the module whose lock on axis a is the newest; all of them are of one module
 abbrev pub holder : ℕ → List Event → ℕ
 holder a h = getD (standing a h) 0 0
 
+-- a move of axis a is unfinished
 abbrev pub unfinished : ℕ → List Event → Bool
 unfinished a h = isUnfinished (motion a h)
 
+-- axis a is stopping
 abbrev pub stopping : ℕ → List Event → Bool
 stopping a h = isHalting (motion a h)
 

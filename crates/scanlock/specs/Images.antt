@@ -42,5 +42,6 @@ pub record Answers (n : ℕ) (h : List Event) (image : List ℕ) : Type 0 where
   pub no-room : (e : Event) (out : List ℕ) → length out ≢ 36 → eventCall image e out ≡ called (answer 9 0 0) out
   pub joystick : joystickCall image ≡ answer 0 0 (b2n (live n h))
 
+-- of every image that a caller holds after a history
 abbrev pub ImagesByHistory : Type 0
 ImagesByHistory = (n : ℕ) (h : List Event) (image : List ℕ) → Held n h image → Answers n h image

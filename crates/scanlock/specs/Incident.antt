@@ -29,6 +29,7 @@ handed late i k =
 abbrev pub joysticks : List Event → ℕ → Bool → List Case
 joysticks late k says = test (live 4 (handed late 0 k)) says ∷ test (live 4 (handed late 1 k)) says ∷ []
 
+-- what the definitions give, and what is to be: the session is bound and within the limit, the views, and the joysticks round by round
 abbrev pub incident : List Case
 incident =
     test (bound loosePlug 3) true ∷ test (keptTo loosePlug 3) true

@@ -16,28 +16,35 @@ use Rattle.scanlock.specs.declared.Answered.{Answered}
 use Rattle.scanlock.specs.declared.Event.{Event}
 use Rattle.scanlock.specs.declared.Event.the-variants.{View, Begin, End, Start, Abort, Finished, Stopped}
 
+-- the state by its fields; the axis a stands at a - 1
 abbrev pub locks : ℕ → ℕ → List Axis → Locks
 locks n view axes = record { n = n; view = view; axes = axes }
 
+-- an answer with the state after it; index 0
 abbrev pub answered : ℕ → Locks → Answered
 answered number st = record { number = number; index = 0; locks = st }
 
 -- ---- opening: n modules, a full view, no lock; 2 for an n that no backplane has
 
+-- a fresh scan lock
 unfoldable pub opened : ℕ → Locks
 opened n = locks n (full n) (replicate 8 free)
 
+-- what a refused opening or reading holds: no modules, so that every module is out of range
 unfoldable pub blank : Locks
 blank = locks 0 0 (replicate 8 free)
 
+-- what an opening answers
 unfoldable pub openOf : ℕ → Answered
 openOf n = cond (leb 2 n && leb n 16) (answered 0 (opened n)) (answered 2 blank)
 
 -- ---- the axis that an event names
 
+-- axis a of a state, 1..8
 abbrev pub axisAt : Locks → ℕ → Axis
 axisAt st a = getD (st .axes) (a - 1) free
 
+-- the state with another axis a
 abbrev pub withAxis : Locks → ℕ → Axis → Locks
 withAxis st a x = locks (st .n) (st .view) (set (st .axes) (a - 1) x)
 
@@ -51,6 +58,7 @@ admits st by a = onAxis a && leb by (st .n) && present (st .view) by
 abbrev pub refusedOf : Locks → ℕ → Answered
 refusedOf st number = answered number st
 
+-- accepted: axis a is x, the others are as they were
 abbrev pub putOf : Locks → ℕ → Axis → Answered
 putOf st a x = answered 0 (withAxis st a x)
 
@@ -67,26 +75,31 @@ unfoldable pub setViewOf : Locks → ℕ → Answered
 setViewOf st view =
     cond (ltb view (2 ^ st .n)) (answered 0 (locks (st .n) view (seenAxes view (st .axes)))) (refusedOf st 19)
 
+-- a module begins a lock: 19, then 20 and 21 by the axis
 unfoldable pub beginOf : Locks → ℕ → ℕ → Answered
 beginOf st by a = cond (admits st by a) (settledOf st a (begunOf (axisAt st a) by)) (refusedOf st 19)
 
+-- a module ends its innermost lock: 19, then 20 and 21
 unfoldable pub endOf : Locks → ℕ → ℕ → Answered
 endOf st by a = cond (admits st by a) (settledOf st a (endedOf (axisAt st a) by)) (refusedOf st 19)
 
+-- the holder starts a move: 19, then 20 and 21
 unfoldable pub startOf : Locks → ℕ → ℕ → Answered
 startOf st by a = cond (admits st by a) (settledOf st a (startedOf (axisAt st a) by)) (refusedOf st 19)
 
--- abort: neither 20 nor 21
+-- any present module aborts: 19 alone
 unfoldable pub abortOf : Locks → ℕ → ℕ → Answered
 abortOf st by a = cond (admits st by a) (putOf st a (abortedOf (axisAt st a))) (refusedOf st 19)
 
--- reports carry an axis only
+-- the axis reports its move finished; reports carry an axis only, and are refused by 19 alone
 unfoldable pub finishedBy : Locks → ℕ → Answered
 finishedBy st a = cond (onAxis a) (putOf st a (finishedOf (axisAt st a))) (refusedOf st 19)
 
+-- the axis reports that it has stopped
 unfoldable pub stoppedBy : Locks → ℕ → Answered
 stoppedBy st a = cond (onAxis a) (putOf st a (stoppedOf (axisAt st a))) (refusedOf st 19)
 
+-- any event
 unfoldable pub eventOf : Locks → Event → Answered
 eventOf st (View view) = setViewOf st view
 eventOf st (Begin by a) = beginOf st by a
@@ -98,5 +111,6 @@ eventOf st (Stopped a) = stoppedBy st a
 
 -- ---- the joystick: no axis is held, none is stopping
 
+-- live exactly while every axis is idle
 unfoldable pub joystickOf : Locks → Bool
 joystickOf st = all 8 (λ i. idle (getD (st .axes) i free))
