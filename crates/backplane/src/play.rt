@@ -16,6 +16,7 @@ use script::Events;
 use setup::Setup;
 use words::array::filled;
 use words::bits::full_of;
+use words::word::KIND;
 ghost use mathlib.Core.Path.{_≡_};
 ghost use Prim.Native.Nat.{ℕ, _≤_, _<_, _^_};
 ghost use Rattle.presence.specs.Valid.{Valid};
@@ -53,7 +54,7 @@ fn sent_words(n: usize, states: [State; 16]) -> [u32; 16]
     let mut sent = [0u32; 16];
     for j in 0..n {
         let state = states[j];
-        sent[j] = bus_word(state.latest() % 268435456);
+        sent[j] = bus_word(state.latest() % KIND);
     }
     sent
 }

@@ -9,6 +9,7 @@ use script::check::check;
 use setup::check::size_at;
 use setup::part::part;
 use text::line::put_lines;
+use words::word::KIND;
 use words::word::word_at;
 ghost use mathlib.Core.Path.{_≡_};
 ghost use Prim.Native.Nat.{_+_, _≤_, _<_};
@@ -25,7 +26,7 @@ fn begun(s: &[u8]) -> Run
     ensures { λ r. ⌜ r ≡ begun (now (s .entry)) ⌝ }
 {
     let n = size_at(s);
-    let cast = word_at(s, n + 3) % 268435456;
+    let cast = word_at(s, n + 3) % KIND;
     let read = setup::read::read(part(s));
     let setup = read.setup;
     let cursor = Cursor::start(n);

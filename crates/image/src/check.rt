@@ -11,6 +11,8 @@ use setup::check::check_head;
 use setup::check::check_words;
 use setup::check::size_at;
 use words::bits::bit_at;
+use words::word::KIND;
+use words::word::NUMBER;
 use words::word::word_at;
 ghost use mathlib.Core.Path.{_≡_};
 ghost use mathlib.Core.Bool.{not};
@@ -78,7 +80,7 @@ fn wrong_reward(s: &[u8], n: usize, limit: u32) -> usize
         if n <= j {
             break 0;
         }
-        let penalty = word_at(s, 2 * n + 6 + j) % 8388608;
+        let penalty = word_at(s, 2 * n + 6 + j) % NUMBER;
         if !reward_ok(limit, penalty, j, word_at(s, 3 * n + 6 + j)) {
             break j + 1;
         }
@@ -91,11 +93,11 @@ fn check_counters(s: &[u8], n: usize, view: u32) -> Verdict
     requires { ⌜ (n ≤ 16) × (length (now s) ≡ imageLength n) ⌝ }
     ensures { λ r. ⌜ r ≡ checkCounters (now (s .entry)) n view ⌝ }
 {
-    let penalty = wrong_penalty(s, n, word_at(s, 1) % 268435456, view);
+    let penalty = wrong_penalty(s, n, word_at(s, 1) % KIND, view);
     if penalty != 0 {
         return answer(8, (2 * n + 5 + penalty) as u32);
     }
-    let reward = wrong_reward(s, n, word_at(s, 2) % 268435456);
+    let reward = wrong_reward(s, n, word_at(s, 2) % KIND);
     if reward != 0 {
         return answer(8, (3 * n + 5 + reward) as u32);
     }

@@ -16,6 +16,8 @@ use setup::word::mark_ok;
 use setup::word::module_ok;
 use words::bits::bit_at;
 use words::bits::with_bit;
+use words::word::KIND;
+use words::word::NUMBER;
 use words::word::field;
 use words::word::word_at;
 ghost use mathlib.Core.Path.{_≡_};
@@ -57,8 +59,8 @@ pub fn load_setup(s: &[u8], n: usize) -> SetupPart
         good: limits & good,
         setup: Setup {
             n,
-            p: p % 268435456,
-            r: r % 268435456,
+            p: p % KIND,
+            r: r % KIND,
             marks,
             places,
             criticality,
@@ -115,11 +117,11 @@ pub fn load_counters(
     for j in 0..n {
         let w = word_at(s, i + j);
         let v = word_at(s, k + j);
-        let x = w % 8388608;
+        let x = w % NUMBER;
         let fits = penalty_ok(p, criticality[j], bit_at(view, j), j, w);
         good = good & (fits & reward_ok(limit, x, j, v));
         penalty[j] = x;
-        reward[j] = v % 8388608;
+        reward[j] = v % NUMBER;
     }
     CountersPart {
         good,

@@ -5,6 +5,8 @@ use crate::fields::row_fits;
 use words::bits::bit_at;
 use words::bits::flag;
 use words::bits::power;
+use words::word::KIND;
+use words::word::NUMBER;
 use words::word::field;
 ghost use mathlib.Core.Path.{_≡_};
 ghost use Prim.Native.Nat.{_^_, _≤_, _<_};
@@ -16,7 +18,7 @@ pub fn own_number_ok(n: usize, w: u32) -> bool
     ensures { λ r. ⌜ r ≡ ownNumberOk n w ⌝ }
 {
     let own = field(w, 16, 5);
-    (w / 268435456 != 10) | ((1 <= own) & (own as usize <= n))
+    (w / KIND != 10) | ((1 <= own) & (own as usize <= n))
 }
 
 // Kind 10, no spare bit, a view without bits at n or above.
@@ -32,7 +34,7 @@ pub fn row_ok(n: usize, j: usize, w: u32) -> bool
     requires { ⌜ (n ≤ 16) × (j < 16) ⌝ }
     ensures { λ r. ⌜ r ≡ rowOk n j w ⌝ }
 {
-    (w / 8388608 == 352 + (j as u32 + 1)) & row_fits(n, bit_at(w, 22), w % 4194304)
+    (w / NUMBER == 352 + (j as u32 + 1)) & row_fits(n, bit_at(w, 22), w % 4194304)
 }
 
 // Kind 12, no bit at n or above.
@@ -40,7 +42,7 @@ pub fn syndrome_ok(n: usize, w: u32) -> bool
     requires { ⌜ n ≤ 16 ⌝ }
     ensures { λ r. ⌜ r ≡ syndromeOk n w ⌝ }
 {
-    (w / 268435456 == 12) & (w % 268435456 < power(n))
+    (w / KIND == 12) & (w % KIND < power(n))
 }
 
 // Kind 13, the number j + 1, a penalty that fits.
@@ -48,7 +50,7 @@ pub fn penalty_ok(p: u32, criticality: u32, present: bool, j: usize, w: u32) -> 
     requires { ⌜ (p < 2 ^ 28) × (criticality < 2 ^ 17) × (j < 16) ⌝ }
     ensures { λ r. ⌜ r ≡ penaltyOk p criticality present j w ⌝ }
 {
-    (w / 8388608 == 416 + (j as u32 + 1)) & penalty_fits(p, criticality, present, w % 8388608)
+    (w / NUMBER == 416 + (j as u32 + 1)) & penalty_fits(p, criticality, present, w % NUMBER)
 }
 
 // Kind 14, the number j + 1, a reward that fits.
@@ -56,7 +58,7 @@ pub fn reward_ok(limit: u32, penalty: u32, j: usize, w: u32) -> bool
     requires { ⌜ j < 16 ⌝ }
     ensures { λ r. ⌜ r ≡ rewardOk limit penalty j w ⌝ }
 {
-    (w / 8388608 == 448 + (j as u32 + 1)) & reward_fits(limit, penalty, w % 8388608)
+    (w / NUMBER == 448 + (j as u32 + 1)) & reward_fits(limit, penalty, w % NUMBER)
 }
 
 // The word of the own number and the view.
@@ -64,7 +66,7 @@ pub fn own_word(own: usize, view: u32) -> u32
     requires { ⌜ (own ≤ 16) × (view < 2 ^ 16) ⌝ }
     ensures { λ r. ⌜ r ≡ ownWord own view ⌝ }
 {
-    10 * 268435456 + own as u32 * 65536 + view
+    10 * KIND + own as u32 * 65536 + view
 }
 
 // The word of the row of module j + 1.
@@ -72,7 +74,7 @@ pub fn row_word(j: usize, heard: bool, row: u32) -> u32
     requires { ⌜ (j < 16) × (row < 2 ^ 16) ⌝ }
     ensures { λ r. ⌜ r ≡ rowWord j heard row ⌝ }
 {
-    11 * 268435456 + (j as u32 + 1) * 8388608 + flag(heard) * 4194304 + row
+    11 * KIND + (j as u32 + 1) * NUMBER + flag(heard) * 4194304 + row
 }
 
 // The word of a syndrome.
@@ -80,7 +82,7 @@ pub fn syndrome_word(v: u32) -> u32
     requires { ⌜ v < 2 ^ 16 ⌝ }
     ensures { λ r. ⌜ r ≡ syndromeWord v ⌝ }
 {
-    12 * 268435456 + v
+    12 * KIND + v
 }
 
 // The word of a counter of module j + 1.
@@ -88,5 +90,5 @@ pub fn counter_word(kind: u32, j: usize, v: u32) -> u32
     requires { ⌜ (kind ≤ 14) × (j < 16) × (v < 2 ^ 23) ⌝ }
     ensures { λ r. ⌜ r ≡ counterWord kind j v ⌝ }
 {
-    kind * 268435456 + (j as u32 + 1) * 8388608 + v
+    kind * KIND + (j as u32 + 1) * NUMBER + v
 }

@@ -8,6 +8,7 @@ use image::check::check_image;
 use setup::check::check_head;
 use setup::check::size_at;
 use words::bits::bit_at;
+use words::word::KIND;
 use words::word::field;
 use words::word::word_at;
 ghost use mathlib.Core.Path.{_≡_};
@@ -128,8 +129,8 @@ fn word_in(image: &[u8]) -> u32
     let n = size_at(image);
     let own = field(word_at(image, n + 3), 16, 5) as usize;
     let mark = bit_at(word_at(image, own + 2), 22);
-    let latest = word_at(image, 2 * n + 4) % 268435456;
-    let earlier = word_at(image, 2 * n + 5) % 268435456;
+    let latest = word_at(image, 2 * n + 4) % KIND;
+    let earlier = word_at(image, 2 * n + 5) % KIND;
     rules::judge::outgoing(mark, earlier, latest)
 }
 

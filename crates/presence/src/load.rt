@@ -8,6 +8,7 @@ use image::read::load_setup;
 use image::read::single_ok;
 use setup::check::check_head;
 use setup::check::size_at;
+use words::word::KIND;
 use words::word::field;
 use words::word::word_at;
 ghost use mathlib.Core.Path.{_≡_};
@@ -52,8 +53,8 @@ pub fn load(s: &[u8], n: usize) -> Loaded
             own: field(own, 16, 5) as usize,
             counters,
             previous,
-            latest: latest % 268435456,
-            earlier: earlier % 268435456,
+            latest: latest % KIND,
+            earlier: earlier % KIND,
         },
     }
 }

@@ -5,6 +5,7 @@ use words::bits::bit_at;
 use words::bits::pick;
 use words::bits::power;
 use words::bits::with_bit;
+use words::word::KIND;
 use words::word::word_at;
 ghost use mathlib.Core.Path.{_≡_};
 ghost use Prim.Native.Nat.{_*_, _^_, _≤_, _<_};
@@ -16,7 +17,7 @@ pub fn bus_word(v: u32) -> u32
     requires { ⌜ v < 2 ^ 28 ⌝ }
     ensures { λ r. ⌜ r ≡ busWord v ⌝ }
 {
-    5 * 268435456 + v
+    5 * KIND + v
 }
 
 // Whether w is a bus word with no bits at n or above.
@@ -24,7 +25,7 @@ pub fn word_heard(n: usize, w: u32) -> bool
     requires { ⌜ n < 32 ⌝ }
     ensures { λ r. ⌜ r ≡ wordHeard n w ⌝ }
 {
-    (w / 268435456 == 5) & (w % 268435456 < power(n))
+    (w / KIND == 5) & (w % KIND < power(n))
 }
 
 // One module: its controller bit is `on`, its word is w.
@@ -35,7 +36,7 @@ fn entry(n: usize, on: bool, w: u32) -> Entry
     let heard = on & word_heard(n, w);
     Entry {
         heard,
-        row: pick(heard, w % 268435456, 0),
+        row: pick(heard, w % KIND, 0),
     }
 }
 

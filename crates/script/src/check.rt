@@ -7,6 +7,8 @@ use setup::check::size_at;
 use words::bits::bit_at;
 use words::bits::pick;
 use words::bits::power;
+use words::word::KIND;
+use words::word::NUMBER;
 use words::word::field;
 use words::word::word_at;
 ghost use mathlib.Core.Path.{_≡_};
@@ -21,7 +23,7 @@ fn cast_ok(n: usize, w: u32) -> bool
     requires { ⌜ n ≤ 16 ⌝ }
     ensures { λ r. ⌜ r ≡ castOk n w ⌝ }
 {
-    (w / 268435456 == 6) & (w % 268435456 < power(n))
+    (w / KIND == 6) & (w % KIND < power(n))
 }
 
 // A sender from 1 to n; a mask that is not empty, without spare bits and bits at n or above.
@@ -30,7 +32,7 @@ fn event_ok(n: usize, w: u32) -> bool
     ensures { λ r. ⌜ r ≡ eventOk n w ⌝ }
 {
     let sender = field(w, 23, 5) as usize;
-    let receivers = w % 8388608;
+    let receivers = w % NUMBER;
     (1 <= sender) & (sender <= n) & (0 < receivers) & (receivers < power(n))
 }
 
@@ -38,8 +40,8 @@ fn event_ok(n: usize, w: u32) -> bool
 fn play_ok(w: u32) -> bool
     ensures { λ r. ⌜ r ≡ playOk w ⌝ }
 {
-    let rounds = w % 268435456;
-    (w / 268435456 == 9) & ((1 <= rounds) & (rounds <= 1000))
+    let rounds = w % KIND;
+    (w / KIND == 9) & ((1 <= rounds) & (rounds <= 1000))
 }
 
 // The number by which a play of the word w is refused, or 0: 12, then 15.
@@ -50,7 +52,7 @@ fn play_refusal(rounds: u32, w: u32) -> u32
     if !play_ok(w) {
         return 12;
     }
-    pick(rounds + w % 268435456 <= 100000, 0, 15)
+    pick(rounds + w % KIND <= 100000, 0, 15)
 }
 
 // The number by which a loss or a lie w is refused, or 0: 12, then 13.
@@ -58,7 +60,7 @@ fn event_refusal(n: usize, cast: u32, w: u32) -> u32
     requires { ⌜ n ≤ 16 ⌝ }
     ensures { λ r. ⌜ r ≡ eventRefusal n cast w ⌝ }
 {
-    let kind = w / 268435456;
+    let kind = w / KIND;
     if !((7 <= kind) & (kind <= 8) & event_ok(n, w)) {
         return 12;
     }
@@ -75,7 +77,7 @@ impl Scan {
         if self.told {
             return 0;
         }
-        if w / 268435456 == 9 {
+        if w / KIND == 9 {
             return play_refusal(self.rounds, w);
         }
         event_refusal(n, cast, w)
@@ -94,9 +96,9 @@ impl Scan {
                 rounds,
             };
         }
-        let kind = w / 268435456;
+        let kind = w / KIND;
         if kind == 9 {
-            let more = rounds + w % 268435456;
+            let more = rounds + w % KIND;
             return Scan {
                 told: false,
                 pending: false,
@@ -169,7 +171,7 @@ fn check_play(s: &[u8], n: usize) -> Verdict
     if !cast_ok(n, w) {
         return answer(12, n as u32 + 3);
     }
-    check_tail(s, n, w % 268435456, n + 4)
+    check_tail(s, n, w % KIND, n + 4)
 }
 
 // Numbers 16, 1 to 6, 12 to 15 of a run script.

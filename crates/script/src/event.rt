@@ -2,6 +2,8 @@
 use crate::Events;
 use words::bits::bit_at;
 use words::bits::pick;
+use words::word::KIND;
+use words::word::NUMBER;
 use words::word::field;
 ghost use mathlib.Core.Path.{_≡_};
 ghost use Prim.Native.Nat.{_<_};
@@ -12,7 +14,7 @@ fn concerns(w: u32, x: usize) -> bool
     requires { ⌜ x < 256 ⌝ }
     ensures { λ r. ⌜ r ≡ concerns w x ⌝ }
 {
-    (field(w, 23, 5) as usize == x % 16 + 1) & bit_at(w % 8388608, x / 16)
+    (field(w, 23, 5) as usize == x % 16 + 1) & bit_at(w % NUMBER, x / 16)
 }
 
 impl Events {
@@ -30,7 +32,7 @@ impl Events {
     pub fn with(self, w: u32, told_word: u32) -> Events
         ensures { λ r. ⌜ r ≡ withEvent self w «told_word» ⌝ }
     {
-        let kind = w / 268435456;
+        let kind = w / KIND;
         let mut fate = [0u32; 256];
         let mut told = [0u32; 256];
         for x in 0..256 {

@@ -1,6 +1,7 @@
 // The place of a round in a run script.
 use crate::Cursor;
 use crate::Events;
+use words::word::KIND;
 use words::word::word_at;
 ghost use mathlib.Core.Path.{_≡_};
 ghost use Prim.Native.Nat.{_-_, _/_, _≤_};
@@ -12,18 +13,14 @@ ghost use Rattle.script.specs.Cursor.{isPlay, lieAfter, eventsAfter, gat
 fn is_play(lie: u32, w: u32) -> bool
     ensures { λ r. ⌜ r ≡ isPlay lie w ⌝ }
 {
-    (lie == 0) & (w / 268435456 == 9)
+    (lie == 0) & (w / KIND == 9)
 }
 
 // The lie whose told word comes after the word w, or 0.
 fn lie_after(lie: u32, w: u32) -> u32
     ensures { λ r. ⌜ r ≡ lieAfter lie w ⌝ }
 {
-    if (lie == 0) & (w / 268435456 == 8) {
-        w
-    } else {
-        0
-    }
+    if (lie == 0) & (w / KIND == 8) { w } else { 0 }
 }
 
 // The events after the word w, which is no play.
@@ -33,7 +30,7 @@ fn events_after(lie: u32, w: u32, events: Events) -> Events
     if lie != 0 {
         return events.with(lie, w);
     }
-    if w / 268435456 == 7 {
+    if w / KIND == 7 {
         return events.with(w, 0);
     }
     events
@@ -69,7 +66,7 @@ fn next_play(s: &[u8], from: usize) -> Cursor
         if is_play(lie, w) {
             break Cursor {
                 at,
-                left: less_one(w % 268435456),
+                left: less_one(w % KIND),
                 over: false,
                 events,
             };

@@ -5,6 +5,7 @@ use crate::check::check;
 use crate::check::size_at;
 use words::bits::bit_at;
 use words::bits::with_bit;
+use words::word::KIND;
 use words::word::field;
 use words::word::word_at;
 ghost use mathlib.Core.Path.{_≡_};
@@ -35,8 +36,8 @@ fn setup_in(s: &[u8], n: usize) -> Setup
     requires { ⌜ (n ≤ 16) × (setupLength n ≤ length (now s)) × (n ≡ sizeIn (wordAt (now s) 0)) ⌝ }
     ensures { λ r. ⌜ r ≡ setupOf (now (s .entry)) ⌝ }
 {
-    let p = word_at(s, 1) % 268435456;
-    let r = word_at(s, 2) % 268435456;
+    let p = word_at(s, 1) % KIND;
+    let r = word_at(s, 2) % KIND;
     let mut marks: u32 = 0;
     let mut places = [0u32; 16];
     let mut criticality = [0u32; 16];

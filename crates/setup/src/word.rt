@@ -1,5 +1,7 @@
 // Tests of single words of a setup, and of the fields that they hold.
 use words::bits::bit_at;
+use words::word::KIND;
+use words::word::NUMBER;
 use words::word::field;
 ghost use mathlib.Core.Path.{_≡_};
 ghost use Prim.Native.Nat.{_^_, _<_};
@@ -24,7 +26,7 @@ pub fn mark_fits(j: usize, mark: bool, place: u32) -> bool
 pub fn head_ok(w: u32) -> bool
     ensures { λ r. ⌜ r ≡ headOk w ⌝ }
 {
-    (268435458 <= w) & (w <= 268435472)
+    (KIND + 2 <= w) & (w <= KIND + 16)
 }
 
 // The kind, a limit from 1 to the most.
@@ -32,7 +34,7 @@ pub fn limit_ok(kind: u32, most: u32, w: u32) -> bool
     requires { ⌜ (kind < 4) × (most < 2 ^ 28) ⌝ }
     ensures { λ r. ⌜ r ≡ limitOk kind most w ⌝ }
 {
-    let base = kind * 268435456;
+    let base = kind * KIND;
     (base + 1 <= w) & (w <= base + most)
 }
 
@@ -41,7 +43,7 @@ pub fn module_ok(n: usize, j: usize, w: u32) -> bool
     requires { ⌜ j < 16 ⌝ }
     ensures { λ r. ⌜ r ≡ moduleOk n j w ⌝ }
 {
-    (w / 8388608 == 128 + (j as u32 + 1)) & module_fits(n, field(w, 17, 5), w % 131072)
+    (w / NUMBER == 128 + (j as u32 + 1)) & module_fits(n, field(w, 17, 5), w % 131072)
 }
 
 // The send mark of module j + 1.

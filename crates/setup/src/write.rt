@@ -5,6 +5,8 @@ use crate::check::answer;
 use crate::fields::verdict;
 use words::bits::bit_at;
 use words::bits::flag;
+use words::word::KIND;
+use words::word::NUMBER;
 use words::word::put_word;
 ghost use mathlib.Core.Path.{_≡_};
 ghost use mathlib.Core.List.{_++_};
@@ -20,7 +22,7 @@ fn module_word(j: usize, mark: bool, place: u32, criticality: u32) -> u32
     requires { ⌜ (j < 16) × (place < 2 ^ 5) × (criticality < 2 ^ 17) ⌝ }
     ensures { λ r. ⌜ r ≡ moduleWord j mark place criticality ⌝ }
 {
-    4 * 268435456 + (j as u32 + 1) * 8388608 + flag(mark) * 4194304 + place * 131072 + criticality
+    4 * KIND + (j as u32 + 1) * NUMBER + flag(mark) * 4194304 + place * 131072 + criticality
 }
 
 // Writes the head and the limits.
@@ -28,9 +30,9 @@ fn write_front(n: usize, p: u32, r: u32, out: &mut [u8])
     requires { ⌜ (n ≤ 16) × (p < 2 ^ 28) × (r < 2 ^ 28) × (length (now out) ≡ 12) ⌝ }
     ensures { λ _. ⌜ now (out .exit) ≡ wordBytes (headWord n) ++ (wordBytes (limitWord 2 p) ++ wordBytes (limitWord 3 r)) ⌝ }
 {
-    put_word(out, 0, 268435456 + n as u32);
-    put_word(out, 1, 2 * 268435456 + p);
-    put_word(out, 2, 3 * 268435456 + r);
+    put_word(out, 0, KIND + n as u32);
+    put_word(out, 1, 2 * KIND + p);
+    put_word(out, 2, 3 * KIND + r);
 }
 
 // Writes the module words of a setup.

@@ -4,9 +4,6 @@ use borrow.Author.Tests.{eq-eqb, ne-eqb}
 use native.Mathlib.Omega.{arith}
 use Rattle.scanlock.specs.Axis.{endedOf}
 use Rattle.scanlock.proofs.AnswerLaws.{yes, no, end-made}
-use mathlib.Core.Path.{sym, _∙_}
-use Rattle.scanlock.specs.Axis.{endedOf}
-use Rattle.scanlock.proofs.AnswerLaws.{yes, no}
 use borrow.Author.Needs.{needs}
 use Rattle.scanlock.proofs.Axis.ended.Statement.{statement}
 use Rattle.scanlock.proofs.Axis.ended.Tie as tie

@@ -2,8 +2,6 @@
 use mathlib.Core.Path.{ap}
 use Rattle.scanlock.specs.Locks.{answered, openOf}
 use Rattle.scanlock.proofs.AnswerLaws.{yes, no, within}
-use Rattle.scanlock.proofs.AnswerLaws.{yes, no}
-use Rattle.scanlock.specs.Locks.{openOf}
 use borrow.Author.Needs.{needs}
 use Rattle.scanlock.proofs.Locks.open.Statement.{statement}
 use Rattle.scanlock.proofs.Locks.open.Tie as tie

@@ -2,7 +2,6 @@
 use Prim.Native.Nat.{_^_, _<_}
 use native.Mathlib.Omega.{arith}
 use Rattle.scanlock.proofs.AnswerLaws.{within, present-bit, present-none}
-use Rattle.scanlock.proofs.AnswerLaws.{present-bit, present-none}
 use borrow.Author.Needs.{needs}
 use Rattle.scanlock.proofs.on_axis.is_present.Statement.{statement}
 use Rattle.scanlock.proofs.on_axis.is_present.Tie as tie
