@@ -50,7 +50,7 @@ stage: $(C_BUILD)/stage $(C_BUILD)/stage-asan
 	for p in stage stage-asan; do $(C_BUILD)/$$p > $(C_BUILD)/$$p.out && diff examples/stage/expected.txt $(C_BUILD)/$$p.out || exit 1; done
 	@echo stage example: output as expected
 
-# Instructions, stack and code size of a step against plain.c.
+# Instructions of a step, without and with a page, against plain.c; stack of every call; code size of every object.
 measure: $(C_ARCHIVE)
 	python3 harness/measure/measure.py --lib $(PRESENCE_LIB) --libs="$(PRESENCE_LIBS)" --build $(C_BUILD)/measure
 
