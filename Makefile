@@ -3,7 +3,7 @@
 # make harness  the harness alone: Rust implementations of the documents and a C program against the proved library and the bench
 # make tools-test   the tests of the tools for run scripts and what the bench prints, alone; harness runs them too
 # make soak     the harness on a hundred million calls, a million histories of the scan lock and a hundred thousand run scripts
-# make measure  instructions, stack and code size of a step beside plain C, and time beside the Rust implementation
+# make measure  instructions of a step beside plain C, stack of every call, code size, and a step's time beside the Rust implementation
 # make time     time of the bench beside the Rust player: 100,000 rounds of 16 modules
 .PHONY: run test harness tools-test soak measure time library bench rust clean
 

@@ -17,9 +17,9 @@ C_FLAGS = -std=c99 -Wall -Wextra -Werror -Iinclude
 C_LINK = -L$(PRESENCE_LIB) -lgirmaut $(PRESENCE_LIBS)
 C_ARCHIVE = $(PRESENCE_LIB)/libgirmaut.a
 
-.PHONY: check check-asan check-valgrind header firmware stage measure c-all
+.PHONY: check check-asan check-valgrind header firmware stage goals measure c-all
 
-c-all: header check check-asan firmware stage
+c-all: header check check-asan firmware stage goals
 
 # Every function against document 01 and plain.c.
 check: $(C_BUILD)/check
@@ -50,7 +50,13 @@ stage: $(C_BUILD)/stage $(C_BUILD)/stage-asan
 	for p in stage stage-asan; do $(C_BUILD)/$$p > $(C_BUILD)/$$p.out && diff examples/stage/expected.txt $(C_BUILD)/$$p.out || exit 1; done
 	@echo stage example: output as expected
 
-# Instructions, stack and code size of a step against plain.c.
+# The goals of speed hold; they are counted by valgrind, and left out with a word where there is none.
+goals: $(C_ARCHIVE)
+	@if command -v valgrind >/dev/null; then \
+	    python3 harness/measure/measure.py --lib $(PRESENCE_LIB) --libs="$(PRESENCE_LIBS)" --build $(C_BUILD)/measure --goals; \
+	else echo 'goals of speed: not counted, since there is no valgrind'; fi
+
+# Instructions of a step, without and with a page, against plain.c; stack of every call; code size of every object.
 measure: $(C_ARCHIVE)
 	python3 harness/measure/measure.py --lib $(PRESENCE_LIB) --libs="$(PRESENCE_LIBS)" --build $(C_BUILD)/measure
 

@@ -1,15 +1,26 @@
 #!/usr/bin/env python3
-"""Measures a step of the library against plain.c.
+"""Measures the calls of the library, the step against plain.c.
 
   harness/measure/measure.py --lib FOLDER [--libs "-lpthread ..."] [--n 4,16]
 
-FOLDER holds libpresence.a.  Needs gcc, size and valgrind.
+FOLDER holds libgirmaut.a.  Needs gcc, nm, size and valgrind.
 
-Counted are instructions a step, as the difference of two runs with different
-numbers of rounds, divided by the rounds between: "step" is the step function
-with all that it calls, "total" the whole program (the driver's loop included).
-Both implementations get the same inputs (rounds.h); their checksums over final
-image and health vectors must be equal, or the exit status is 1.
+Instructions: of a step, as the difference of two runs with different numbers
+of rounds, divided by the rounds between.  "step" is the step function with all
+that it calls, "total" the whole program (the driver's loop included); "page"
+is presence_page_step.  All get the same inputs (rounds.h); their checksums
+over final image and health vectors must be equal, or the exit status is 1.
+
+Stack: of every call that the archive exports, and of the step of plain.c, each
+at its deepest over u and all kinds of rounds, accepted and refused
+(stack/stack.c).  Each must have answered every number that the header names
+for it, and no other.
+
+Code size: of plain.o and of each object of the archive, as size gives it.
+
+With --goals only the goals of speed are tried, for the gate: a step of 16
+modules in at most half of plain C's instructions, of 4 modules in at most plain
+C's own, in quiet and in loud rounds.  Exit status 1 if one is not met.
 """
 import argparse
 import os
@@ -19,6 +30,10 @@ import sys
 
 HERE = os.path.dirname(os.path.abspath(__file__))
 ROOT = os.path.normpath(os.path.join(HERE, "..", ".."))
+GCC = ["gcc", "-std=c99", "-O2", "-Wall", "-Wextra", "-Werror", "-Wl,--gc-sections",
+       "-I" + ROOT + "/include", "-I" + ROOT + "/harness/c", "-I" + HERE]
+STACK = ["stack/stack.c", "stack/given.c", "stack/calls.c", "stack/painted.c"]
+ADDRESS_BYTES = 8  # of a return address
 KINDS = ["quiet", "loud", "late"]
 FEW, MANY = 64, 320  # rounds, multiples of PERIOD in rounds.h
 
@@ -30,16 +45,19 @@ def run(command):
     return done.stdout
 
 
-class Implementation:
-    def __init__(self, name, flags, link, build):
-        self.name, self.flags, self.link, self.build = name, flags, link, build
-        self.function = name + "_step"
+def exported(path):
+    """Names of the functions that an object or an archive exports."""
+    return re.findall(r" T (\w+)$", run(["nm", "-g", "--defined-only", path]), re.M)
 
-    def compile(self, source, extra=()):
-        program = os.path.join(self.build, "%s-%s" % (os.path.basename(source)[:-2], self.name))
-        run(["gcc", "-O2", "-Wall", "-Wextra", "-I" + ROOT + "/include", "-I" + ROOT + "/harness/c",
-             "-Wl,--gc-sections", *self.flags, os.path.join(HERE, source), *extra,
-             *(self.link if not extra else []), "-o", program])
+
+class Implementation:
+    def __init__(self, name, function, flags, link, build):
+        self.name, self.function, self.flags, self.link, self.build = name, function, flags, link, build
+
+    def compile(self, sources, link):
+        names = [os.path.basename(source)[:-2] for source in sources]
+        program = os.path.join(self.build, "-".join([*names, self.name]))
+        run([*GCC, *self.flags, *(os.path.join(HERE, source) for source in sources), *link, "-o", program])
         return program
 
     def instructions(self, n, u, kind, rounds):
@@ -62,85 +80,156 @@ class Implementation:
         return (many[0] - few[0]) / between, (many[1] - few[1]) / between, many[2]
 
 
+# ---- instructions ----
+
+
+def print_instructions(plain, presence, page, n, u, kind):
+    """One line of the table.  Answers whether all printed the same."""
+    plain_total, plain_step, plain_says = plain.per_step(n, u, kind)
+    total, step, says = presence.per_step(n, u, kind)
+    _, page_step, page_says = page.per_step(n, u, kind)
+    words = plain_says.split()
+    differ = "%d%%" % round(100 * int(words[9]) / int(words[7]))
+    print("%2d %d %-6s %11s | %11.1f %13.1f %5.2f | %11.1f %14.1f %5.2f | %9.1f %5.2f"
+          % (n, u, kind, differ, plain_step, step, step / plain_step,
+             plain_total, total, total / plain_total, page_step, page_step / step), flush=True)
+    equal = plain_says == says == page_says
+    if not equal:
+        print("   RESULTS DIFFER: plain %s   presence %s   page %s"
+              % (plain_says.strip(), says.strip(), page_says.strip()))
+    return equal
+
+
+def print_all_instructions(plain, presence, page, sizes):
+    """Answers whether the results were equal everywhere."""
+    print("Instructions a step (callgrind, gcc -O2; ratios are presence / plain, and page / presence)")
+    print(" N u rounds rows differ |  plain step presence step ratio"
+          " | plain total presence total ratio | page step ratio")
+    for one in (plain, presence, page):
+        one.driver = one.compile(["driver.c"], one.link)
+    equal = True
+    for n in sizes:
+        for u in (0, 1):
+            for kind in KINDS:
+                equal = print_instructions(plain, presence, page, n, u, kind) and equal
+    return equal
+
+
+# ---- stack ----
+
+
+def depths(program, n, u, kind):
+    """By call: depth accepted and refused, numbers that the header names, numbers answered."""
+    lines = [line.split() for line in run([program, str(n), str(u), kind]).splitlines()]
+    return {name: (int(accepted), int(refused), int(named, 16), int(answered, 16))
+            for name, accepted, refused, named, answered in lines}
+
+
+def deepest(program, n, empty):
+    """By call: bytes accepted and refused, the largest over u and the kinds of rounds."""
+    largest = {name: (0, 0) for name in empty}
+    for u in (0, 1):
+        for kind in KINDS:
+            for name, (accepted, refused, named, answered) in depths(program, n, u, kind).items():
+                if named != answered:
+                    sys.exit("%s: answered numbers %X, the header names %X" % (name, answered, named))
+                own = ADDRESS_BYTES - empty[name][0]
+                largest[name] = (max(largest[name][0], accepted + own), max(largest[name][1], refused + own))
+    return largest
+
+
+def print_stacks(one, sizes):
+    """Answers the calls."""
+    program = one.compile(STACK, one.link)
+    in_place = ["-Wl,--defsym=%s=nothing" % name for name in exported(one.link[0])]
+    empty = depths(one.compile([*STACK, "stack/nothing.c"], in_place), 2, 0, "quiet")
+    found = [deepest(program, n, empty) for n in sizes]
+    for name in empty:
+        accepted, refused = ("".join("%6d" % at_n[name][which] for at_n in found) for which in (0, 1))
+        print("  %-23s |%s |%s" % (name, accepted, refused), flush=True)
+    return list(empty)
+
+
+def print_all_stacks(plain, presence, sizes):
+    print("\nStack in bytes (painted, return address included; left the deepest accepted call, right refused)")
+    columns = "".join("%6s" % ("N=%d" % n) for n in sizes)
+    print("  %-23s |%s |%s" % ("call", columns, columns))
+    print_stacks(plain, sizes)
+    missing = set(exported(presence.link[0])) - set(print_stacks(presence, sizes))
+    if missing:
+        sys.exit("stack not measured: %s" % ", ".join(sorted(missing)))
+
+
+# ---- code size ----
+
+
 def text_bytes(path):
-    """Sum of the text column of size: code, constants, unwind tables."""
-    return sum(int(line.split()[0]) for line in run(["size", path]).splitlines()[1:])
+    """By object: text of size, that is code, constants, unwind tables."""
+    lines = [line.split() for line in run(["size", path]).splitlines()[1:]]
+    return {os.path.basename(line[5]): int(line[0]) for line in lines}
+
+
+def print_code_sizes(both, archive):
+    print("\nCode size in bytes (text of size: code, constants, unwind tables)")
+    for one in both:
+        own = one.name + ".o"
+        linked = sum(text_bytes(one.compile(["use.c"], one.link)).values())
+        rest = sum(text_bytes(one.compile(["use.c", "none.c"], [])).values())
+        print("  %-8s %7d in %s, %d of it linked when all five functions are used"
+              % (one.name, text_bytes(one.link[0])[own], own, linked - rest))
+    objects = ["%s %d" % (name, size) for name, size in sorted(text_bytes(archive).items())]
+    print("  %s: %s" % (os.path.basename(archive), ", ".join(objects)))
+
+
+# ---- goals ----
+
+# the most that a step may take of plain C's instructions, by N
+GOALS = {4: 1.0, 16: 0.5}
+
+
+def goals_met(plain, presence):
+    met = True
+    for n, most in GOALS.items():
+        for kind in ("quiet", "loud"):
+            ratio = presence.per_step(n, 0, kind)[1] / plain.per_step(n, 0, kind)[1]
+            print("step of %d modules, %s rounds: %.2f of plain C's instructions, the goal is at most %.1f" % (n, kind, ratio, most))
+            met = met and ratio <= most
+    return met
+
+
+# ---- all ----
 
 
 def parse_options():
     options = argparse.ArgumentParser(description=__doc__.splitlines()[0])
-    options.add_argument("--lib", required=True, help="folder of libpresence.a")
+    options.add_argument("--lib", required=True, help="folder of libgirmaut.a")
     options.add_argument("--libs", default="", help="further linker arguments")
     options.add_argument("--n", default="2,4,8,16", help="values of N")
+    options.add_argument("--goals", action="store_true", help="only try the goals of speed")
     options.add_argument("--build", default=os.path.join(ROOT, "build", "measure"))
     return options.parse_args()
 
 
 def compile_plain(build):
     plain_object = os.path.join(build, "plain.o")
-    run(["gcc", "-std=c99", "-O2", "-Wall", "-Wextra", "-I" + ROOT + "/include", "-c",
-         ROOT + "/harness/c/plain.c", "-o", plain_object])
+    run([*GCC, "-c", ROOT + "/harness/c/plain.c", "-o", plain_object])
     return plain_object
-
-
-def print_instructions(plain, presence, n, u, kind):
-    """One line of the table.  Answers whether both printed the same."""
-    plain_total, plain_step, plain_says = plain.per_step(n, u, kind)
-    total, step, says = presence.per_step(n, u, kind)
-    words = plain_says.split()
-    differ = "%d%%" % round(100 * int(words[9]) / int(words[7]))
-    print("%2d %d %-6s %11s | %11.1f %13.1f %5.2f | %11.1f %14.1f %5.2f"
-          % (n, u, kind, differ, plain_step, step, step / plain_step,
-             plain_total, total, total / plain_total), flush=True)
-    if says != plain_says:
-        print("   RESULTS DIFFER: plain %s   presence %s" % (plain_says.strip(), says.strip()))
-    return says == plain_says
-
-
-def print_all_instructions(plain, presence, sizes):
-    """Answers whether the results were equal everywhere."""
-    print("Instructions a step (callgrind, gcc -O2; ratio is presence / plain)")
-    print(" N u rounds rows differ |  plain step presence step ratio | plain total presence total ratio")
-    equal = True
-    for n in sizes:
-        for u in (0, 1):
-            for kind in KINDS:
-                equal = print_instructions(plain, presence, n, u, kind) and equal
-    return equal
-
-
-def print_stacks(both, sizes):
-    print("\nStack of a step in bytes (painted, return address included)")
-    for one in both:
-        program = one.compile("stack.c")
-        depths = ["N=%d %s" % (n, max(int(run([program, str(n), str(u), kind]))
-                                      for u in (0, 1) for kind in KINDS)) for n in sizes]
-        print("  %-8s %s" % (one.name, ", ".join(depths)))
-
-
-def print_code_sizes(both):
-    print("\nCode size in bytes (text of size: code, constants, unwind tables)")
-    for one in both:
-        path = one.link[0]
-        linked = text_bytes(one.compile("use.c"))
-        rest = text_bytes(one.compile("use.c", [os.path.join(HERE, "none.c")]))
-        print("  %-8s %7d in %s, %d of it linked when all five functions are used"
-              % (one.name, text_bytes(path), os.path.basename(path), linked - rest))
 
 
 def main():
     options = parse_options()
     sizes = [int(n) for n in options.n.split(",")]
     os.makedirs(options.build, exist_ok=True)
-    archive = os.path.join(options.lib, "libpresence.a")
-    plain = Implementation("plain", ["-DPLAIN"], [compile_plain(options.build)], options.build)
-    presence = Implementation("presence", [], [archive, *options.libs.split()], options.build)
-    both = (plain, presence)
-    for one in both:
-        one.driver = one.compile("driver.c")
-    equal = print_all_instructions(plain, presence, sizes)
-    print_stacks(both, sizes)
-    print_code_sizes(both)
+    archive = os.path.join(options.lib, "libgirmaut.a")
+    link = [archive, *options.libs.split()]
+    plain = Implementation("plain", "plain_step", ["-DPLAIN"], [compile_plain(options.build)], options.build)
+    presence = Implementation("presence", "presence_step", [], link, options.build)
+    if options.goals:
+        return 0 if goals_met(plain, presence) else 1
+    page = Implementation("page", "presence_page_step", ["-DPAGE"], link, options.build)
+    equal = print_all_instructions(plain, presence, page, sizes)
+    print_all_stacks(plain, presence, sizes)
+    print_code_sizes((plain, presence), archive)
     print("\nresults %s" % ("equal" if equal else "DIFFERENT"))
     return 0 if equal else 1
 

@@ -1,4 +1,7 @@
-/* which.h - the functions to measure: plain.c with -DPLAIN, else the library. */
+/*
+ * which.h - the functions to measure: of plain.c with -DPLAIN, of the library
+ * with a page with -DPAGE (opening and step alone), else of the library.
+ */
 #ifndef WHICH_H
 #define WHICH_H
 
@@ -9,6 +12,11 @@
 #define STEP plain_step
 #define SAVE plain_save
 #define OUTGOING plain_outgoing
+#elif defined PAGE
+#include "presence.h"
+static uint8_t page[PRESENCE_PAGE_BYTES];
+#define OPEN(...) presence_page_open(__VA_ARGS__, page, sizeof page)
+#define STEP(...) presence_page_step(__VA_ARGS__, page, sizeof page)
 #else
 #include "presence.h"
 #define CHECK_SETUP presence_check_setup

@@ -1,0 +1,22 @@
+/* given.h - the inputs in each round of rounds.h, as they should be. */
+#ifndef GIVEN_H
+#define GIVEN_H
+
+#include "calls.h"
+
+extern struct inputs given;
+
+/* Opens a module and a scan lock.  Arguments N, U, kind of rounds.  Returns 0
+   if they are wrong or the opening is refused. */
+int give_opened(char **argument);
+
+/* The number of rounds to make. */
+extern const uint32_t given_rounds;
+
+/* The read of round k. */
+void give_round(uint32_t k);
+
+/* Makes the step of the round.  Returns 0 if it is refused. */
+int give_step(void);
+
+#endif
