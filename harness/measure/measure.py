@@ -53,6 +53,7 @@ def exported(path):
 class Implementation:
     def __init__(self, name, function, flags, link, build):
         self.name, self.function, self.flags, self.link, self.build = name, function, flags, link, build
+        self.driver = self.compile(["driver.c"], link)
 
     def compile(self, sources, link):
         names = [os.path.basename(source)[:-2] for source in sources]
@@ -105,8 +106,6 @@ def print_all_instructions(plain, presence, page, sizes):
     print("Instructions a step (callgrind, gcc -O2; ratios are presence / plain, and page / presence)")
     print(" N u rounds rows differ |  plain step presence step ratio"
           " | plain total presence total ratio | page step ratio")
-    for one in (plain, presence, page):
-        one.driver = one.compile(["driver.c"], one.link)
     equal = True
     for n in sizes:
         for u in (0, 1):
