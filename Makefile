@@ -8,7 +8,8 @@
 .PHONY: run test harness tools-test soak measure time library bench rust clean
 
 LIB := target/staticlib
-EXPORTS := presence page scanlock
+ABOVE := page scanlock
+EXPORTS := presence $(ABOVE)
 BENCH := target/bin/bench
 RUST := target/harness/release
 SEED ?= 1
@@ -21,11 +22,15 @@ run: bench
 test:
 	.ci/run
 
-# the proved library for C, $(LIB)/libgirmaut.a: the objects of every crate that exports calls; the linker takes those that are called
-library:
-	for crate in $(EXPORTS); do rt staticlib $$crate || exit 1; done
+# the proved library for C, $(LIB)/libgirmaut.a: the objects of every crate that exports calls; the linker takes those that are called.
+# What all of them build on is proved with the first, so the others can be made at the same time.
+library: library-presence
+	$(MAKE) --no-print-directory -j2 $(ABOVE:%=library-%)
 	rm -f $(LIB)/libgirmaut.a
 	(echo create $(LIB)/libgirmaut.a; for crate in $(EXPORTS); do echo addlib $(LIB)/lib$$crate.a; done; echo save; echo end) | ar -M
+
+library-%:
+	rt staticlib $*
 
 # the proved bench, $(BENCH); rt skips what is unchanged
 bench:
