@@ -80,9 +80,12 @@ def name_of(crate, module, struct, name):
 
 
 def said(crate, edit):
-    """What the prover said of each function with an edit; None if it has not been tried."""
+    """What the prover said of each function with an edit; None if it has not been tried since it was written."""
     log = os.path.join(LOGS, crate, edit, ".log")
-    return dict(re.findall(rf"(?m)^fn {crate}::(\S+): (.*)$", text(log))) if os.path.exists(log) else None
+    written = os.path.getmtime(os.path.join(CRATES, crate, "must-fail", edit + ".edit"))
+    if not os.path.exists(log) or os.path.getmtime(log) < written:
+        return None
+    return dict(re.findall(rf"(?m)^fn {crate}::(\S+): (.*)$", text(log)))
 
 
 class WrongPrograms(unittest.TestCase):
