@@ -43,6 +43,7 @@ pub data Unnamed (j : ℕ) (page : List ℕ) : List ℕ → Type 0 where
   written : {now : List ℕ} → Unnamed j page now → (offset value : ℕ) → eqb offset 8 && bit value j ≡ false
       → Unnamed j page (writeCall now offset value .page)
 
+-- all that is promised, of every image and every page
 pub record Promise : Type 0 where
   -- An accepted call with a page is the call without it, so what is proved of images (agreement/specs/Images.antt) holds of these too.
   pub same-opening : (setup : List ℕ) (own : ℕ) (out page : List ℕ) → pageOpenCall setup own out page .call .answer .number ≡ 0
