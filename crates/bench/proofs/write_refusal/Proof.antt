@@ -26,7 +26,7 @@ slice-aggregate-with-part c = search needs
 -- the line is part 0, and nothing was written before it
 with-part-requires : tie.Need-with-part-requires
 with-part-requires c κs =
-    let z = c .before .nothing .ensures in
+    let z = c .before .nothing .ensures .0 in
     let p = c .before .before .before .put-refusal .ensures .0 in
     let s = c .before .before .before .before .before .before in (
       omega (arith, z),
@@ -37,7 +37,7 @@ with-part-requires c κs =
 returns : tie.Need-returns
 returns c =
     let g = c .before .before in
-    c .with-part .ensures ∙ ap (λ (k : ℕ). k + 1) (g .nothing .ensures) ∙ sym (parts-one _ (ne-eqb _ 0 (g .before .before .before .before .before .pre .0)))
+    c .with-part .ensures .0 ∙ ap (λ (k : ℕ). k + 1) (g .nothing .ensures .0) ∙ sym (parts-one _ (ne-eqb _ 0 (g .before .before .before .before .before .pre .0)))
 
 pub write-refusal-spec : {M : Type 1} → statement M
 write-refusal-spec =

@@ -43,7 +43,7 @@ nothing-requires c κs = tt
 loop-holds : tie.Need-loop-holds Inv-loop μ-loop
 unfolding later
 loop-holds c =
-    let z = c .nothing .ensures in
+    let z = c .nothing .ensures .0 in
     let s = c .before .before .args .script .now in
     (refl, c .before .before .pre .1 ∙ ap (λ (k : ℕ). runAt s (k * 64)) (sym z), omega (arith, z), sym (le-ltb (roundsOf s) _ (omega (arith, z))))
 
@@ -75,7 +75,7 @@ loop-less c =
     let l = c .before .before .before .before .before .before .before .before .loop in
     let s = c .before .before .before .before .before .before .before .before .before .before .before .args .script .now in
     let h = playing (roundsOf s) (l .written .parts * 64) (l .inv .3) (c .before .before .before .before .before .before .before .loop-test .taken) in
-    omega (arith, h, c .before .before .with-part .ensures)
+    omega (arith, h, c .before .before .with-part .ensures .0)
 
 loop-again : tie.Need-loop-again Inv-loop μ-loop
 loop-again c =
@@ -83,7 +83,7 @@ loop-again c =
     let s = c .before .before .before .before .before .before .before .before .before .before .before .args .script .now in
     let e = c .before .before .before .before .before .before .before .before .before .before .before .pre .0 in
     let f = c .before .before .before .before .before .fill .ensures in
-    let k = c .before .before .with-part .ensures in
+    let k = c .before .before .with-part .ensures .0 in
     let h = playing (roundsOf s) (l .written .parts * 64) (l .inv .3) (c .before .before .before .before .before .before .before .loop-test .taken) in
     let r = part-next _ e (l .written .parts) (l .inv .1) (f .0) ∙ ap (λ (x : ℕ). runAt s (x * 64)) (sym k) in (
       wrote-length (f .1) ∙ l .inv .0,
