@@ -1,5 +1,5 @@
 -- What is read is what was saved, and what is saved is what was read.
-use mathlib.Core.Path.{_≡_, ap, _∙_, sym, subst}
+use mathlib.Core.Path.{_≡_, refl, ap, _∙_, sym, subst}
 use mathlib.Core.Bool.{true, _&&_}
 use mathlib.Core.List.{List, _++_}
 use Prim.Native.Nat.{ℕ, _+_, _*_, _^_, _<_}
@@ -12,7 +12,7 @@ use Rattle.words.specs.Bits.{bit, pack}
 use Rattle.words.specs.Array.{array, clearFrom}
 use Rattle.words.proofs.Truth.{and-l, and-r, cond-true}
 use Rattle.words.proofs.BitLaws.{bit-pack, pack-ext, pack-own}
-use Rattle.words.proofs.ArrayLaws.{array-at, array-ext, array-own}
+use Rattle.words.proofs.ArrayLaws.{array-at, array-ext, array-length, array-own}
 use Rattle.words.proofs.ByteLaws.{bytes-ext}
 use Rattle.words.proofs.RunLaws.{bytes-own}
 use Rattle.setup.specs.Verdict.{accepted}
@@ -21,8 +21,10 @@ use Rattle.setup.specs.Check.{checkSetup, readSetup}
 use Rattle.setup.specs.declared.Setup.{Setup}
 use Rattle.setup.specs.declared.SetupRead.{SetupRead}
 use Rattle.setup.proofs.CheckLaws.{WordsFit, setup-pass}
-use Rattle.rules.specs.Account.{accountAt}
-use Rattle.setup.proofs.RoundTrip.{read-written}
+use Rattle.rules.specs.Hearing.{readingOf}
+use Rattle.rules.specs.Account.{accountAt, countersOf}
+use Rattle.setup.specs.RoundTrip.{Shaped as ShapedSetup}
+use Rattle.setup.proofs.RoundTrip.{read-back}
 use Rattle.image.specs.Words.{ownWord, ownIn, viewIn, rowWord, heardIn, rowIn, syndromeWord, syndromeIn, counterWord, counterIn, imageLength}
 use Rattle.image.specs.Check.{checkImage}
 use Rattle.image.proofs.FieldLaws.{penalty-of, reward-of}
@@ -31,11 +33,17 @@ use Rattle.image.proofs.ImageBytes.{setup-length, parts-length, at-front, at-ow
 use Rattle.setup.proofs.FrontLaws.{words-same, setup-same, setup-written}
 use Rattle.image.proofs.CheckLaws.{TailFits, ImageFits, image-pass, image-ok}
 use Rattle.presence.specs.Valid.{Valid, stateTidy}
+use Rattle.presence.specs.Opening.{fresh, openOf}
+use Rattle.presence.specs.Step.{afterRound, acceptedStep, stepOf}
 use Rattle.presence.specs.Image.{imageOf, stateOf}
+use Rattle.presence.specs.RoundTrip.{Shaped, RoundTrip}
 use Rattle.presence.specs.declared.State.{State}
+use Rattle.presence.specs.declared.Stepped.{Stepped}
 use Rattle.presence.proofs.ValidLaws.{StateFits, valid-fits}
 use Rattle.presence.proofs.SmallLaws.{Small, valid-small, valid-setup}
 use Rattle.presence.proofs.LoadLaws.{state-by}
+use Rattle.presence.proofs.ImageLaws.{load-valid}
+use Rattle.presence.proofs.StepLaws.{step-accepted, step-valid, open-fresh, open-valid}
 
 -- ---- an accepted image is saved as it was read
 
@@ -90,14 +98,6 @@ module _ (s : List ℕ) (e : checkImage s .number ≡ 0) where
 
 -- ---- a valid state is read back
 
--- the arrays have 16 entries
-pub record Shaped (st : State) : Type 0 where
-  pub places : length (st .setup .places) ≡ 16
-  pub criticality : length (st .setup .criticality) ≡ 16
-  pub rows : length (st .previous .rows) ≡ 16
-  pub penalty : length (st .counters .penalty) ≡ 16
-  pub reward : length (st .counters .reward) ≡ 16
-
 module _ (st : State) (v : Valid st) (a : Shaped st) where
   abbrev n : ℕ
   n = st .setup .n
@@ -112,7 +112,7 @@ module _ (st : State) (v : Valid st) (a : Shaped st) where
   front = setupBytes (st .setup)
 
   setup-read : readSetup front ≡ record { number = 0; index = 0; setup = st .setup }
-  setup-read = read-written (st .setup) (valid-setup st v) (a .places) (a .criticality)
+  setup-read = read-back (st .setup) (valid-setup st v) (a .setup)
 
   front-accepted : checkSetup front .number ≡ 0
   unfolding readSetup
@@ -300,3 +300,36 @@ module _ (st : State) (v : Valid st) (a : Shaped st) where
         (sym (pack-ext n _ (bit (st .previous .heard)) heard-there ∙ pack-own n (st .previous .heard) tidy-heard))
         (own-array (st .previous .rows) _ (a .rows) tidy-rows row-there) (sym latest-there) (sym earlier-there)),
   )
+
+-- ---- the states that calls give
+
+state-shaped : (s : List ℕ) → Shaped (stateOf s)
+unfolding stateOf setupOf
+state-shaped s = record {
+  setup = record { places = array-length _ _; criticality = array-length _ _ };
+  rows = array-length _ _;
+  penalty = array-length _ _;
+  reward = array-length _ _;
+}
+
+pub open-shaped : (s : Setup) (own : ℕ) → ShapedSetup s → openOf s own .number ≡ 0 → Shaped (openOf s own .state)
+unfolding fresh
+open-shaped s own shaped zero =
+    subst Shaped (sym (open-fresh s own zero))
+    (record { setup = shaped; rows = array-length _ _; penalty = refl; reward = refl })
+
+pub step-shaped : (st : State) (read : List ℕ) (controller : ℕ) → Shaped st → stepOf st read controller .number ≡ 0
+    → Shaped (stepOf st read controller .state)
+unfolding acceptedStep afterRound readingOf countersOf
+step-shaped st read controller shaped zero =
+    subst (λ (t : Stepped). Shaped (t .state)) (sym (step-accepted st read controller zero .1))
+    (record { setup = shaped .setup; rows = array-length _ _; penalty = array-length _ _; reward = array-length _ _ })
+
+pub round-trip : RoundTrip
+round-trip = record {
+  written-read = λ st shaped v. image-accepted st v shaped;
+  read-accepted = λ s e. (load-valid s e, state-shaped s);
+  read-written = λ s b e. written-read s e b;
+  opens = λ s own shaped zero. (open-valid s own zero, open-shaped s own shaped zero);
+  keeps = λ st read controller shaped zero. (step-valid st read controller zero, step-shaped st read controller shaped zero);
+}

@@ -129,13 +129,24 @@ open-accepts s own f h l =
     = fields-ok s _ f ∙ check-ok (between 1 (s .n) own) 7 0 accepted (between-of 1 (s .n) own h l) in
     rw v
 
-pub open-valid : (s : Setup) (own : ℕ) → openOf s own .number ≡ 0 → Valid (openOf s own .state)
+-- what an accepted opening has passed
+open-passed : (s : Setup) (own : ℕ) → openOf s own .number ≡ 0 → SetupFits s × (1 ≤ own) × (own ≤ s .n)
 unfolding openOf checkOpening
-open-valid s own zero =
+open-passed s own zero =
     let (f, e) = fields-pass s _ zero in
     let (o, z) = check-pass (between 1 (s .n) own) 7 0 accepted (omega arith) e in
     let (h, l) = between-is 1 (s .n) own o in
-    subst (λ (o : Opened). Valid (o .state)) (sym (open-accepts s own f h l)) (fits-valid (fresh s own) (fresh-fits s own f h l))
+    (f, h, l)
+
+pub open-fresh : (s : Setup) (own : ℕ) → openOf s own .number ≡ 0 → openOf s own .state ≡ fresh s own
+open-fresh s own zero =
+    let (f, h, l) = open-passed s own zero in
+    ap (λ (o : Opened). o .state) (open-accepts s own f h l)
+
+pub open-valid : (s : Setup) (own : ℕ) → openOf s own .number ≡ 0 → Valid (openOf s own .state)
+open-valid s own zero =
+    let (f, h, l) = open-passed s own zero in
+    subst Valid (sym (open-fresh s own zero)) (fits-valid (fresh s own) (fresh-fits s own f h l))
 
 -- what a refused opening holds cannot be stepped
 pub blank-refused : (read : List ℕ) (controller : ℕ) → stepOf blank read controller ≡ refusedStep blank 2 0

@@ -3,3 +3,4 @@ pub mod Opening
 pub mod Step
 pub mod Image
 pub mod Calls
+pub mod RoundTrip

@@ -12,13 +12,14 @@ use Rattle.words.specs.Bits.{bit, pack}
 use Rattle.words.specs.Array.{array, clearFrom}
 use Rattle.words.proofs.Truth.{and-l, and-r, and-true}
 use Rattle.words.proofs.BitLaws.{bit-pack, pack-lt, pack-ext, pack-own}
-use Rattle.words.proofs.ArrayLaws.{array-at, array-clear, array-ext, array-own}
+use Rattle.words.proofs.ArrayLaws.{array-at, array-clear, array-ext, array-length, array-own}
 use Rattle.words.proofs.ByteLaws.{bytes-length, word-of, bytes-ext}
 use Rattle.words.proofs.RunLaws.{word-first, word-after, bytes-join, bytes-own}
 use Rattle.setup.specs.declared.Setup.{Setup}
 use Rattle.setup.specs.Verdict.{accepted}
 use Rattle.setup.specs.Setup.{headWord, sizeIn, limitWord, limitIn, moduleWord, markIn, placeIn, criticalityIn, setupLength, setupOf, setupBytes}
 use Rattle.setup.specs.Check.{moduleFits, markFits, moduleOk, markOk, setupTidy, checkSetup, setupVerdict, readSetup}
+use Rattle.setup.specs.RoundTrip.{Shaped, RoundTrip}
 use Rattle.setup.proofs.SetupLaws.{SetupFits, module-is, module-of}
 use Rattle.setup.proofs.CheckLaws.{WordsFit, BytesFit, setup-pass, setup-ok}
 use Rattle.setup.proofs.AnswerLaws.{read-accepted, verdict-fits, fits-verdict}
@@ -80,6 +81,11 @@ module _ (s : List ℕ) (e : checkSetup s .number ≡ 0) where
 
   pub read-verdict : setupVerdict (setupOf s) ≡ accepted
   read-verdict = fits-verdict (setupOf s) read-fits
+
+  -- its arrays have 16 entries
+  pub read-shaped : Shaped (setupOf s)
+  unfolding setupOf
+  read-shaped = record { places = array-length _ _; criticality = array-length _ _ }
 
   module-same : (j : ℕ) → j < size
       → moduleWord j (bit (setupOf s .marks) j) (getD (setupOf s .places) j 0) (getD (setupOf s .criticality) j 0) ≡ moduleAt j
@@ -199,9 +205,9 @@ module _ (s : Setup) (e : setupVerdict s .number ≡ 0) where
   unfolding setupTidy
   criticality-clear = and-r (ltb (s .marks) (2 ^ s .n) && clearFrom (s .n) (s .places)) _ (fits .tidy)
 
-  setup-back : length (s .places) ≡ 16 → length (s .criticality) ≡ 16 → setupOf (setupBytes s) ≡ s
+  setup-back : Shaped s → setupOf (setupBytes s) ≡ s
   unfolding setupOf
-  setup-back lp lc =
+  setup-back shaped =
       let z : sizeIn (wordAt (setupBytes s) 0) ≡ s .n = size-written in
       let p : limitIn (wordAt (setupBytes s) 1) ≡ s .p = ap limitIn p-written ∙ limit-back 2 (s .p) (below (s .p) 1000000 (fits .p-most) (omega arith)) in
       let r : limitIn (wordAt (setupBytes s) 2) ≡ s .r = ap limitIn r-written ∙ limit-back 3 (s .r) (below (s .r) 8000000 (fits .r-most) (omega arith)) in
@@ -209,10 +215,10 @@ module _ (s : Setup) (e : setupVerdict s .number ≡ 0) where
       pack-ext (s .n) _ (bit (s .marks)) mark-there ∙ pack-own (s .n) (s .marks) marks-small
       in
       let a : array (s .n) (λ j. placeIn (wordAt (setupBytes s) (3 + j))) ≡ s .places =
-      array-ext (s .n) _ (λ j. getD (s .places) j 0) place-there ∙ array-own (s .n) (s .places) (fits .most) lp places-clear
+      array-ext (s .n) _ (λ j. getD (s .places) j 0) place-there ∙ array-own (s .n) (s .places) (fits .most) (shaped .places) places-clear
       in
       let c : array (s .n) (λ j. criticalityIn (wordAt (setupBytes s) (3 + j))) ≡ s .criticality =
-      array-ext (s .n) _ (λ j. getD (s .criticality) j 0) criticality-there ∙ array-own (s .n) (s .criticality) (fits .most) lc criticality-clear
+      array-ext (s .n) _ (λ j. getD (s .criticality) j 0) criticality-there ∙ array-own (s .n) (s .criticality) (fits .most) (shaped .criticality) criticality-clear
       in
       rw (z, p, r, m, a, c)
     where
@@ -220,6 +226,12 @@ module _ (s : Setup) (e : setupVerdict s .number ≡ 0) where
       below v m h l = omega arith
 
   -- a setup that is written is read back
-  pub read-written : length (s .places) ≡ 16 → length (s .criticality) ≡ 16
-      → readSetup (setupBytes s) ≡ record { number = 0; index = 0; setup = s }
-  read-written lp lc = sym (read-accepted (setupBytes s) (sym (setup-ok (setupBytes s) bytes-written)) (sym (setup-back lp lc)) refl)
+  pub read-back : Shaped s → readSetup (setupBytes s) ≡ record { number = 0; index = 0; setup = s }
+  read-back shaped = sym (read-accepted (setupBytes s) (sym (setup-ok (setupBytes s) bytes-written)) (sym (setup-back shaped)) refl)
+
+pub round-trip : RoundTrip
+round-trip = record {
+  written-read = λ s shaped e. read-back s e shaped;
+  read-accepted = λ s e. (read-verdict s e, read-shaped s e);
+  read-written = λ s b e. written-read s e b;
+}

@@ -1,3 +1,4 @@
 pub mod Verdict
 pub mod Setup
 pub mod Check
+pub mod RoundTrip
