@@ -22,7 +22,14 @@ pub struct CountersPart {
 }
 
 pub mod check;
-pub mod fields;
+mod fields;
 pub mod read;
-pub mod word;
+mod word;
 pub mod write;
+
+// What a state in a struct is tested by, and the words that stand alone in an image.
+pub use fields::wrong_penalties;
+pub use fields::wrong_rewards;
+pub use fields::wrong_rows;
+pub use word::own_word;
+pub use word::syndrome_word;

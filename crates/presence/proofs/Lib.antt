@@ -8,3 +8,4 @@ pub mod AnswerLaws
 pub mod RoundTrip
 pub mod CallLaws
 pub mod CallAnswers
+pub mod Refusals

@@ -11,11 +11,11 @@ use borrow.Author.Tests.{eq-eqb, ne-eqb, lt-ltb, le-ltb, lt-leb, ltb-true, ltb-f
 use Rattle.words.specs.Bits.{full}
 use Rattle.words.specs.Array.{array}
 use Rattle.words.proofs.Truth.{cond-true, cond-false, and-false-l, and-false-r, or-cases, or-false-l, or-false-r}
-use Rattle.setup.specs.Verdict.{verdict, accepted, isAccepted, check, between}
+use Rattle.setup.specs.Verdict.{verdict, accepted, isAccepted, andThen, check, between}
 use Rattle.setup.specs.Check.{setupVerdict, checkFields}
 use Rattle.setup.specs.declared.Verdict.{Verdict}
 use Rattle.setup.specs.declared.Setup.{Setup}
-use Rattle.setup.proofs.NextLaws.{andThen, then-next, then-stays, fields-then, check-refused}
+use Rattle.setup.proofs.NextLaws.{then-next, then-stays, fields-then, check-refused}
 use Rattle.setup.proofs.VerdictLaws.{check-ok, between-of}
 use Rattle.rules.specs.Hearing.{wordHeard, readingOf}
 use Rattle.rules.specs.Alignment.{alignedOf}

@@ -4,3 +4,4 @@ pub mod Step
 pub mod Image
 pub mod Calls
 pub mod RoundTrip
+pub mod Refusals

@@ -1,7 +1,7 @@
 // Writing a state as words.
 use crate::State;
-use image::word::own_word;
-use image::word::syndrome_word;
+use image::own_word;
+use image::syndrome_word;
 use image::write::save_counter;
 use image::write::save_rows;
 use image::write::save_word;

@@ -1,8 +1,8 @@
 // The check of a state that is already a struct, by the numbers and indexes that its words would get.
 use crate::State;
-use image::fields::wrong_penalties;
-use image::fields::wrong_rewards;
-use image::fields::wrong_rows;
+use image::wrong_penalties;
+use image::wrong_rewards;
+use image::wrong_rows;
 use setup::Verdict;
 use setup::check::answer;
 use words::array::all_clear;

@@ -11,10 +11,10 @@ use Rattle.words.specs.Word.{wordAt}
 use Rattle.words.specs.Bits.{bit}
 use Rattle.words.proofs.Truth.{and-l, and-r, cond-true, cond-false}
 use Rattle.setup.specs.declared.Verdict.{Verdict}
-use Rattle.setup.specs.Verdict.{verdict, accepted, check, between}
+use Rattle.setup.specs.Verdict.{verdict, accepted, andThen, check, between}
 use Rattle.setup.specs.Check.{checkFront}
 use Rattle.setup.proofs.VerdictLaws.{check-ok, between-is}
-use Rattle.setup.proofs.NextLaws.{andThen, then-next, then-stays, check-refused, front-then}
+use Rattle.setup.proofs.NextLaws.{then-next, then-stays, check-refused, front-then}
 use Rattle.script.specs.declared.Scan.{Scan}
 use Rattle.script.specs.Words.{kindOf, castIn, castOk, senderIn, receiversIn, roundsIn, eventOk, playOk}
 use Rattle.script.specs.Check.{playRefusal, eventRefusal, refusal, scanned, finished, scan, begun, checkPlay}

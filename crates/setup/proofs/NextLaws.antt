@@ -14,14 +14,10 @@ use Rattle.words.proofs.LowestLaws.{lowest-le}
 use Rattle.words.proofs.Truth.{cond-true, cond-false}
 use Rattle.setup.specs.declared.Verdict.{Verdict}
 use Rattle.setup.specs.declared.Setup.{Setup}
-use Rattle.setup.specs.Verdict.{verdict, accepted, isAccepted, check, checkEach, between}
+use Rattle.setup.specs.Verdict.{verdict, accepted, isAccepted, andThen, check, checkEach, between}
 use Rattle.setup.specs.Setup.{sizeIn, setupLength}
 use Rattle.setup.specs.Check.{moduleFits, markFits, setupTidy, whole, headOk, limitOk, moduleOk, markOk, checkHead, checkWords, checkFront, checkFields}
 use Rattle.setup.proofs.VerdictLaws.{check-ok}
-
--- the next answer where v accepts, else v
-abbrev pub andThen : Verdict → Verdict → Verdict
-andThen v next = cond (isAccepted v) next v
 
 pub then-next : (v next : Verdict) → v .number ≡ 0 → andThen v next ≡ next
 then-next v next e = cond-true next v (eq-eqb (v .number) 0 e)

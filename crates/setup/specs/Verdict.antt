@@ -18,6 +18,10 @@ accepted = verdict 0 0
 abbrev pub isAccepted : Verdict → Bool
 isAccepted v = eqb (v .number) 0
 
+-- the next answer where v accepts, else v
+abbrev pub andThen : Verdict → Verdict → Verdict
+andThen v next = cond (isAccepted v) next v
+
 -- refused by `number` at `index` unless ok; then the next check
 unfoldable pub check : Bool → ℕ → ℕ → Verdict → Verdict
 check ok number index next = cond ok next (verdict number index)

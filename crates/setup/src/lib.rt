@@ -28,5 +28,10 @@ pub mod check;
 pub mod fields;
 pub mod part;
 pub mod read;
-pub mod word;
+mod word;
 pub mod write;
+
+// The tests of single words that the words of a saved state go through too.
+pub use word::limit_ok;
+pub use word::mark_ok;
+pub use word::module_ok;
