@@ -4,6 +4,7 @@ pub mod PageLaws
 pub mod PageWords
 pub mod HostLaws
 pub mod WithPageLaws
+pub mod Refusals
 pub mod CallLaws
 pub mod OpenLaws
 pub mod StepLaws

@@ -31,12 +31,14 @@ use Rattle.page.specs.Flags.{cleared}
 use Rattle.page.specs.Page.{isPage, pageOpened, somebodyCharged, raised, pageStepped, pageWritten, interruptOn}
 use Rattle.page.specs.Host.{writeCall}
 use Rattle.page.specs.Calls.{PageCalled, pageCalled, pageOpenCall, pageStepCall}
-use Rattle.page.specs.Promise.{Paged, opens, steps, saves, refused-opening, refused-step, writes, Unnamed, here, stepped, not-opened, written, Promise}
+use Rattle.page.specs.Refusals.{page-of-opening}
+use Rattle.page.specs.Promise.{Paged, opens, steps, saves, refused-image, refused-page, writes, Unnamed, here, stepped, not-opened, written, Promise}
 use Rattle.page.proofs.CallLaws.{image-view, image-size}
 use Rattle.page.proofs.RaisedLaws.{raised-kept, raised-changed, raised-charged, cleared-kept, turns-on}
 use Rattle.page.proofs.PageWords.{opened-1, written-1, word-0, word-1, word-2, word-3}
 use Rattle.page.proofs.HostLaws.{write-either}
-use Rattle.page.proofs.WithPageLaws.{lent, goes-on, with-zero, with-either, with-kept}
+use Rattle.page.proofs.WithPageLaws.{lent, goes-on, with-zero, with-either}
+use Rattle.page.proofs.Refusals.{refusals}
 use Rattle.page.proofs.ChargeLaws.{charged-grows}
 
 -- the view of a state is read back from its image
@@ -156,14 +158,6 @@ module _ (setup : List ℕ) (own : ℕ) (out page : List ℕ) (z : pageOpenCall 
       ∙ ap (λ (x : List ℕ). stateOf x .counters .view) (open-writes setup own out (opens-zero .1))
       ∙ view-read fresh (open-valid (setupOf setup) own (open-passed setup own out (opens-zero .1) .1)))
 
--- a refused opening leaves the page
-opening-kept : (setup : List ℕ) (own : ℕ) (out page : List ℕ) → pageOpenCall setup own out page .call .answer .number ≢ 0
-    → pageOpenCall setup own out page .page ≡ page
-unfolding pageOpenCall
-opening-kept setup own out page f =
-    let fresh = openOf (setupOf setup) own .state in
-    with-kept _ (openCall setup own out) out page (pageOpened (fresh .setup .n) (fresh .counters .view)) f
-
 shows : (image page : List ℕ) → Paged image page → wordAt page 1 ≡ stateOf image .counters .view
 unfolding pageStepCall
 shows _ _ (opens setup own out page z) = opened-view setup own out page z
@@ -171,10 +165,9 @@ shows _ _ (steps {image} {page} p read controller out z) = view-word image read 
 shows _ page (saves {image} p out z) =
     shows image page p
     ∙ sym (ap (λ (x : List ℕ). stateOf x .counters .view) (save-writes image out z) ∙ view-read (stateOf image) (load-valid image (save-passed image out z)))
-shows image _ (refused-opening {page = page} p setup own out f) =
-    ap (λ (x : List ℕ). wordAt x 1) (opening-kept setup own out page f) ∙ shows image page p
-shows image _ (refused-step {page = page} p other read controller out f) =
-    ap (λ (x : List ℕ). wordAt x 1) (with-kept _ (stepCall other read controller out) out page (next other read controller out page) f) ∙ shows image page p
+shows _ page (refused-image {image} p r) =
+    shows image page p ∙ ap (λ (x : List ℕ). stateOf x .counters .view) (sym (refusals .unaltered image _ r))
+shows image _ (refused-page {page = page} p r) = ap (λ (x : List ℕ). wordAt x 1) (refusals .unaltered page _ r) ∙ shows image page p
 shows image _ (writes {page = page} p offset value) =
     write-either page offset value (λ x. wordAt x 1 ≡ stateOf image .counters .view) (shows image page p)
     (λ l. written-1 offset value page l ∙ shows image page p)
@@ -208,7 +201,7 @@ module _ (j : ℕ) (h : j < 32) where
   pub stays-set : (page now : List ℕ) → Unnamed j page now → Set page → Set now
   stays-set page _ here t = t
   stays-set page _ (stepped {now} u image read controller out) t = step-kept image read controller out now (stays-set page now u t)
-  stays-set page _ (not-opened {now} u setup own out f) t = subst Set (sym (opening-kept setup own out now f)) (stays-set page now u t)
+  stays-set page _ (not-opened {now} u setup own out f) t = subst Set (sym (refusals .unaltered now _ (page-of-opening setup own out f))) (stays-set page now u t)
   stays-set page _ (written {now} u offset value f) t = write-kept now offset value f (stays-set page now u t)
 
 pub promise : Promise

@@ -73,11 +73,3 @@ module _ (passed : Bool) (c : Called) (out page next : List ℕ) where
       subst P (sym (cond-true next page z)) (q (lent (h (eqb-true (c .answer .number) 0 z)) f)))
       (λ (z : eqb (c .answer .number) 0 ≡ false). subst P (sym (cond-false next page z)) p) (which (eqb (c .answer .number) 0))))
       (which stops)
-
-  -- a refused call leaves the page
-  pub with-kept : withPage passed c out page next .call .answer .number ≢ 0 → withPage passed c out page next .page ≡ page
-  with-kept z =
-      ⊎-elim (λ (t : stops ≡ true). ap (λ (x : PageCalled). x .page) (stopped t))
-      (λ (f : stops ≡ false).
-      ap (λ (x : PageCalled). x .page) (goes-on f)
-      ∙ cond-false next page (ne-eqb (c .answer .number) 0 (λ e. z (ap (λ (x : PageCalled). x .call .answer .number) (goes-on f) ∙ e)))) (which stops)

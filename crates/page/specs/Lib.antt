@@ -2,4 +2,5 @@ pub mod Flags
 pub mod Page
 pub mod Host
 pub mod Calls
+pub mod Refusals
 pub mod Promise

@@ -16,9 +16,10 @@ use Rattle.presence.specs.Calls.{openCall, stepCall, saveCall}
 use Rattle.page.specs.Page.{somebodyCharged, interruptOn}
 use Rattle.page.specs.Host.{writeCall}
 use Rattle.page.specs.Calls.{pageOpenCall, pageStepCall}
+use Rattle.page.specs.Refusals.{Refused}
 
--- A module's image and its page: opened together, stepped together. Between lie saving and taking back the image, refused calls that were
--- lent the page, and writes of the host.
+-- A module's image and its page: opened together, stepped together. Between lie saving and taking back the image, refused calls of any kind
+-- that were lent the image or the page, and writes of the host.
 pub data Paged : List ℕ → List ℕ → Type 0 where
   opens : (setup : List ℕ) (own : ℕ) (out page : List ℕ) → pageOpenCall setup own out page .call .answer .number ≡ 0
       → Paged (pageOpenCall setup own out page .call .out) (pageOpenCall setup own out page .page)
@@ -26,10 +27,8 @@ pub data Paged : List ℕ → List ℕ → Type 0 where
       → pageStepCall image read controller out page .call .answer .number ≡ 0
       → Paged (pageStepCall image read controller out page .call .out) (pageStepCall image read controller out page .page)
   saves : {image page : List ℕ} → Paged image page → (out : List ℕ) → saveCall image out .answer .number ≡ 0 → Paged (saveCall image out .out) page
-  refused-opening : {image page : List ℕ} → Paged image page → (setup : List ℕ) (own : ℕ) (out : List ℕ)
-      → pageOpenCall setup own out page .call .answer .number ≢ 0 → Paged image (pageOpenCall setup own out page .page)
-  refused-step : {image page : List ℕ} → Paged image page → (other read : List ℕ) (controller : ℕ) (out : List ℕ)
-      → pageStepCall other read controller out page .call .answer .number ≢ 0 → Paged image (pageStepCall other read controller out page .page)
+  refused-image : {image page after : List ℕ} → Paged image page → Refused image after → Paged after page
+  refused-page : {image page after : List ℕ} → Paged image page → Refused page after → Paged image after
   writes : {image page : List ℕ} → Paged image page → (offset value : ℕ) → Paged image (writeCall page offset value .page)
 
 -- What becomes of a page that is not opened anew, by steps, refused openings and writes of the host, accepted or refused, none of which names

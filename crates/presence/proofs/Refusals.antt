@@ -1,24 +1,25 @@
 -- The answers of the calls in one chain: what the bytes' check has passed the struct's check passes too.
-use Prim.Native.Nat.{ℕ, _+_, _*_, _^_}
+use Prim.Native.Nat.{ℕ, _+_, _*_, _^_, _≤_, _<_}
 use mathlib.Core.Path.{_≡_, refl, sym, ap, _∙_}
 use mathlib.Core.Bool.{Bool, true, false, cond, not, _&&_}
 use mathlib.Core.Logic.{⊎-elim}
 use mathlib.Core.List.{List, [], _∷_}
 use lib.ListN.{length}
 use lib.Dec.{eqb, ltb}
-use borrow.Author.Tests.{eqb-true}
+use borrow.Author.Tests.{eq-eqb, eqb-true, lt-ltb}
 use Rattle.words.specs.Count.{lowest}
-use Rattle.words.proofs.Truth.{which, cond-true, cond-false}
+use Rattle.words.proofs.Truth.{which, cond-true, cond-false, and-true}
 use Rattle.setup.specs.Verdict.{verdict, accepted, isAccepted, andThen, check, checkEach, between}
 use Rattle.setup.specs.Setup.{setupOf}
 use Rattle.setup.specs.Check.{checkHead, checkWords, checkSetup}
 use Rattle.setup.specs.declared.Verdict.{Verdict}
 use Rattle.setup.specs.declared.Setup.{Setup}
-use Rattle.setup.proofs.VerdictLaws.{between-is}
+use Rattle.setup.proofs.VerdictLaws.{check-ok, between-is, between-of}
 use Rattle.setup.proofs.SetupLaws.{SetupFits, fields-ok}
-use Rattle.setup.proofs.NextLaws.{check-refused}
+use Rattle.setup.proofs.NextLaws.{then-next, check-refused}
 use Rattle.setup.proofs.RoundTrip.{read-fits}
 use Rattle.rules.specs.Hearing.{readingOf}
+use Rattle.image.specs.Words.{imageLength}
 use Rattle.image.specs.Check.{checkTail, checkImage}
 use Rattle.presence.specs.Opening.{fresh, blank, checkOpening, openOf}
 use Rattle.presence.specs.Step.{judgementFor, afterRound, refusedStep, acceptedStep, testedStep, readStep, stepOf}
@@ -175,6 +176,40 @@ save-chain v false b st out e = sym (cond-false _ _ e)
 saving : (image out : List ℕ) → saveCall image out ≡ answering (savingVerdict image out) 0 (stateOf image) out
 unfolding saveCall savingVerdict check roomFor stateOf setupOf
 saving image out = save-chain (checkImage image) (isAccepted (checkImage image)) (hasRoom (sizeOf image) out) (stateOf image) out refl
+
+-- ---- accepted calls
+
+-- one check after another, both of which accept
+pub both-accept : (v next : Verdict) → v .number ≡ 0 → next ≡ accepted → andThen v next ≡ accepted
+both-accept v next z e = then-next v next z ∙ e
+
+pub open-accepted : (setup : List ℕ) (own : ℕ) (out : List ℕ) → checkSetup setup .number ≡ 0 → 1 ≤ own → own ≤ sizeOf setup
+    → length out ≡ imageLength (sizeOf setup) → openCall setup own out .answer .number ≡ 0
+unfolding openVerdict
+open-accepted setup own out z h l room =
+    let e : openVerdict setup own out ≡ accepted =
+    both-accept (checkSetup setup) _ z
+    (check-ok _ 7 0 _ (between-of 1 (sizeOf setup) own h l) ∙ check-ok _ 9 0 accepted (eq-eqb (length out) (imageLength (sizeOf setup)) room))
+    in
+    ap (λ (c : Called). c .answer .number) (opening setup own out) ∙ answered (openVerdict setup own out) 0 _ out ∙ ap (λ (v : Verdict). v .number) e
+
+pub step-accepted : (image read : List ℕ) (controller : ℕ) (out : List ℕ) → checkImage image .number ≡ 0 → length out ≡ imageLength (sizeOf image)
+    → length read ≡ sizeOf image * 4 → controller < 2 ^ sizeOf image → stepCall image read controller out .answer .number ≡ 0
+unfolding stepVerdict
+step-accepted image read controller out z room whole bits =
+    let e : stepVerdict image read controller out ≡ accepted =
+    both-accept (checkImage image) _ z
+    (check-ok _ 9 0 _ (and-true (hasRoom (sizeOf image) out) _ (eq-eqb _ _ room) (eq-eqb _ _ whole)) ∙ check-ok _ 10 0 accepted (lt-ltb controller _ bits))
+    in
+    ap (λ (c : Called). c .answer .number) (step image read controller out) ∙ answered (stepVerdict image read controller out) _ _ out
+    ∙ ap (λ (v : Verdict). v .number) e
+
+pub save-accepted : (image out : List ℕ) → checkImage image .number ≡ 0 → length out ≡ imageLength (sizeOf image)
+    → saveCall image out .answer .number ≡ 0
+unfolding savingVerdict
+save-accepted image out z room =
+    let e : savingVerdict image out ≡ accepted = both-accept (checkImage image) _ z (check-ok _ 9 0 accepted (eq-eqb (length out) (imageLength (sizeOf image)) room)) in
+    ap (λ (c : Called). c .answer .number) (saving image out) ∙ answered (savingVerdict image out) 0 (stateOf image) out ∙ ap (λ (v : Verdict). v .number) e
 
 -- ---- the numbers: every check of a chain answers one of these, or the next check does
 

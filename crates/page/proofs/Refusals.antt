@@ -1,0 +1,257 @@
+-- The answers of the calls with a page in one chain, from those of the calls without one; a refused call leaves what it was lent.
+use Prim.Native.Nat.{ℕ, _*_, _^_, _≤_, _<_}
+use mathlib.Core.Path.{_≡_, refl, sym, ap, _∙_, subst}
+use mathlib.Core.Bool.{Bool, true, false, cond, not, _&&_, _||_}
+use mathlib.Core.Logic.{_≢_, ⊎-elim}
+use mathlib.Core.List.{List}
+use lib.ListN.{length}
+use lib.Dec.{eqb, ltb}
+use borrow.Author.Tests.{eq-eqb, eqb-true, ne-eqb, lt-ltb}
+use Rattle.words.specs.Bits.{full}
+use Rattle.words.proofs.Truth.{which, clash, cond-true, cond-false, and-true}
+use Rattle.setup.specs.Verdict.{verdict, accepted, isAccepted, check, between}
+use Rattle.setup.specs.Setup.{setupOf}
+use Rattle.setup.specs.Check.{checkSetup}
+use Rattle.setup.specs.declared.Verdict.{Verdict}
+use Rattle.setup.proofs.VerdictLaws.{check-ok, between-of}
+use Rattle.rules.specs.Hearing.{readingOf}
+use Rattle.image.specs.Words.{imageLength}
+use Rattle.image.specs.Check.{checkImage}
+use Rattle.presence.specs.Opening.{fresh, openOf}
+use Rattle.presence.specs.Step.{judgementFor, afterRound, acceptedStep, stepOf}
+use Rattle.presence.specs.Image.{stateOf}
+use Rattle.presence.specs.Calls.{Called, refusedCall, wrote, openCall, stepCall}
+use Rattle.presence.specs.Refusals.{sizeOf, hasRoom, openVerdict as openWithout, stepVerdict as stepWithout, answering as answeringWithout}
+use Rattle.rules.specs.declared.Reading.{Reading}
+use Rattle.presence.specs.declared.State.{State}
+use Rattle.presence.specs.declared.Stepped.{Stepped}
+use Rattle.presence.proofs.CallAnswers.{open-passed, open-keeps, step-passed, step-keeps, save-keeps}
+use Rattle.presence.proofs.StepLaws.{step-accepted as step-of-struct, open-fresh}
+use Rattle.presence.proofs.Refusals.{refusals as without-page, both-accept}
+use Rattle.page.specs.Page.{isPage, startsWord, pageOpened, pageStepped, pageWritten}
+use Rattle.page.specs.Host.{tell, written, wrote as wrote-page, writeCall}
+use Rattle.page.specs.Calls.{PageCalled, pageCalled, withPage, pageOpenCall, pageStepCall}
+use Rattle.page.specs.Refusals.{openVerdict, stepVerdict, answering, Refused, opening, step, saving, page-opening, page-step, page-of-opening, page-of-step, write, Refusals}
+use Rattle.page.proofs.WithPageLaws.{with-zero}
+
+module _ (health : ℕ) (st : State) (out page next : List ℕ) where
+  -- the call with a page, by whether the page has its length
+  with-by : Bool → Bool → Called → PageCalled
+  with-by passed long c = cond (passed && not long) (pageCalled (refusedCall 9 0 out) page) (pageCalled c (cond (eqb (c .answer .number) 0) next page))
+
+  -- a call that was refused before it came to the page
+  before : (v : Verdict) (passed long : Bool) → isAccepted v ≡ false → passed ≡ false
+      → with-by passed long (answeringWithout v health st out) ≡ answering v health st out next page
+  unfolding with-by answeringWithout answering refusedCall
+  before v true long e f = clash true refl f
+  before v false long e f =
+      ap (λ (c : Called). pageCalled c (cond (eqb (c .answer .number) 0) next page)) (cond-false (wrote health st) _ e)
+      ∙ ap (pageCalled (refusedCall (v .number) (v .index) out)) (cond-false next page e)
+      ∙ sym (cond-false (pageCalled (wrote health st) next) _ e)
+
+  -- by the tests of the setup, of the own number, of the room and of the page
+  open-chain : (v : Verdict) (a b c d : Bool) → isAccepted v ≡ a
+      → let w = cond a (cond b (cond c accepted (verdict 9 0)) (verdict 7 0)) v in
+      with-by (eqb (answeringWithout w health st out .answer .number) 0) d (answeringWithout w health st out)
+      ≡ answering (cond a (cond b (cond (c && d) accepted (verdict 9 0)) (verdict 7 0)) v) health st out next page
+  unfolding with-by answeringWithout answering wrote refusedCall
+  open-chain v true true true true e = refl
+  open-chain v true true true false e = refl
+  open-chain v true true false d e = refl
+  open-chain v true false c d e = refl
+  open-chain v false b c d e =
+      before v (eqb (answeringWithout v health st out .answer .number) 0) d e
+      (ap (λ (x : Called). eqb (x .answer .number) 0) (cond-false (wrote health st) _ e) ∙ e)
+
+  -- by the tests of the image, of the room, of the read, of the page and of the controller bits
+  step-chain : (v : Verdict) (a b c d k : Bool) → isAccepted v ≡ a
+      → let w = cond a (cond (b && c) (cond k accepted (verdict 10 0)) (verdict 9 0)) v in
+      with-by a d (answeringWithout w health st out)
+      ≡ answering (cond a (cond (b && c && d) (cond k accepted (verdict 10 0)) (verdict 9 0)) v) health st out next page
+  unfolding with-by answeringWithout answering wrote refusedCall
+  step-chain v true true true true true e = refl
+  step-chain v true true true true false e = refl
+  step-chain v true true true false true e = refl
+  step-chain v true true true false false e = refl
+  step-chain v true true false true k e = refl
+  step-chain v true true false false k e = refl
+  step-chain v true false c true k e = refl
+  step-chain v true false c false k e = refl
+  step-chain v false b c d k e = before v false d e refl
+
+-- of an accepted call the next page may be taken by an equal
+next-by : (v : Verdict) (health : ℕ) (st : State) (out next next′ page : List ℕ) → (v .number ≡ 0 → next ≡ next′)
+    → answering v health st out next page ≡ answering v health st out next′ page
+unfolding answering
+next-by v health st out next next′ page h =
+    ⊎-elim
+    (λ (t : isAccepted v ≡ true).
+    ap (λ (x : List ℕ). cond (isAccepted v) (pageCalled (wrote health st) x) (pageCalled (refusedCall (v .number) (v .index) out) page))
+    (h (eqb-true (v .number) 0 t)))
+    (λ (f : isAccepted v ≡ false). cond-false _ _ f ∙ sym (cond-false _ _ f)) (which (isAccepted v))
+
+-- what is answered is the number of the verdict
+number-is : (v : Verdict) (health : ℕ) (st : State) (out next page : List ℕ) → answering v health st out next page .call .answer .number ≡ v .number
+unfolding answering wrote refusedCall
+number-is v health st out next page =
+    ⊎-elim
+    (λ (t : isAccepted v ≡ true). ap (λ (c : PageCalled). c .call .answer .number) (cond-true _ _ t) ∙ sym (eqb-true (v .number) 0 t))
+    (λ (f : isAccepted v ≡ false). ap (λ (c : PageCalled). c .call .answer .number) (cond-false _ _ f)) (which (isAccepted v))
+
+-- ---- opening
+
+module _ (setup : List ℕ) (own : ℕ) (out page : List ℕ) where
+  abbrev opened : State
+  opened = openOf (setupOf setup) own .state
+
+  opens : pageOpenCall setup own out page
+      ≡ answering (openVerdict setup own out page) 0 (fresh (setupOf setup) own) out (pageOpened (opened .setup .n) (opened .counters .view)) page
+  unfolding pageOpenCall withPage with-by openWithout openVerdict check
+  opens =
+      ap
+      (λ (c : Called).
+      with-by 0 (fresh (setupOf setup) own) out page (pageOpened (opened .setup .n) (opened .counters .view)) (eqb (c .answer .number) 0) (isPage page) c)
+      (without-page .opening setup own out)
+      ∙ open-chain 0 (fresh (setupOf setup) own) out page _ (checkSetup setup) (isAccepted (checkSetup setup)) (between 1 (sizeOf setup) own)
+      (hasRoom (sizeOf setup) out) (isPage page) refl
+
+  -- the module that is opened is fresh
+  opened-fresh : openVerdict setup own out page .number ≡ 0 → opened ≡ fresh (setupOf setup) own
+  unfolding pageOpenCall
+  opened-fresh z =
+      let c : pageOpenCall setup own out page .call .answer .number ≡ 0 =
+      ap (λ (x : PageCalled). x .call .answer .number) opens ∙ number-is (openVerdict setup own out page) 0 _ out _ page ∙ z
+      in
+      let o = with-zero _ (openCall setup own out) out page (pageOpened (opened .setup .n) (opened .counters .view)) c in
+      open-fresh (setupOf setup) own (open-passed setup own out (o .1) .1)
+
+  opening-is : pageOpenCall setup own out page
+      ≡ answering (openVerdict setup own out page) 0 (fresh (setupOf setup) own) out (pageOpened (sizeOf setup) (full (sizeOf setup))) page
+  unfolding fresh setupOf
+  opening-is =
+      opens
+      ∙ next-by (openVerdict setup own out page) 0 _ out _ _ page (λ z. ap (λ (s : State). pageOpened (s .setup .n) (s .counters .view)) (opened-fresh z))
+
+-- ---- step
+
+module _ (image read : List ℕ) (controller : ℕ) (out page : List ℕ) where
+  abbrev st : State
+  st = stateOf image
+
+  abbrev this : Reading
+  this = readingOf (sizeOf image) read controller
+
+  abbrev next : Stepped → List ℕ
+  next t = pageStepped (st .setup .n) (st .counters .view) (t .health) (t .state .counters .view) page
+
+  abbrev v : Verdict
+  v = stepVerdict image read controller out page
+
+  steps : pageStepCall image read controller out page
+      ≡ answering v (judgementFor st this .health) (afterRound st this) out (next (stepOf st read controller)) page
+  unfolding pageStepCall withPage with-by stepWithout stepVerdict check
+  steps =
+      ap
+      (λ (c : Called).
+      with-by (judgementFor st this .health) (afterRound st this) out page (next (stepOf st read controller)) (isAccepted (checkImage image)) (isPage page) c)
+      (without-page .step image read controller out)
+      ∙ step-chain (judgementFor st this .health) (afterRound st this) out page _ (checkImage image) (isAccepted (checkImage image))
+      (hasRoom (sizeOf image) out) (eqb (length read) (sizeOf image * 4)) (isPage page) (ltb controller (2 ^ sizeOf image)) refl
+
+  -- the step is an accepted one of the struct
+  stepped-so : v .number ≡ 0 → stepOf st read controller ≡ acceptedStep st this
+  unfolding pageStepCall stateOf setupOf
+  stepped-so z =
+      let c : pageStepCall image read controller out page .call .answer .number ≡ 0 =
+      ap (λ (x : PageCalled). x .call .answer .number) steps ∙ number-is v (judgementFor st this .health) (afterRound st this) out _ page ∙ z
+      in
+      let s = with-zero _ (stepCall image read controller out) out page (next (stepOf st read controller)) c in
+      step-of-struct st read controller (step-passed image read controller out (s .1) .1) .1
+
+  step-is : pageStepCall image read controller out page
+      ≡ answering v (judgementFor st this .health) (afterRound st this) out
+      (pageStepped (sizeOf image) (st .counters .view) (judgementFor st this .health) (afterRound st this .counters .view) page) page
+  unfolding acceptedStep stateOf setupOf
+  step-is =
+      steps ∙ next-by v (judgementFor st this .health) (afterRound st this) out _ _ page (λ z. ap next (stepped-so z))
+
+-- ---- accepted calls
+
+pub open-accepted : (setup : List ℕ) (own : ℕ) (out page : List ℕ) → checkSetup setup .number ≡ 0 → 1 ≤ own → own ≤ sizeOf setup
+    → length out ≡ imageLength (sizeOf setup) → length page ≡ 64 → pageOpenCall setup own out page .call .answer .number ≡ 0
+unfolding openVerdict
+open-accepted setup own out page z h l room long =
+    let e : openVerdict setup own out page ≡ accepted =
+    both-accept (checkSetup setup) _ z
+    (check-ok _ 7 0 _ (between-of 1 (sizeOf setup) own h l)
+    ∙ check-ok _ 9 0 accepted (and-true (hasRoom (sizeOf setup) out) _ (eq-eqb _ _ room) (eq-eqb (length page) 64 long)))
+    in
+    ap (λ (c : PageCalled). c .call .answer .number) (opening-is setup own out page) ∙ number-is (openVerdict setup own out page) 0 _ out _ page
+    ∙ ap (λ (v : Verdict). v .number) e
+
+pub step-accepted : (image read : List ℕ) (controller : ℕ) (out page : List ℕ) → checkImage image .number ≡ 0
+    → length out ≡ imageLength (sizeOf image) → length read ≡ sizeOf image * 4 → controller < 2 ^ sizeOf image → length page ≡ 64
+    → pageStepCall image read controller out page .call .answer .number ≡ 0
+unfolding stepVerdict
+step-accepted image read controller out page z room whole bits long =
+    let e : stepVerdict image read controller out page ≡ accepted =
+    both-accept (checkImage image) _ z
+    (check-ok _ 9 0 _
+    (and-true (hasRoom (sizeOf image) out && eqb (length read) (sizeOf image * 4)) _
+    (and-true (hasRoom (sizeOf image) out) _ (eq-eqb _ _ room) (eq-eqb _ _ whole)) (eq-eqb (length page) 64 long))
+    ∙ check-ok _ 10 0 accepted (lt-ltb controller _ bits))
+    in
+    ap (λ (c : PageCalled). c .call .answer .number) (step-is image read controller out page) ∙ number-is (stepVerdict image read controller out page) _ _ out _ page
+    ∙ ap (λ (v : Verdict). v .number) e
+
+-- ---- a refused call leaves what it was lent
+
+-- the output of a call with a page
+out-kept : (v : Verdict) (health : ℕ) (st : State) (out next page : List ℕ) → answering v health st out next page .call .answer .number ≢ 0
+    → answering v health st out next page .call .out ≡ out
+unfolding answering refusedCall
+out-kept v health st out next page f =
+    ap (λ (c : PageCalled). c .call .out)
+    (cond-false _ _ (ne-eqb (v .number) 0 (λ z. f (number-is v health st out next page ∙ z))))
+
+-- its page
+page-kept : (v : Verdict) (health : ℕ) (st : State) (out next page : List ℕ) → answering v health st out next page .call .answer .number ≢ 0
+    → answering v health st out next page .page ≡ page
+unfolding answering
+page-kept v health st out next page f =
+    ap (λ (c : PageCalled). c .page) (cond-false _ _ (ne-eqb (v .number) 0 (λ z. f (number-is v health st out next page ∙ z))))
+
+-- the same of a call that comes to such an answer
+kept-by : (P : PageCalled → Type 0) {c a : PageCalled} → c ≡ a → (a .call .answer .number ≢ 0 → P a) → c .call .answer .number ≢ 0 → P c
+kept-by P e h f = subst P (sym e) (h (subst (λ (x : PageCalled). x .call .answer .number ≢ 0) e f))
+
+write-kept : (page : List ℕ) (offset value : ℕ) → writeCall page offset value .answer .number ≢ 0 → writeCall page offset value .page ≡ page
+unfolding writeCall wrote-page
+write-kept page offset value f = go (isPage page) (startsWord offset) (eqb offset 8 || eqb offset 12) f
+  where
+    go : (a b c : Bool)
+        → cond a (cond b (cond c (wrote-page (pageWritten offset value page)) (written (tell 18 0) page)) (written (tell 17 0) page)) (written (tell 9 0) page)
+        .answer .number ≢ 0
+        → cond a (cond b (cond c (wrote-page (pageWritten offset value page)) (written (tell 18 0) page)) (written (tell 17 0) page)) (written (tell 9 0) page)
+        .page ≡ page
+    go true true true f = absurd (f refl)
+    go true true false f = refl
+    go true false c f = refl
+    go false b c f = refl
+
+unaltered : (before after : List ℕ) → Refused before after → after ≡ before
+unaltered before after (opening setup own f) = open-keeps setup own before f
+unaltered before after (step image read controller f) = step-keeps image read controller before f
+unaltered before after (saving image f) = save-keeps image before f
+unaltered before after (page-opening setup own page f) =
+    kept-by (λ (c : PageCalled). c .call .out ≡ before) (opening-is setup own before page) (out-kept _ _ _ before _ page) f
+unaltered before after (page-step image read controller page f) =
+    kept-by (λ (c : PageCalled). c .call .out ≡ before) (step-is image read controller before page) (out-kept _ _ _ before _ page) f
+unaltered before after (page-of-opening setup own out f) =
+    kept-by (λ (c : PageCalled). c .page ≡ before) (opening-is setup own out before) (page-kept _ _ _ out _ before) f
+unaltered before after (page-of-step image read controller out f) =
+    kept-by (λ (c : PageCalled). c .page ≡ before) (step-is image read controller out before) (page-kept _ _ _ out _ before) f
+unaltered before after (write offset value f) = write-kept before offset value f
+
+pub refusals : Refusals
+refusals = record { opening = opening-is; step = step-is; unaltered = unaltered }
