@@ -32,8 +32,11 @@
  * They are re-entrant: calls may run at the same time, in interrupts too, but
  * an image that a call is writing must not be read or written, by another call
  * or by an interrupt, until the call has returned.  Swap the index of the
- * current image after that, in one store.  The code is for x86-64, System V
- * ABI; presence.h says under INTERRUPTS ON X86-64 what a handler has to save.
+ * current image after that, in one store.  Calls that change one scan lock
+ * must come one after the other, each on the image that the one before wrote;
+ * if one interrupted another, what either of them did would be lost.  The code
+ * is for x86-64, System V ABI; presence.h says under INTERRUPTS ON X86-64 what
+ * a handler has to save.
  *
  *
  * WHEN TO TELL AN EVENT
@@ -54,10 +57,10 @@
  * k of every card.
  *
  * Otherwise an event that is told when it comes, in the middle of a round
- * whose step strikes a card off, is accepted by a card that has stepped and
- * refused by one whose view is still the old one, and from then on the
- * joystick is dead at the one and live at the other.  examples/stage/stage.c
- * shows it, and the queue that prevents it.
+ * whose step strikes a card off, can be accepted by a card that has stepped
+ * and refused by one whose view is still the old one, and then the joystick is
+ * dead at the one and live at the other; no later round makes them equal.
+ * examples/stage/stage.c shows it, and the queue that prevents it.
  *
  * To carry events from card to card is the caller's part.  Neither library
  * does it, and neither makes good for an event that got lost: a card that
