@@ -28,13 +28,66 @@
  * A module's state is its image, a block of bytes that the caller keeps.
  * Nothing is kept between calls: the result of a call and the bytes it writes
  * follow from its arguments alone.  The functions use no heap, no static
- * variables and no C library calls, and are re-entrant: calls that are lent
- * different outputs and pages may run at the same time, in interrupts too.
- * Calls that are lent the same output or the same page must not overlap in
- * time: if a step with a page interrupted the host's write of that page, or
- * the write the step, a flag could be lost or a cleared one come back.
- * presence_step takes 1,904 bytes of stack on x86-64 (measured, for every N),
- * presence_page_step 2,528; no other call takes more than 1,120.
+ * variables and no C library calls.  presence_step takes 1,904 bytes of stack
+ * (measured, for every N), presence_page_step 2,528; no other call takes more
+ * than 1,120.
+ *
+ * Instructions of an accepted presence_step and presence_page_step (page),
+ * the most that were counted in quiet and loud rounds, with every l at N and
+ * with others.  They do not grow steadily with N: modules are taken four at a
+ * time, and those left over one by one.
+ *
+ *    N   step   page        N   step   page        N   step   page
+ *    2  1,382  1,480        7  2,436  2,535       12  2,438  2,554
+ *    3  1,662  1,756        8  1,755  1,865       13  2,826  2,939
+ *    4  1,488  1,598        9  2,155  2,261       14  3,106  3,215
+ *    5  1,876  1,983       10  2,435  2,537       15  3,386  3,491
+ *    6  2,156  2,259       11  2,715  2,813       16  2,626  2,741
+ *
+ *
+ * CALLS AT THE SAME TIME
+ *
+ * The functions are re-entrant: calls may run at the same time, and one may
+ * interrupt another, if no block that one of them writes (output or page) is
+ * read or written by another meanwhile.  That is:
+ *
+ *   - An image that a call is writing must not be read, by another call or by
+ *     an interrupt, until the call has returned.  Until then the image that
+ *     the call was given is the current one.
+ *   - After an accepted step make the image that it wrote the current one in
+ *     one store: of its index, declared volatile.  An interrupt then finds the
+ *     old image whole or the new one whole.
+ *   - The step after that writes the old image again.  Code that reads images
+ *     and can be interrupted by steps must be done by then, or hold them off.
+ *   - Calls with the same page must not overlap in time.  Mask the interrupt
+ *     in which the host's accesses are served during presence_page_step, and
+ *     the step during an access: otherwise a flag could be lost, a cleared one
+ *     come back, or the host read the health of one round and the view of
+ *     another.
+ *
+ *
+ * INTERRUPTS ON X86-64
+ *
+ * The library is code for x86-64 by the System V ABI.  It uses SSE2 registers
+ * (no AVX, no x87, no MMX) and the red zone, the 128 bytes below the stack
+ * pointer (both seen in the code of libgirmaut.a).  So SSE must be switched on
+ * (CR0.EM 0, CR4.OSFXSR 1), and of interrupts is asked what is asked with any
+ * such code:
+ *
+ *   - A handler that makes a call first saves what the ABI lets a function
+ *     change: rax, rcx, rdx, rsi, rdi, r8 to r11, xmm0 to xmm15 and MXCSR
+ *     (fxsave64 saves the last two).  It clears the direction flag (cld), has
+ *     the stack pointer at a multiple of 16 when it calls, and as much stack
+ *     as the call takes.  gcc's attribute interrupt saves the general
+ *     registers alone.
+ *   - A handler that makes no call, but can come while one runs, saves
+ *     whatever it changes itself, vector registers included.
+ *   - No handler that can come while a call runs may use the 128 bytes below
+ *     the interrupted stack pointer, and the processor itself writes there if
+ *     it stays on that stack.  Give such interrupts a stack of their own (an
+ *     entry of the interrupt stack table).
+ *
+ * Under Linux the kernel sees to all of this, for signal handlers too.
  *
  *
  * WORDS, VECTORS

@@ -6,10 +6,8 @@
  * is locked or stopping, the joystick is dead; otherwise it is live.
  *
  * Each card keeps a scan lock of its own and tells it every event.  Cards that
- * follow the rules of presence.h and tell their scan locks the same events in
- * the same order between the same rounds, and after each step the view of
- * their own image, hold equal locks while the fault limit is kept (proved).
- * Such a view is never refused (proved).
+ * follow the rules of presence.h, and tell events as WHEN TO TELL AN EVENT
+ * below says, hold equal locks while the fault limit is kept (proved).
  *
  * Nine functions:
  *
@@ -29,9 +27,47 @@
  * A scan lock is its image, a block of bytes that the caller keeps.  Nothing
  * is kept between calls: the result of a call and the bytes it writes follow
  * from its arguments alone.  The functions use no heap, no static variables
- * and no C library calls, and are re-entrant: calls that are lent different
- * outputs may run at the same time, in interrupts too.  A call takes at most
- * 736 bytes of stack on x86-64 (measured).
+ * and no C library calls.  A call takes at most 736 bytes of stack (measured).
+ *
+ * They are re-entrant: calls may run at the same time, in interrupts too, but
+ * an image that a call is writing must not be read or written, by another call
+ * or by an interrupt, until the call has returned.  Swap the index of the
+ * current image after that, in one store.  Calls that change one scan lock
+ * must come one after the other, each on the image that the one before wrote;
+ * if one interrupted another, what either of them did would be lost.  The code
+ * is for x86-64, System V ABI; presence.h says under INTERRUPTS ON X86-64 what
+ * a handler has to save.
+ *
+ *
+ * WHEN TO TELL AN EVENT
+ *
+ * An event is every call below but scanlock_open, scanlock_view and
+ * scanlock_joystick.  Interval k of a card lies after its own step k and
+ * before its own step k + 1; interval 0 is after its opening and before its
+ * step 1.  In each interval all cards have to tell the same events, in the
+ * same order.  At the beginning of interval k, before any event of it, a card
+ * hands its scan lock the view of the image that step k wrote (scanlock_view);
+ * such a view is never refused (proved).
+ *
+ * Cards with different read places (presence.h) make step k at different
+ * times of round k, so in the middle of that round one card is in interval k
+ * and another still in interval k - 1.  Therefore queue an event that comes in
+ * during round k, and tell it after step k and before step k + 1.  The end of
+ * round k, where a card with read place N first makes its step, is in interval
+ * k of every card.
+ *
+ * Otherwise an event that is told when it comes, in the middle of a round
+ * whose step strikes a card off, can be accepted by a card that has stepped
+ * and refused by one whose view is still the old one, and then the joystick is
+ * dead at the one and live at the other; no later round makes them equal.
+ * examples/stage/stage.c shows it, and the queue that prevents it.
+ *
+ * To carry events from card to card is the caller's part.  Neither library
+ * does it, and neither makes good for an event that got lost: a card that
+ * misses one, or tells it in another interval or another order than the rest,
+ * holds other locks than the rest.  Whatever carries events has to bring each
+ * one to every card that follows the rules, or to none of them, all in the
+ * same round and in one order.
  *
  *
  * LOCKS AND MOVES
@@ -156,8 +192,8 @@ typedef struct scanlock_answer {
 scanlock_answer scanlock_open(uint32_t n, uint8_t *out, size_t out_len);
 
 /*
- * Hands over the view after an accepted presence_step: PRESENCE_VIEW of the
- * image that the step wrote.  Holders that are not in it lose their locks.
+ * Hands over the view, right after each accepted presence_step: PRESENCE_VIEW
+ * of the image that it wrote.  Holders that are not in it lose their locks.
  *   image, image_len   the scan lock, SCANLOCK_IMAGE_BYTES
  *   view               module j is bit j-1
  *   out, out_len       output, SCANLOCK_IMAGE_BYTES

@@ -18,11 +18,18 @@ for it, and no other.
 
 Code size: of plain.o and of each object of the archive, as size gives it.
 
+The table of include/presence.h: for each N the most instructions of a step,
+without and with a page, over u and all kinds of rounds.  Exit status 1 if the
+header has another table.
+
 With --goals only the goals of speed are tried, for the gate: a step of 16
 modules in at most half of plain C's instructions, of 4 modules in at most plain
 C's own, in quiet and in loud rounds.  Exit status 1 if one is not met.
+
+With --steps only the table of include/presence.h is tried.
 """
 import argparse
+import math
 import os
 import re
 import subprocess
@@ -180,6 +187,33 @@ def print_code_sizes(both, archive):
     print("  %s: %s" % (os.path.basename(archive), ", ".join(objects)))
 
 
+# ---- the header's table ----
+
+HEADER = os.path.join(ROOT, "include", "presence.h")
+ROWS = 5  # of the table; its columns go through N = 2 to 16
+
+
+def most(one, n):
+    """Instructions of a step, the most over u and the kinds of rounds."""
+    return math.ceil(max(one.per_step(n, u, kind)[1] for u in (0, 1) for kind in KINDS))
+
+
+def step_table(presence, page):
+    """The lines of the header's table."""
+    cells = ["%2d %6s %6s" % (n, *("{:,}".format(most(one, n)) for one in (presence, page))) for n in range(2, 17)]
+    head = "       ".join([" N   step   page"] * (len(cells) // ROWS))
+    return [" *   " + head] + [" *   " + "       ".join(cells[row::ROWS]) for row in range(ROWS)]
+
+
+def steps_as_said(presence, page):
+    lines = step_table(presence, page)
+    print("Instructions of a step, the most over u and the kinds of rounds\n" + "\n".join(lines))
+    with open(HEADER, encoding="ascii") as file:
+        same = "\n".join(lines) in file.read()
+    print("include/presence.h has %s table" % ("this" if same else "ANOTHER"))
+    return same
+
+
 # ---- goals ----
 
 # the most that a step may take of plain C's instructions, by N
@@ -205,6 +239,7 @@ def parse_options():
     options.add_argument("--libs", default="", help="further linker arguments")
     options.add_argument("--n", default="2,4,8,16", help="values of N")
     options.add_argument("--goals", action="store_true", help="only try the goals of speed")
+    options.add_argument("--steps", action="store_true", help="only try the table of include/presence.h")
     options.add_argument("--build", default=os.path.join(ROOT, "build", "measure"))
     return options.parse_args()
 
@@ -226,11 +261,15 @@ def main():
     if options.goals:
         return 0 if goals_met(plain, presence) else 1
     page = Implementation("page", "presence_page_step", ["-DPAGE"], link, options.build)
+    if options.steps:
+        return 0 if steps_as_said(presence, page) else 1
     equal = print_all_instructions(plain, presence, page, sizes)
     print_all_stacks(plain, presence, sizes)
     print_code_sizes((plain, presence), archive)
+    print()
+    same = steps_as_said(presence, page)
     print("\nresults %s" % ("equal" if equal else "DIFFERENT"))
-    return 0 if equal else 1
+    return 0 if equal and same else 1
 
 
 if __name__ == "__main__":
