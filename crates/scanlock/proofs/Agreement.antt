@@ -106,11 +106,11 @@ cards-agree S ok last bound k hk lim between i i′ fi fi′ card card′ =
     }
 
 pub images-agree : ImagesAgree
-images-agree S setup ok is last bound k hk lim between i i′ fi fi′ card card′ lock lock′ =
+images-agree S setup set-up last bound k hk lim between i i′ fi fi′ card card′ lock lock′ =
     let e : toldOf between card k ≡ toldOf between card′ k = same-history between _ _ k
     (λ j l.
     let h : suc j ≤ last = omega arith in
     ap (λ (c : Counters). c .view)
-    (demand-3-c .agree S setup ok is last bound (suc j) (zero-lt-suc j) h (sooner S k j l lim) i i′ _ _ _ _ fi fi′
+    (demand-3-c .agreement S setup set-up last bound (suc j) (zero-lt-suc j) h (sooner S k j l lim) .agree i i′ _ _ _ _ fi fi′
     (card .lives (suc j) h) (card′ .lives (suc j) h) .1)) in
     same-images (size S) _ _ lock lock′ e

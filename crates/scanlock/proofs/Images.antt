@@ -10,12 +10,13 @@ use lib.Dec.{eqb, leb}
 use lib.ListN.{length}
 use Rattle.words.specs.Bits.{b2n}
 use Rattle.words.proofs.Truth.{which, cond-true, cond-false}
+use Rattle.page.proofs.Refusals.{refusals}
 use Rattle.scanlock.specs.Locks.{opened, openOf, eventOf}
 use Rattle.scanlock.specs.History.{number, accepted}
 use Rattle.scanlock.specs.ByHistory.{after}
 use Rattle.scanlock.specs.Image.{answer, imageOf, locksOf, checkImage, Sound}
 use Rattle.scanlock.specs.Calls.{Called, called, answerOf, saveCall, openCall, eventCall, joystickCall}
-use Rattle.scanlock.specs.Images.{RoundTrip, Held, opens, tells, refuses, refused-other, ImagesByHistory}
+use Rattle.scanlock.specs.Images.{RoundTrip, Refused, opening, event, of-presence, Unaltered, Held, opens, tells, refuses, refused, ImagesByHistory}
 use Rattle.scanlock.specs.declared.Locks.{Locks}
 use Rattle.scanlock.specs.declared.Answer.{Answer}
 use Rattle.scanlock.specs.declared.Answered.{Answered}
@@ -46,6 +47,24 @@ event-keeps image e out f =
     kept v a st true true false out f = refl
     kept v a st true false r out f = refl
     kept v a st false q r out f = refl
+
+open-keeps : (n : ℕ) (out : List ℕ) → (openCall n out .answer .number ≡ 0 → ⊥) → openCall n out .out ≡ out
+unfolding openCall saveCall
+open-keeps n out f = kept (openOf n) (eqb (openOf n .number) 0) (eqb (length out) 36) f
+  where
+    kept : (o : Answered) (p q : Bool)
+        → (cond p (cond q (called (answerOf 0 (o .locks)) (imageOf (o .locks))) (called (answer 9 0 0) out)) (called (answer (o .number) 0 0) out)
+        .answer .number ≡ 0 → ⊥)
+        → cond p (cond q (called (answerOf 0 (o .locks)) (imageOf (o .locks))) (called (answer 9 0 0) out)) (called (answer (o .number) 0 0) out)
+        .out ≡ out
+    kept o true true f = absurd (f refl)
+    kept o true false f = refl
+    kept o false q f = refl
+
+pub unaltered : Unaltered
+unaltered before after (opening m f) = open-keeps m before f
+unaltered before after (event image e f) = event-keeps image e before f
+unaltered before after (of-presence r) = refusals .unaltered before after r
 
 -- ---- a call on the image of sound locks
 
@@ -137,9 +156,9 @@ held-is n g image (refuses {h = h} e out k l z) =
     z (ap (λ (x : List ℕ). eventCall x e out .answer .number) i
     ∙ ap (λ (x : Answer). x .number) (call-answers (after n h) s e out l) ∙ m) in
     (i ∙ ap imageOf (sym (refused-same (after n h) e q)), event-sound (after n h) e s)
-held-is n h image (refused-other {image = old} other e k f) =
+held-is n h image (refused {image = old} k r) =
     let (i, s) = held-is n h old k in
-    (event-keeps other e old f ∙ i, s)
+    (unaltered old image r ∙ i, s)
 
 pub images-by-history : ImagesByHistory
 unfolding after joystickCall

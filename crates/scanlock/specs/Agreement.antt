@@ -1,18 +1,16 @@
--- Why the scan lock stands above the presence service: rule-following cards that are handed the same events, in the same order between
--- the same rounds, hold equal locks and give equal joystick answers. Proved in proofs/Agreement.antt, from demand 3 as
--- crates/agreement states it.
+-- Why the scan lock stands above the presence service: rule-following cards that are handed the same events in the same order, each after
+-- their own step k and before their own step k + 1, hold equal locks and give equal joystick answers. Proved in proofs/Agreement.antt,
+-- from demand 3 as crates/agreement states it.
 use Prim.Native.Nat.{ℕ, zero, suc, _≤_, _<_}
 use mathlib.Core.Path.{_≡_}
 use mathlib.Core.Bool.{false}
 use mathlib.Core.List.{List, _∷_, _++_}
-use Rattle.setup.specs.Setup.{setupOf}
-use Rattle.setup.specs.Check.{checkSetup}
 use Rattle.presence.specs.Image.{stateOf}
 use Rattle.presence.specs.declared.State.{State}
 use Rattle.agreement.specs.Session.{Session, Accepted, size, RuleFollower, Bound}
 use Rattle.agreement.specs.Life.{Life}
 use Rattle.agreement.specs.Demand.{KeptTo}
-use Rattle.agreement.specs.Images.{ImageLife}
+use Rattle.agreement.specs.Images.{ImageLife, SetUp}
 use Rattle.scanlock.specs.Axis.{present}
 use Rattle.scanlock.specs.Locks.{axisAt, eventOf, joystickOf}
 use Rattle.scanlock.specs.ByHistory.{after}
@@ -85,7 +83,7 @@ toldOf between card k = history between (λ j. stateOf (card .image j) .counters
 -- the scan locks that two such cards hold are equal byte for byte
 abbrev pub ImagesAgree : Type 0
 ImagesAgree =
-    (S : Session) (setup : List ℕ) → checkSetup setup .number ≡ 0 → S .setup ≡ setupOf setup → (last : ℕ) → Bound S last
+    (S : Session) (setup : List ℕ) → SetUp S setup → (last : ℕ) → Bound S last
     → (k : ℕ) → k ≤ last → KeptTo S k → (between : ℕ → List Event) → (i i′ : ℕ) → RuleFollower S i → RuleFollower S i′
     → (card : ImageCard S setup i last) (card′ : ImageCard S setup i′ last) (lock lock′ : List ℕ)
     → Held (size S) (toldOf between card k) lock → Held (size S) (toldOf between card′ k) lock′ → lock ≡ lock′

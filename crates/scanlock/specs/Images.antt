@@ -5,6 +5,7 @@ use mathlib.Core.Logic.{_≢_}
 use mathlib.Core.List.{List, [], _∷_}
 use lib.ListN.{getD, length}
 use Rattle.words.specs.Bits.{b2n}
+use Rattle.page.specs.Refusals.{Refused as RefusedPresence}
 use Rattle.scanlock.specs.Locks.{opened, eventOf}
 use Rattle.scanlock.specs.History.{number, accepted, live}
 use Rattle.scanlock.specs.ByHistory.{after}
@@ -20,6 +21,16 @@ pub record RoundTrip : Type 0 where
   pub opens : (n : ℕ) → 2 ≤ n → n ≤ 16 → Sound (opened n)
   pub keeps : (st : Locks) (e : Event) → Sound st → Sound (eventOf st e .locks)
 
+-- A refused call was lent the bytes `before` as its output, and left these: any call of scanlock.h, on any other bytes, or of presence.h.
+pub data Refused (before : List ℕ) : List ℕ → Type 0 where
+  opening : (m : ℕ) → openCall m before .answer .number ≢ 0 → Refused before (openCall m before .out)
+  event : (image : List ℕ) (e : Event) → eventCall image e before .answer .number ≢ 0 → Refused before (eventCall image e before .out)
+  of-presence : {after : List ℕ} → RefusedPresence before after → Refused before after
+
+-- Nothing lent is altered by a refusal, be it a scan lock's image or a module's.
+abbrev pub Unaltered : Type 0
+Unaltered = (before after : List ℕ) → Refused before after → after ≡ before
+
 -- The image that a caller holds after a history: the output of the opening, and from an accepted event on its output; a refused
 -- event leaves it. The output lent to a call is any buffer.
 pub data Held (n : ℕ) : List Event → List ℕ → Type 0 where
@@ -29,9 +40,8 @@ pub data Held (n : ℕ) : List Event → List ℕ → Type 0 where
   -- the event itself is refused: there was room for its output
   refuses : {h : List Event} {image : List ℕ} (e : Event) (out : List ℕ) → Held n h image → length out ≡ 36
       → eventCall image e out .answer .number ≢ 0 → Held n (e ∷ h) image
-  -- a refused call on any bytes that was lent the image's own buffer as its output
-  refused-other : {h : List Event} {image : List ℕ} (other : List ℕ) (e : Event) → Held n h image → eventCall other e image .answer .number ≢ 0
-      → Held n h (eventCall other e image .out)
+  -- a refused call of any kind that was lent the image's own buffer
+  refused : {h : List Event} {image after : List ℕ} → Held n h image → Refused image after → Held n h after
 
 -- Such an image is that of the locks after the history; each further event is answered, and the joystick is live, as the history has it.
 -- An output of another length than 36 bytes is refused by 9, and stays as it was: the event was not told.
