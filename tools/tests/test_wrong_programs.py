@@ -1,12 +1,15 @@
 """docs/WRONG-PROGRAMS.md beside the sources and what the gate found.
 
-Every function that outsiders can call has two edits with each of which the prover does not prove it. And every slip in the code that an edit
-makes is one that the contract of its own function refuses: the prover says of that function that it is not proved, whatever else the edit has.
+Every function that outsiders can call, and every inner function that another crate calls, has two edits with each of which the prover does
+not prove it. No function of the first kind has a `requires`; one of the second kind that no other crate calls has to be private. And every
+slip in the code that an edit makes is one that the contract of its own function refuses: the prover says of that function that it is not
+proved, whatever else the edit has.
 """
 
 import os
 import re
 import unittest
+from collections import namedtuple
 
 from common import ROOT
 
@@ -28,8 +31,11 @@ def sources(crate):
     return {name[:-3]: text(folder, name) for name in sorted(os.listdir(folder)) if name.endswith(".rt")}
 
 
+Function = namedtuple("Function", "struct name public exported requires first last")
+
+
 def functions(source):
-    """(struct or None, name, whether public, whether C calls it, first and last line) of each function of a file, in turn."""
+    """Each function of a file, in turn; `requires` says whether it has a precondition, `first` and `last` are its lines."""
     lines, struct, found = source.splitlines(), None, []
     for number, line in enumerate(lines):
         opened = re.match(r"impl (\w+)", line)
@@ -37,19 +43,41 @@ def functions(source):
         head = re.match(r'(\s*)(pub )?(extern "C" )?fn (\w+)', line)
         if head:
             last = next(k for k in range(number, len(lines)) if lines[k] == head[1] + "}")
-            found.append((struct, head[4], bool(head[2]), bool(head[3]), number, last))
+            body = next((k for k in range(number, last) if lines[k].rstrip().endswith("{")), last)
+            requires = any(re.match(r"\s*requires\b", lines[k]) for k in range(number, body + 1))
+            found.append(Function(struct, head[4], bool(head[2]), bool(head[3]), requires, number, last))
     return found
 
 
 def reachable(crate):
-    """The functions that outsiders can call: C's calls, public ones of public files, and public ones of public structs."""
+    """The functions that can be called from outside their crate, by name: C's calls, public ones of public files or passed on by `pub use`, and
+    public ones of public structs."""
     files = sources(crate)
     open_files = re.findall(r"^pub mod (\w+)", files["lib"], re.M)
+    passed_on = re.findall(r"^pub use (\w+)::(\w+);", files["lib"], re.M)
     open_structs = re.findall(r"^pub struct (\w+)", "\n".join(files.values()), re.M)
     for module, source in files.items():
-        for struct, name, public, exported, _, _ in functions(source):
-            if exported or public and (struct in open_structs if struct else module in open_files):
-                yield f"{struct or module}::{name}"
+        for f in functions(source):
+            open_here = f.struct in open_structs if f.struct else module in open_files or (module, f.name) in passed_on
+            if f.exported or f.public and open_here:
+                yield f"{f.struct or module}::{f.name}", f
+
+
+def called_from_another_crate(crate, name, crates=None):
+    """Whether the code of another crate calls a function of this one."""
+    owner, function = name.split("::")
+    free = rf"\b{crate}::(?:{owner}::)?{function}\b"
+    method = rf"(?:\b{owner}::|\.){function}\("
+    for other in crates or os.listdir(CRATES):
+        for source in sources(other).values() if other != crate else ():
+            if re.search(free, source) or owner[0].isupper() and re.search(rf"\b{crate}::", source) and re.search(method, source):
+                return True
+    return False
+
+
+def outsiders(page):
+    """The paragraph that says who outsiders are."""
+    return re.findall(r"^\*\*Outsiders\*\* .*$", text(ROOT, "docs", page), re.M)
 
 
 def edits(crate):
@@ -65,9 +93,9 @@ def slips(crate, edit):
         if line.startswith("old: ") and file.startswith("src/"):
             source = text(CRATES, crate, file)
             at = source[: source.index(line[5:])].count("\n")
-            for struct, name, _, _, first, last in functions(source):
-                if first <= at <= last:
-                    yield name_of(crate, file[4:-3], struct, name)
+            for f in functions(source):
+                if f.first <= at <= f.last:
+                    yield name_of(crate, file[4:-3], f.struct, f.name)
 
 
 def name_of(crate, module, struct, name):
@@ -90,8 +118,14 @@ def said(crate, edit):
 
 class WrongPrograms(unittest.TestCase):
     def setUp(self):
-        rows = re.findall(r"^\| (\w+) \| (\w+::\w+) \| (\w+), (\w+) \|$", text(ROOT, "docs", "WRONG-PROGRAMS.md"), re.M)
-        self.table = {(crate, name): {first, second} for crate, name, first, second in rows}
+        page = text(ROOT, "docs", "WRONG-PROGRAMS.md")
+        self.called, self.inner = (self.rows(page, title) for title in ("## Functions that outsiders can call", "## Inner functions"))
+        self.table = {**self.called, **self.inner}
+
+    def rows(self, page, title):
+        part = page[page.index(title + "\n") + len(title):].split("\n## ")[0]
+        found = re.findall(r"^\| (\w+) \| (\w+::\w+) \| (\w+), (\w+) \|$", part, re.M)
+        return {(crate, name): {first, second} for crate, name, first, second in found}
 
     def tried(self, crate, edit):
         found = said(crate, edit)
@@ -100,7 +134,25 @@ class WrongPrograms(unittest.TestCase):
         return found
 
     def test_every_function_that_outsiders_can_call_has_a_row(self):
-        self.assertEqual(set(self.table), {(crate, name) for crate in LISTED for name in reachable(crate)})
+        free = {(crate, name) for crate in LISTED for name, f in reachable(crate) if not f.requires}
+        self.assertGreater(len(free), 50)
+        self.assertEqual(set(self.called), free)
+
+    def test_every_inner_function_has_a_row_and_is_called_from_another_crate(self):
+        asking = {(crate, name) for crate in LISTED for name, f in reachable(crate) if f.requires}
+        self.assertEqual(set(self.inner), asking)
+        for crate, name in asking:
+            with self.subTest(f"{crate} {name}"):
+                self.assertTrue(called_from_another_crate(crate, name), "nothing outside its crate calls it: make it private")
+
+    def test_what_c_calls_requires_nothing(self):
+        exported = [(crate, name, f.requires) for crate in LISTED for name, f in reachable(crate) if f.exported]
+        self.assertEqual(len(exported), 19)
+        self.assertEqual([name for _, name, requires in exported if requires], [])
+
+    def test_both_pages_mean_the_same_outsiders(self):
+        self.assertEqual(len(outsiders("WRONG-PROGRAMS.md")), 1)
+        self.assertEqual(outsiders("WRONG-PROGRAMS.md"), outsiders("DECISIONS.md"))
 
     def test_each_row_names_two_edits_of_its_crate(self):
         for (crate, name), named in self.table.items():

@@ -2,11 +2,11 @@
 //
 // This file has what is held from round to round. The entry of module i + 1 stands at i, that of receiver i + 1 and sender j + 1 at 16 * i + j.
 mod arrivals;
-mod fill;
 mod half_heard;
 mod limit;
 mod play;
 mod rounds;
+mod start;
 
 use presence::State;
 use script::Cursor;

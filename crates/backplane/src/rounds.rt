@@ -1,53 +1,16 @@
-// A run script, played round by round.
-use crate::Backplane;
+// A run script, played round by round, with the lines of many rounds put into a buffer to be written at once.
+use crate::Filled;
 use crate::Run;
-use crate::Started;
 use presence::State;
-use script::Cursor;
-use script::Events;
-use script::check::check;
-use setup::check::size_at;
-use setup::part::part;
 use text::line::put_lines;
-use words::word::KIND;
-use words::word::word_at;
 ghost use mathlib.Core.Path.{_≡_};
 ghost use Prim.Native.Nat.{_+_, _≤_, _<_};
 ghost use lib.ListN.{length};
 ghost use Rattle.words.specs.Array.{array};
 ghost use Rattle.text.specs.Wrote.{Wrote};
-ghost use Rattle.script.specs.Check.{checkScript};
 ghost use Rattle.backplane.specs.Play.{stateAt, Sound};
-ghost use Rattle.backplane.specs.Run.{begun, idle, startOf, nextOf, printed};
-
-// Before round 1 of an accepted script.
-fn begun(s: &[u8]) -> Run
-    requires { ⌜ checkScript (now s) .number ≡ 0 ⌝ }
-    ensures { λ r. ⌜ r ≡ begun (now (s .entry)) ⌝ }
-{
-    let n = size_at(s);
-    let cast = word_at(s, n + 3) % KIND;
-    let read = setup::read::read(part(s));
-    let setup = read.setup;
-    let cursor = Cursor::start(n);
-    let backplane = Backplane::open(setup, cast);
-    Run { cursor, backplane }
-}
-
-// Nothing to play.
-fn idle() -> Run
-    ensures { λ r. ⌜ r ≡ idle ⌝ }
-{
-    let events = Events::none();
-    let cursor = Cursor {
-        at: 0,
-        left: 0,
-        over: true,
-        events,
-    };
-    let backplane = Backplane::open(setup::read::blank(), 0);
-    Run { cursor, backplane }
-}
+ghost use Rattle.backplane.specs.Run.{nextOf, later, printed};
+ghost use Rattle.backplane.specs.Output.{roundLines, nextLines};
 
 // The views of the modules.
 fn views(n: usize, states: [State; 16]) -> [u32; 16]
@@ -62,30 +25,20 @@ fn views(n: usize, states: [State; 16]) -> [u32; 16]
     views
 }
 
-impl Run {
-    // Checks a run script, and starts it where it is accepted.
-    pub fn start(s: &[u8]) -> Started
-        ensures { λ r. ⌜ r ≡ startOf (now (s .entry)) ⌝ }
-    {
-        let v = check(s);
-        if v.number != 0 {
-            let run = idle();
-            return Started {
-                number: v.number,
-                index: v.index,
-                run,
-            };
-        }
-        let run = begun(s);
-        Started {
-            number: v.number,
-            index: v.index,
-            run,
-        }
+// Writes the lines of the round that a run has come to, if the script is not over.
+fn put_round(run: Run, out: &mut [u8], at: usize) -> usize
+    requires { ⌜ (run .backplane .setup .n ≤ 16) × (at + 832 ≤ length (now out)) ⌝ }
+    ensures { λ r. ⌜ Wrote (now (out .entry)) at (roundLines run) (now (out .exit)) r × (r ≤ at + 832) ⌝ }
+{
+    if run.over() {
+        return at;
     }
+    run.put_lines(out, at)
+}
 
+impl Run {
     // Plays the next round, if the script has one.
-    pub fn next(self, s: &[u8]) -> Run
+    fn next(self, s: &[u8]) -> Run
         requires { ⌜ Sound (self .backplane) ⌝ }
         ensures { λ r. ⌜ r ≡ nextOf (now (s .entry)) self ⌝ }
     {
@@ -103,15 +56,8 @@ impl Run {
         Run { cursor, backplane }
     }
 
-    // Whether the script is over.
-    pub fn over(self) -> bool
-        ensures { λ r. ⌜ r ≡ self .cursor .over ⌝ }
-    {
-        self.cursor.over
-    }
-
     // Writes the lines of the round at a place of the output, and answers the place after them.
-    pub fn put_lines(self, out: &mut [u8], at: usize) -> usize
+    fn put_lines(self, out: &mut [u8], at: usize) -> usize
         requires { ⌜ (self .backplane .setup .n ≤ 16) × (at + 832 ≤ length (now out)) ⌝ }
         ensures { λ r. ⌜ Wrote (now (out .entry)) at (printed (self .backplane)) (now (out .exit)) r × (r ≤ at + 832) ⌝ }
     {
@@ -121,5 +67,21 @@ impl Run {
         let health = b.health;
         let view = views(setup.n, states);
         put_lines(out, at, setup.n, b.round, b.kept, health, view)
+    }
+
+    // Plays 64 rounds, or as many as are left, and writes their lines to the front of the output. (64 times 832 bytes is 53,248.)
+    pub fn fill(self, s: &[u8], out: &mut [u8]) -> Filled
+        requires { ⌜ Sound (self .backplane) × (53248 ≤ length (now out)) ⌝ }
+        ensures { λ r. ⌜ (r .run ≡ later (now (s .entry)) self 64)
+            × Wrote (now (out .entry)) 0 (nextLines (now (s .entry)) self 64) (now (out .exit)) (r .end) ⌝ }
+    {
+        let mut run = self;
+        let mut at: usize = 0;
+        for _ in 0..64u32 {
+            let next = run.next(s);
+            run = next;
+            at = put_round(run, out, at);
+        }
+        Filled { run, end: at }
     }
 }

@@ -46,7 +46,7 @@ answering v health st out next page =
 
 -- ---- a buffer that was lent to a refused call
 
--- A refused call of presence.h was lent the bytes `before`, as its output or as its page, and left these: any call that may write, on any
+-- A refused call of include/presence.h was lent the bytes `before`, as its output or as its page, and left these: any call that may write, on any
 -- other bytes.
 pub data Refused (before : List ℕ) : List ℕ → Type 0 where
   opening : (setup : List ℕ) (own : ℕ) → openCall setup own before .answer .number ≢ 0 → Refused before (openCall setup own before .out)

@@ -21,7 +21,8 @@ pub record RoundTrip : Type 0 where
   pub opens : (n : ℕ) → 2 ≤ n → n ≤ 16 → Sound (opened n)
   pub keeps : (st : Locks) (e : Event) → Sound st → Sound (eventOf st e .locks)
 
--- A refused call was lent the bytes `before` as its output, and left these: any call of scanlock.h, on any other bytes, or of presence.h.
+-- A refused call was lent the bytes `before` as its output, and left these: any call of include/scanlock.h, on any other
+-- bytes, or of include/presence.h.
 pub data Refused (before : List ℕ) : List ℕ → Type 0 where
   opening : (m : ℕ) → openCall m before .answer .number ≢ 0 → Refused before (openCall m before .out)
   event : (image : List ℕ) (e : Event) → eventCall image e before .answer .number ≢ 0 → Refused before (eventCall image e before .out)

@@ -12,8 +12,8 @@ use Rattle.backplane.specs.Play.{opened}
 use Rattle.backplane.specs.Run.{begun}
 use Rattle.backplane.proofs.StartLaws.{few, cast-there, few-read}
 use Rattle.backplane.proofs.RunLaws.{made}
-use Rattle.backplane.proofs.rounds.begun.Statement.{statement}
-use Rattle.backplane.proofs.rounds.begun.Tie as tie
+use Rattle.backplane.proofs.start.begun.Statement.{statement}
+use Rattle.backplane.proofs.start.begun.Tie as tie
 
 size-at-requires : tie.Need-size-at-requires
 size-at-requires c κs =

@@ -10,8 +10,8 @@ use Rattle.script.specs.declared.Events.{Events}
 use Rattle.backplane.specs.Play.{opened}
 use Rattle.backplane.specs.Run.{idle}
 use Rattle.backplane.proofs.RunLaws.{made}
-use Rattle.backplane.proofs.rounds.idle.Statement.{statement}
-use Rattle.backplane.proofs.rounds.idle.Tie as tie
+use Rattle.backplane.proofs.start.idle.Statement.{statement}
+use Rattle.backplane.proofs.start.idle.Tie as tie
 
 none-requires : tie.Need-none-requires
 none-requires c κs = search needs

@@ -3,8 +3,8 @@ use mathlib.Core.Path.{sym, _∙_}
 use native.Mathlib.Omega.{arith}
 use borrow.Author.Needs.{needs}
 use Rattle.backplane.proofs.OutputLaws.{wrote-over, wrote-round}
-use Rattle.backplane.proofs.fill.put_round.Statement.{statement}
-use Rattle.backplane.proofs.fill.put_round.Tie as tie
+use Rattle.backplane.proofs.rounds.put_round.Statement.{statement}
+use Rattle.backplane.proofs.rounds.put_round.Tie as tie
 
 over-requires : tie.Need-over-requires
 over-requires c κs = search needs
