@@ -3,3 +3,4 @@ pub mod Page
 pub mod Host
 pub mod Calls
 pub mod Promise
+pub mod Cases
