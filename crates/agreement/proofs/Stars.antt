@@ -1,10 +1,18 @@
--- The starred table is right, entry by entry: computed.
+-- The starred table is right, entry by entry: computed. Its tests mean what they stand for.
+use Prim.Native.Nat.{ℕ, zero, suc, _-_, _≤_, _<_}
 use mathlib.Core.Path.{_≡_, refl}
-use mathlib.Core.Bool.{true}
+use mathlib.Core.Logic.{⊎-elim}
+use mathlib.Core.Bool.{Bool, true, false, not, _&&_, _||_}
+use native.Mathlib.Omega.{arith}
+use native.Mathlib.Nat.{zero-lt-suc, not-suc-le-zero}
+use lib.Dec.{eqb}
+use borrow.Author.Tests.{eqb-true, eq-eqb}
 use Rattle.words.specs.Word.{wordAt, bytesOf}
 use Rattle.words.specs.Bits.{bit, pack}
 use Rattle.words.specs.Count.{count, any, all, lowest}
 use Rattle.words.specs.Array.{array, clearFrom}
+use Rattle.words.proofs.Truth.{which, and-l, and-r, or-r}
+use Rattle.words.proofs.CountLaws.{all-at, all-intro}
 use Rattle.setup.specs.Verdict.{check, checkEach}
 use Rattle.setup.specs.Setup.{setupOf, blankSetup}
 use Rattle.setup.specs.Check.{moduleFits, markFits, whole, headOk, limitOk, moduleOk, markOk, checkHead, checkWords, checkSetup, setupTidy, checkFields}
@@ -20,9 +28,61 @@ use Rattle.presence.specs.Valid.{stateTidy, checkState, stateVerdict}
 use Rattle.presence.specs.Opening.{fresh, blank, checkOpening, openOf}
 use Rattle.presence.specs.Step.{placeOf, markOf, ownSyndrome, alignedFor, judgementFor, outgoingFor, afterRound, refusedStep, acceptedStep, testedStep, readStep, stepOf}
 use Rattle.agreement.specs.Fault.{differ, half, heard, halfIn, breakerIn, unheardIn, within, limit}
-use Rattle.agreement.specs.Session.{bitIn, wordIn, readRound, state, health, handed, sent, kept}
-use Rattle.agreement.specs.Stars.{printed, bound, keptTo, right, stars}
+use Rattle.agreement.specs.Session.{Session, RuleFollower, Bound, size, u, follows, round, bitIn, wordIn, readRound, state, health, handed, sent, kept}
+use Rattle.agreement.specs.Stars.{printed, bound, keptTo, TestsMean, StarsRight}
 
-pub stars-right : right stars ≡ true
+pub stars-right : StarsRight
 unfolding wordAt bytesOf bit pack count any all lowest array clearFrom check checkEach setupOf blankSetup moduleFits markFits whole headOk limitOk moduleOk markOk checkHead checkWords checkSetup setupTidy checkFields skewed busWord wordHeard entryOf readingOf alignedOf decision tally voteOf healthOf differsAt accusationOf accusationsOf syndromeOf judgementOf outgoingOf charged rewarded accounted accountAt accountedAt countersOf rowFits penaltyFits rewardFits stateTidy checkState stateVerdict fresh blank checkOpening openOf placeOf markOf ownSyndrome alignedFor judgementFor outgoingFor afterRound refusedStep acceptedStep testedStep readStep stepOf differ half heard halfIn breakerIn unheardIn within limit bitIn wordIn readRound state health handed sent kept printed bound keptTo
 stars-right = refl
+
+module _ (S : Session) where
+  -- a rule-follower's word, heard by a rule-follower
+  abbrev asked : ℕ → ℕ → ℕ → Bool
+  asked k i l = follows S i && (follows S l && round S (suc k) .hears i l)
+
+  -- the test of one word
+  abbrev wordTest : ℕ → ℕ → ℕ → Bool
+  wordTest k i l = not (asked k i l) || eqb (wordIn S (suc k) i l) (sent S l (suc k))
+
+  word-bound : (k i l : ℕ) → RuleFollower S i → RuleFollower S l → round S (suc k) .hears i l ≡ true → wordTest k i l ≡ true
+      → wordIn S (suc k) i l ≡ sent S l (suc k)
+  word-bound k i l fi fl h t =
+      let a = fi .true-to in
+      let b = fl .true-to in
+      eqb-true (wordIn S (suc k) i l) (sent S l (suc k)) (rw (a, b, h) at t)
+
+  bound-true : (last : ℕ) → bound S last ≡ true → Bound S last
+  unfolding bound
+  bound-true last t zero i l p le fi fl h = absurd (not-suc-le-zero p)
+  bound-true last t (suc k) i l p le fi fl h =
+      word-bound k i l fi fl h
+      (all-at (size S) (wordTest k i) (all-at (size S) (λ i. all (size S) (wordTest k i))
+      (all-at last (λ k. all (size S) (λ i. all (size S) (wordTest k i))) t k (omega arith)) i (fi .below)) l (fl .below))
+
+  true-bound : (last : ℕ) → Bound S last → bound S last ≡ true
+  unfolding bound
+  true-bound last B =
+      all-intro last _ (λ k hk. all-intro (size S) _ (λ i hi. all-intro (size S) (wordTest k i) (λ l hl.
+      ⊎-elim
+      (λ (t : asked k i l ≡ true).
+      let fi : RuleFollower S i = record { below = hi; true-to = and-l (follows S i) _ t } in
+      let t′ = and-r (follows S i) _ t in
+      let fl : RuleFollower S l = record { below = hl; true-to = and-l (follows S l) _ t′ } in
+      or-r (not (asked k i l)) _ (eq-eqb _ _ (B (suc k) i l (zero-lt-suc k) (omega arith) fi fl (and-r (follows S l) _ t′))))
+      (λ (f : asked k i l ≡ false). rw f) (which (asked k i l)))))
+
+  kept-true : (k : ℕ) → keptTo S k ≡ true → (ρ : ℕ) → 0 < ρ → ρ ≤ k → kept S ρ ≡ true
+  unfolding keptTo
+  kept-true k t zero p le = absurd (not-suc-le-zero p)
+  kept-true k t (suc ρ) p le = all-at k (λ ρ. kept S (suc ρ)) t ρ (omega arith)
+
+  true-kept : (k : ℕ) → ((ρ : ℕ) → 0 < ρ → ρ ≤ k → kept S ρ ≡ true) → keptTo S k ≡ true
+  unfolding keptTo
+  true-kept k K = all-intro k _ (λ ρ h. K (suc ρ) (zero-lt-suc ρ) (omega arith))
+
+pub tests-mean : TestsMean
+tests-mean = record {
+  bound-means = λ S k. (bound-true S k, true-bound S k);
+  kept-means = λ S k. (kept-true S k, true-kept S k);
+  step-means = λ S k. (kept-true S (k - u S), true-kept S (k - u S));
+}

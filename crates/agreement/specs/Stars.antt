@@ -1,12 +1,14 @@
--- The starred cases of document 01 ("Bench sheet"), and two that are not starred: one table of what the definitions give and what document 01 says.
--- The checker computes it whole, in proofs/Stars.antt.
-use Prim.Native.Nat.{ℕ, zero, suc, _+_, _*_}
+-- The starred cases of document 01 ("Bench sheet"), and others that are not starred, most of them of the fault limit: one table of what the
+-- definitions give and what document 01 says. The checker computes it whole, in proofs/Stars.antt.
+use Prim.Native.Nat.{ℕ, zero, suc, _+_, _-_, _*_, _≤_, _<_}
+use mathlib.Core.Path.{_≡_}
+use mathlib.Core.Logic.{_↔_}
 use mathlib.Core.Bool.{Bool, true, false, cond, not, _&&_, _||_}
 use mathlib.Core.List.{List, [], _∷_, _++_}
 use lib.Dec.{eqb, leb}
 use lib.ListN.{getD, replicate}
 use Rattle.words.specs.Word.{bytesOf}
-use Rattle.words.specs.Bits.{b2n, bit, full}
+use Rattle.words.specs.Bits.{b2n, bit, pack, full}
 use Rattle.words.specs.Count.{all}
 use Rattle.words.specs.Array.{array}
 use Rattle.setup.specs.Setup.{setupOf}
@@ -17,7 +19,8 @@ use Rattle.rules.specs.Vote.{voteOf}
 use Rattle.rules.specs.Account.{countersOf}
 use Rattle.presence.specs.Opening.{fresh}
 use Rattle.rules.specs.declared.Counters.{Counters}
-use Rattle.agreement.specs.Session.{Session, size, round, wordIn, state, health, sent, kept}
+use Rattle.agreement.specs.Session.{Session, size, u, follows, round, wordIn, state, health, sent, Bound, kept}
+use Rattle.agreement.specs.Demand.{KeptTo}
 
 -- ---- the table: what the definitions give, and what document 01 says
 
@@ -61,20 +64,38 @@ abbrev pub like : ℕ → ℕ → List ℕ → Setup
 like n marks places =
     record { n = n; p = 1; r = 3; marks = marks; places = array n (λ j. getD places j 0); criticality = array n (λ j. 1) }
 
--- all follow the rules: who hears whom by round, receiver and sender, and the row sent by round and sender
-abbrev pub session : Setup → (ℕ → ℕ → ℕ → Bool) → (ℕ → ℕ → ℕ) → Session
-session s hears rows = record { setup = s; cast = 0; controller = hears; word = λ k i j. busWord (rows k j) }
+-- the rule-breakers, as a vector; who hears whom by round, receiver and sender; and the row sent by round and sender
+abbrev pub castSession : ℕ → Setup → (ℕ → ℕ → ℕ → Bool) → (ℕ → ℕ → ℕ) → Session
+castSession cast s hears rows = record { setup = s; cast = cast; controller = hears; word = λ k i j. busWord (rows k j) }
 
--- every heard word is the one that was sent, up to round `last`
+-- the same where all follow the rules
+abbrev pub session : Setup → (ℕ → ℕ → ℕ → Bool) → (ℕ → ℕ → ℕ) → Session
+session s hears rows = castSession 0 s hears rows
+
+-- every word of a rule-follower that a rule-follower heard is the one that was sent, up to round `last`
 unfoldable pub bound : Session → ℕ → Bool
 bound S last =
     all last
     (λ k. all (size S)
-    (λ i. all (size S) (λ l. not (round S (suc k) .hears i l) || eqb (wordIn S (suc k) i l) (sent S l (suc k)))))
+    (λ i. all (size S)
+    (λ l. not (follows S i && (follows S l && round S (suc k) .hears i l)) || eqb (wordIn S (suc k) i l) (sent S l (suc k)))))
 
 -- the limit was kept in every round from 1 to k
 unfoldable pub keptTo : Session → ℕ → Bool
 keptTo S k = all k (λ ρ. kept S (suc ρ))
+
+-- the limit was kept in every round from 1 to k - u, as demand 3 asks it of step k
+abbrev pub keptForStep : Session → ℕ → Bool
+keptForStep S k = keptTo S (k - u S)
+
+-- What these three tests mean: each passes exactly if what it stands for holds.
+pub record TestsMean : Type 0 where
+  -- the session is bound up to round k
+  pub bound-means : (S : Session) (k : ℕ) → (bound S k ≡ true) ↔ Bound S k
+  -- the limit is kept for every ρ from 1 to k
+  pub kept-means : (S : Session) (k : ℕ) → (keptTo S k ≡ true) ↔ ((ρ : ℕ) → 0 < ρ → ρ ≤ k → kept S ρ ≡ true)
+  -- it is kept for every ρ from 1 to k - u
+  pub step-means : (S : Session) (k : ℕ) → (keptForStep S k ≡ true) ↔ KeptTo S k
 
 -- the health vector that each of the four modules answers in step k
 abbrev pub healths : Session → ℕ → ℕ → List Case
@@ -185,7 +206,125 @@ emptyCases =
 abbrev pub ownRowCases : List Case
 ownRowCases = test (voteOf 4 15 (1 ∷ 1 ∷ 0 ∷ 0 ∷ []) 15 0) false ∷ []
 
--- the whole table
+-- ---- not starred: the fault limit in round 2 with u = 0, over rounds 2 and 1
+
+-- Two rounds of n modules. The words of round 1 are all ones, and those of round 2 name whom their sender heard in round 1: nobody is accused
+-- in step 1, for it votes on rows of ones and judges a faultless round.
+abbrev pub twoRounds : ℕ → ℕ → (ℕ → ℕ → ℕ → Bool) → Session
+twoRounds n cast hears =
+    castSession cast (like n 0 (replicate 16 n)) hears (λ k j. cond (leb k 1) (full n) (pack n (hears (k - 1) j)))
+
+-- such a session is bound, and the limit in round 2 is kept, or is not
+abbrev pub limitCase : ℕ → ℕ → (ℕ → ℕ → ℕ → Bool) → Bool → List Case
+limitCase n cast hears says = test (bound (twoRounds n cast hears) 2) true ∷ test (kept (twoRounds n cast hears) 2) says ∷ []
+
+-- out for the first number of modules, in for the second
+abbrev pub outIn : ℕ → ℕ → ℕ → (ℕ → ℕ → ℕ → Bool) → List Case
+outIn n n′ cast hears = limitCase n cast hears false ++ limitCase n′ cast hears true
+
+-- all hear all
+abbrev pub allHeard : ℕ → ℕ → ℕ → Bool
+allHeard k i j = true
+
+-- nobody hears sender x in round r
+abbrev pub lost : ℕ → ℕ → ℕ → ℕ → ℕ → Bool
+lost x r k i j = not (eqb j x && eqb k r)
+
+-- receiver y alone does not hear sender x in round r
+abbrev pub missed : ℕ → ℕ → ℕ → ℕ → ℕ → ℕ → Bool
+missed y x r k i j = not (eqb i y && (eqb j x && eqb k r))
+
+-- Nobody heard, a + s = 0 and b = 4: in, whether in both rounds or in one, and for any cast. By N > 2a + 2s + b + 1 each would be out.
+abbrev pub nobodyCases : List Case
+nobodyCases =
+    limitCase 4 0 (λ k i j. false) true ++ (limitCase 4 0 (λ k i j. eqb k 1) true ++ (limitCase 4 0 (λ k i j. eqb k 2) true
+    ++ limitCase 4 1 (λ k i j. false) true))
+
+-- Module 1 breaks the rules and is heard, so s = 1: N > 3, and N > 4 where module 2 is unheard too, in both rounds or in one of them, b = 1.
+abbrev pub breakerCases : List Case
+breakerCases =
+    outIn 3 4 1 allHeard ++ (outIn 4 5 1 (λ k i j. not (eqb j 1))
+    ++ (outIn 4 5 1 (lost 1 1) ++ outIn 4 5 1 (lost 1 2)))
+
+-- Module 1 breaks the rules, is heard in one of the rounds and unheard in the other: s = 1 and b = 0, so N > 3. Counted in b as well, it would be
+-- out for 4 modules, and in b instead of s it would be in for 3.
+abbrev pub onceHeardCases : List Case
+onceHeardCases = outIn 3 4 1 (lost 0 1) ++ outIn 3 4 1 (lost 0 2)
+
+-- A rule-breaker that is heard in neither round counts in b: in alone, a + s = 0; beside one that is heard, s = 1 and b = 1, so N > 4.
+abbrev pub neverHeardCases : List Case
+neverHeardCases = limitCase 3 1 (λ k i j. not (eqb j 0)) true ++ outIn 4 5 3 (λ k i j. not (eqb j 0))
+
+-- Module 1 is half heard, in both rounds or in one of them, or half heard in one and unheard in the other, or breaks the rules besides: a = 1 each
+-- time, s = b = 0, so N > 3.
+abbrev pub halfHeardCases : List Case
+halfHeardCases =
+    outIn 3 4 0 (λ k i j. not (eqb i 1 && eqb j 0)) ++ (outIn 3 4 0 (missed 1 0 1) ++ (outIn 3 4 0 (missed 1 0 2)
+    ++ (outIn 3 4 0 (λ k i j. missed 1 0 1 k i j && lost 0 2 k i j) ++ (outIn 3 4 0 (λ k i j. missed 1 0 2 k i j && lost 0 1 k i j)
+    ++ outIn 3 4 1 (missed 1 0 1)))))
+
+-- What a rule-breaker hears does not count: module 1, which breaks the rules and is heard, hears nobody, s = 1, so N > 3; or it alone hears
+-- module 2, which is unheard then, s = 1 and b = 1, so N > 4.
+abbrev pub breakerHearsCases : List Case
+breakerHearsCases = outIn 3 4 1 (λ k i j. not (eqb i 0)) ++ outIn 4 5 1 (λ k i j. not (eqb j 1) || eqb i 0)
+
+-- Two are half heard, a = 2: out for 16 modules too, whether in one round or one in each, though N > 2a + 2s + b + 1.
+abbrev pub twoHalfCases : List Case
+twoHalfCases =
+    limitCase 16 0 (λ k i j. missed 2 0 2 k i j && missed 2 1 2 k i j) false
+    ++ limitCase 16 0 (λ k i j. missed 2 0 1 k i j && missed 2 1 2 k i j) false
+
+-- Modules 1 and 2 break the rules: in round 2 each tells module 3 another word than the rest.
+abbrev pub twoWords : Session
+twoWords = record {
+  setup = like 16 0 (replicate 16 16);
+  cast = 3;
+  controller = allHeard;
+  word = λ k i j. busWord (cond (eqb k 2 && (eqb i 2 && leb j 1)) 0 (full 16));
+}
+
+-- all are heard by all, two of them with different words, so a = 2: out
+abbrev pub twoWordsCases : List Case
+twoWordsCases = test (bound twoWords 2) true ∷ test (kept twoWords 2) false ∷ []
+
+-- ---- not starred: a rule-follower's word is the one it handed out, a rule-breaker's need not be
+
+-- module 1 sends a row of zeros in round 1
+abbrev pub zerosRun : ℕ → Session
+zerosRun cast = castSession cast sheet allHeard (λ k j. cond (eqb j 0) 0 15)
+
+-- bound if module 1 is in the cast, and not if it is not
+abbrev pub boundCases : List Case
+boundCases = test (bound (zerosRun 1) 1) true ∷ test (bound (zerosRun 0) 1) false ∷ test (bound (zerosRun 2) 1) false ∷ []
+
+-- ---- not starred: u = 1, modules 1 and 2 half heard in round 3, so a = 2 in round 3, over rounds 3 and 1, and in round 5, over rounds 5 and 3
+abbrev pub lateRun : Session
+lateRun = session (like 4 0 (0 ∷ 0 ∷ 0 ∷ 0 ∷ [])) (λ k i j. missed 2 0 3 k i j && missed 2 1 3 k i j) (λ k j. 15)
+
+-- The session is bound; rounds 1 to 5 one by one; up to round 3 the limit is not kept, and for step 3, which votes on round 2, it is; for step 4 not.
+abbrev pub lateCases : List Case
+lateCases =
+    test (bound lateRun 4) true ∷ test (kept lateRun 1) true ∷ test (kept lateRun 2) true ∷ test (kept lateRun 3) false
+    ∷ test (kept lateRun 4) true ∷ test (kept lateRun 5) false ∷ test (keptTo lateRun 2) true ∷ test (keptTo lateRun 3) false
+    ∷ test (keptForStep lateRun 3) true ∷ test (keptForStep lateRun 4) false ∷ []
+
+-- ---- the whole table
+
+-- document 01's starred cases
+abbrev pub starred : List Case
+starred =
+    votes ++ (sheetCases ++ (markedCases ++ (missCases ++ (deadCases ++ (countCases ++ (wordCases ++ halfCases))))))
+
+-- the fault limit
+abbrev pub limitCases : List Case
+limitCases =
+    nobodyCases ++ (breakerCases ++ (onceHeardCases ++ (neverHeardCases ++ (halfHeardCases ++ (breakerHearsCases
+    ++ (twoHalfCases ++ (twoWordsCases ++ lateCases)))))))
+
+-- all of it
 abbrev pub stars : List Case
-stars =
-    votes ++ (sheetCases ++ (markedCases ++ (missCases ++ (deadCases ++ (countCases ++ (wordCases ++ (halfCases ++ (emptyCases ++ ownRowCases))))))))
+stars = starred ++ (emptyCases ++ (ownRowCases ++ (boundCases ++ limitCases)))
+
+-- what is claimed: every line is right
+abbrev pub StarsRight : Type 0
+StarsRight = right stars ≡ true

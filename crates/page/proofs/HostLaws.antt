@@ -1,6 +1,6 @@
 -- What the host's calls answer, by their tests.
 use mathlib.Core.Path.{_≡_, refl, ap, _∙_, sym, subst}
-use mathlib.Core.Logic.{⊎-elim}
+use mathlib.Core.Logic.{_≢_, ⊎-elim}
 use mathlib.Core.Bool.{Bool, true, false, not, _&&_, _||_}
 use mathlib.Core.List.{List}
 use Prim.Native.Nat.{ℕ, _+_, _*_, _/_, _%_, _≤_}
@@ -8,9 +8,10 @@ use native.Mathlib.Omega.{arith}
 use lib.ListN.{length}
 use lib.Dec.{eqb, ltb}
 use borrow.Author.Tests.{eq-eqb, ne-eqb, eqb-true, ltb-true, not-true, not-false}
-use Rattle.words.specs.Word.{wordAt}
+use Rattle.words.specs.Word.{wordAt, putWord}
 use Rattle.words.specs.Bits.{b2n}
-use Rattle.words.proofs.Truth.{which, clash, cond-true, cond-false, cond-both, and-r}
+use Rattle.words.proofs.Truth.{which, clash, cond-true, cond-false, cond-both, and-r, and-true}
+use Rattle.page.specs.Flags.{cleared}
 use Rattle.page.specs.Page.{isPage, startsWord, pageWritten, interruptOn}
 use Rattle.page.specs.Host.{tell, readCall, Written, written, wrote, writeCall, interruptCall}
 use Rattle.presence.specs.declared.WordAnswer.{WordAnswer}
@@ -102,3 +103,22 @@ write-either page offset value P p q =
     (cond-both (λ (w : Written). P (w .page)) (startsWord offset) _ _
     (cond-both (λ (w : Written). P (w .page)) (eqb offset 8 || eqb offset 12) _ _ (q (eqb-true (length page) 64 t)) p) p))
     (λ (f : isPage page ≡ false). subst (λ (w : Written). P (w .page)) (sym (cond-false _ _ f)) p) (which (isPage page))
+
+-- a write that is accepted
+pub write-8 : (page : List ℕ) (value : ℕ) → length page ≡ 64 → writeCall page 8 value .page ≡ putWord page 2 (cleared (wordAt page 2) value)
+unfolding writeCall wrote pageWritten
+write-8 page value l = ap (λ (w : Written). w .page) (cond-true _ _ (eq-eqb (length page) 64 l))
+
+pub write-12 : (page : List ℕ) (value : ℕ) → length page ≡ 64 → writeCall page 12 value .page ≡ putWord page 3 value
+unfolding writeCall wrote pageWritten
+write-12 page value l = ap (λ (w : Written). w .page) (cond-true _ _ (eq-eqb (length page) 64 l))
+
+-- and one that is not
+pub write-none : (page : List ℕ) (offset value : ℕ) → offset ≢ 8 → offset ≢ 12 → writeCall page offset value .page ≡ page
+unfolding writeCall
+write-none page offset value f g =
+    cond-both (λ (w : Written). w .page ≡ page) (isPage page) _ _
+    (cond-both (λ (w : Written). w .page ≡ page) (startsWord offset) _ _ (ap (λ (w : Written). w .page) (cond-false _ _ outside)) refl) refl
+  where
+    outside : eqb offset 8 || eqb offset 12 ≡ false
+    outside = neither (eqb offset 8) (eqb offset 12) (and-true _ _ (ap not (ne-eqb offset 8 f)) (ap not (ne-eqb offset 12 g)))

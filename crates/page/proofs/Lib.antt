@@ -10,3 +10,4 @@ pub mod OpenLaws
 pub mod StepLaws
 pub mod ChargeLaws
 pub mod Promise
+pub mod Cases

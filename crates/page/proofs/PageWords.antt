@@ -2,7 +2,7 @@
 use mathlib.Core.Path.{_≡_, _∙_}
 use mathlib.Core.Bool.{Bool, not}
 use mathlib.Core.List.{List}
-use Prim.Native.Nat.{ℕ}
+use Prim.Native.Nat.{ℕ, _≤_}
 use native.Mathlib.Omega.{arith}
 use lib.ListN.{length}
 use lib.Dec.{eqb}
@@ -63,8 +63,8 @@ module _ (n before health after : ℕ) (page : List ℕ) (l : length page ≡ 64
   unfolding pageStepped
   word-2 = read-put two 2 flags (omega (arith, two-long))
 
-  pub word-3 : wordAt (pageStepped n before health after page) 3 ≡ wordAt page 3
+  pub word-above : (i : ℕ) → 3 ≤ i → wordAt (pageStepped n before health after page) i ≡ wordAt page i
   unfolding pageStepped
-  word-3 =
-      read-put-other two 2 3 flags (omega (arith, two-long)) (λ e. omega arith) ∙ read-put-other one 1 3 after (omega (arith, one-long)) (λ e. omega arith)
-      ∙ read-put-other page 0 3 health (omega arith) (λ e. omega arith)
+  word-above i h =
+      read-put-other two 2 i flags (omega (arith, two-long)) (λ e. omega arith) ∙ read-put-other one 1 i after (omega (arith, one-long)) (λ e. omega arith)
+      ∙ read-put-other page 0 i health (omega arith) (λ e. omega arith)

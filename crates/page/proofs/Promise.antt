@@ -1,16 +1,16 @@
 -- What a page promises beside the equations of its calls.
-use mathlib.Core.Path.{_≡_, ap, _∙_, sym, subst}
+use mathlib.Core.Path.{_≡_, ap, ap₂, _∙_, sym, subst}
 use mathlib.Core.Logic.{_≢_, ⊎-elim}
-use mathlib.Core.Bool.{Bool, true, false, not, _&&_}
+use mathlib.Core.Bool.{Bool, true, false, not, _&&_, _||_}
 use mathlib.Core.List.{List}
-use Prim.Native.Nat.{ℕ, _+_, _<_}
+use Prim.Native.Nat.{ℕ, _+_, _≤_, _<_}
 use native.Mathlib.Omega.{arith}
 use lib.ListN.{length}
 use lib.Dec.{eqb}
 use borrow.Author.Tests.{eq-eqb, ne-eqb}
 use Rattle.words.specs.Word.{wordAt}
 use Rattle.words.specs.Bits.{bit}
-use Rattle.words.proofs.Truth.{which, cond-true, cond-false}
+use Rattle.words.proofs.Truth.{which, cond-true, cond-false, or-r}
 use Rattle.words.proofs.WordLaws.{read-put, read-put-other}
 use Rattle.setup.specs.Verdict.{isAccepted}
 use Rattle.setup.specs.Setup.{setupOf}
@@ -34,9 +34,9 @@ use Rattle.page.specs.Calls.{PageCalled, pageCalled, pageOpenCall, pageS
 use Rattle.page.specs.Refusals.{page-of-opening}
 use Rattle.page.specs.Promise.{Paged, opens, steps, saves, refused-image, refused-page, writes, Unnamed, here, stepped, not-opened, written, Promise}
 use Rattle.page.proofs.CallLaws.{image-view, image-size}
-use Rattle.page.proofs.RaisedLaws.{raised-kept, raised-changed, raised-charged, cleared-kept, turns-on}
-use Rattle.page.proofs.PageWords.{opened-1, written-1, word-0, word-1, word-2, word-3}
-use Rattle.page.proofs.HostLaws.{write-either}
+use Rattle.page.proofs.RaisedLaws.{raised-kept, raised-0, raised-1, raised-above, cleared-kept, cleared-bit, turns-on, on-by}
+use Rattle.page.proofs.PageWords.{opened-1, written-1, word-0, word-1, word-2, word-above}
+use Rattle.page.proofs.HostLaws.{write-either, write-8, write-12, write-none}
 use Rattle.page.proofs.WithPageLaws.{lent, goes-on, with-zero, with-either}
 use Rattle.page.proofs.Refusals.{refusals}
 use Rattle.page.proofs.ChargeLaws.{charged-grows}
@@ -105,29 +105,43 @@ module _ (image read : List ℕ) (controller : ℕ) (out : List ℕ) where
     view-word : wordAt (after .page) 1 ≡ stateOf (after .call .out) .counters .view
     view-word = ap (λ (x : List ℕ). wordAt x 1) page-is ∙ word-1 _ _ _ _ page long ∙ sym view-is
 
-    enable-stays : wordAt (after .page) 3 ≡ wordAt page 3
-    enable-stays = ap (λ (x : List ℕ). wordAt x 3) page-is ∙ word-3 _ _ _ _ page long
+    above-stays : (i : ℕ) → 3 ≤ i → wordAt (after .page) i ≡ wordAt page i
+    above-stays i h = ap (λ (x : List ℕ). wordAt x i) page-is ∙ word-above _ _ _ _ page long i h
 
     flags-are : wordAt (after .page) 2 ≡ raised (wordAt page 2) (not (eqb (wordAt page 1) (s .state .counters .view)))
         (somebodyCharged (st .setup .n) (st .counters .view) (s .health))
     flags-are = ap (λ (x : List ℕ). wordAt x 2) page-is ∙ word-2 _ _ _ _ page long
 
     enabled : (j : ℕ) → j < 32 → bit (wordAt (after .page) 2) j ≡ true → bit (wordAt page 3) j ≡ true → interruptOn (after .page) ≡ true
-    enabled j h t u = turns-on (after .page) j h t (ap (λ (x : ℕ). bit x j) enable-stays ∙ u)
+    enabled j h t u = turns-on (after .page) j h t (ap (λ (x : ℕ). bit x j) (above-stays 3 (omega arith)) ∙ u)
+
+    -- whether the view differs from word 1, and whether somebody was charged
+    abbrev changes : Bool
+    changes = not (eqb (wordAt page 1) (stateOf (after .call .out) .counters .view))
+
+    abbrev charges : Bool
+    charges = somebodyCharged (st .setup .n) (st .counters .view) (after .call .answer .health)
+
+    flags-by : wordAt (after .page) 2 ≡ raised (wordAt page 2) changes charges
+    flags-by =
+        flags-are
+        ∙ ap₂ (λ (v h : ℕ). raised (wordAt page 2) (not (eqb (wordAt page 1) v)) (somebodyCharged (st .setup .n) (st .counters .view) h)) (sym view-is)
+        (sym health-is)
+
+    change-is : bit (wordAt (after .page) 2) 0 ≡ bit (wordAt page 2) 0 || changes
+    change-is = ap (λ (x : ℕ). bit x 0) flags-by ∙ raised-0 (wordAt page 2) changes charges
+
+    charge-is : bit (wordAt (after .page) 2) 1 ≡ bit (wordAt page 2) 1 || charges
+    charge-is = ap (λ (x : ℕ). bit x 1) flags-by ∙ raised-1 (wordAt page 2) changes charges
+
+    others-are : (j : ℕ) → 2 ≤ j → j < 32 → bit (wordAt (after .page) 2) j ≡ bit (wordAt page 2) j
+    others-are j h l = ap (λ (x : ℕ). bit x j) flags-by ∙ raised-above (wordAt page 2) j changes charges h l
 
     change-set : wordAt page 1 ≢ stateOf (after .call .out) .counters .view → bit (wordAt (after .page) 2) 0 ≡ true
-    change-set f =
-        let t : not (eqb (wordAt page 1) (s .state .counters .view)) ≡ true = ap not (ne-eqb _ _ (λ e. f (e ∙ sym view-is))) in
-        let c = somebodyCharged (st .setup .n) (st .counters .view) (s .health) in
-        ap (λ (x : ℕ). bit x 0) flags-are ∙ ap (λ (b : Bool). bit (raised (wordAt page 2) b c) 0) t ∙ raised-changed (wordAt page 2) c
+    change-set f = change-is ∙ or-r (bit (wordAt page 2) 0) changes (ap not (ne-eqb _ _ f))
 
-    charge-set : somebodyCharged (st .setup .n) (st .counters .view) (after .call .answer .health) ≡ true → bit (wordAt (after .page) 2) 1 ≡ true
-    charge-set c =
-        let t : somebodyCharged (st .setup .n) (st .counters .view) (s .health) ≡ true =
-        ap (somebodyCharged (st .setup .n) (st .counters .view)) (sym health-is) ∙ c
-        in
-        ap (λ (x : ℕ). bit x 1) flags-are ∙ ap (λ (b : Bool). bit (raised (wordAt page 2) (not (eqb (wordAt page 1) (s .state .counters .view))) b) 1) t
-        ∙ raised-charged (wordAt page 2) _
+    charge-set : charges ≡ true → bit (wordAt (after .page) 2) 1 ≡ true
+    charge-set c = charge-is ∙ or-r (bit (wordAt page 2) 1) charges c
 
 -- ---- a page shows its module's view
 
@@ -212,8 +226,19 @@ promise = record {
   view = view-word;
   shown = shows;
   grew = λ image health z. charged-grows (stateOf image .setup) (stateOf image .counters) health (valid-fits (stateOf image) (load-valid image z) .setup);
-  change-flag = change-set;
-  charge-flag = charge-set;
+  change-flag = change-is;
+  charge-flag = charge-is;
+  other-flags = others-are;
+  other-words = above-stays;
+  clears = λ page value l j h.
+      ap (λ (x : List ℕ). bit (wordAt x 2) j) (write-8 page value l)
+      ∙ ap (λ (x : ℕ). bit x j) (read-put page 2 (cleared (wordAt page 2) value) (omega arith)) ∙ cleared-bit (wordAt page 2) value j h;
+  clears-only = λ page value l i f.
+      ap (λ (x : List ℕ). wordAt x i) (write-8 page value l) ∙ read-put-other page 2 i (cleared (wordAt page 2) value) (omega arith) f;
+  stores = λ page value l. ap (λ (x : List ℕ). wordAt x 3) (write-12 page value l) ∙ read-put page 3 value (omega arith);
+  stores-only = λ page value l i f. ap (λ (x : List ℕ). wordAt x i) (write-12 page value l) ∙ read-put-other page 3 i value (omega arith) f;
+  elsewhere = write-none;
+  on-exactly = λ page. (on-by page, λ s. turns-on page (s .0) (s .1) (s .2) (s .3));
   kept = λ j page now h u t. stays-set j h page now u t;
   stays-on = λ j page now h u t e. turns-on now j h (stays-set j h page now u t) e;
   changed = λ image read controller out page z f. enabled image read controller out page z 0 (omega arith) (change-set image read controller out page z f);

@@ -4,3 +4,4 @@ pub mod Host
 pub mod Calls
 pub mod Refusals
 pub mod Promise
+pub mod Cases

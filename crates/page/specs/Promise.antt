@@ -1,10 +1,10 @@
 -- What a page promises beside the equations of its calls. Proved in proofs/Promise.antt. (document 02, E1)
-use Prim.Native.Nat.{ℕ, _<_}
+use Prim.Native.Nat.{ℕ, _≤_, _<_}
 use mathlib.Core.Path.{_≡_}
-use mathlib.Core.Logic.{_≢_}
-use mathlib.Core.Bool.{true, false, _&&_}
+use mathlib.Core.Logic.{_≢_, _↔_}
+use mathlib.Core.Bool.{true, false, not, _&&_, _||_}
 use mathlib.Core.List.{List}
-use lib.ListN.{getD}
+use lib.ListN.{getD, length}
 use lib.Dec.{eqb, ltb}
 use Rattle.words.specs.Word.{wordAt}
 use Rattle.words.specs.Bits.{bit}
@@ -61,13 +61,31 @@ pub record Promise : Type 0 where
       → somebodyCharged (stateOf image .setup .n) (stateOf image .counters .view) health
       ≡ any (stateOf image .setup .n)
       (λ j. ltb (getD (stateOf image .counters .penalty) j 0) (getD (countersOf (stateOf image .setup) health (stateOf image .counters) .penalty) j 0))
-  -- A step sets flag 0 where the view differs from word 1, and flag 1 where somebody was charged, whatever is enabled.
+  -- A step sets flag 0 exactly if the view differs from word 1, and flag 1 exactly if somebody was charged, whatever is enabled; a flag that was set
+  -- stays set, and the other bits of word 2 stay as they were.
   pub change-flag : (image read : List ℕ) (controller : ℕ) (out page : List ℕ) → pageStepCall image read controller out page .call .answer .number ≡ 0
-      → wordAt page 1 ≢ stateOf (pageStepCall image read controller out page .call .out) .counters .view
-      → bit (wordAt (pageStepCall image read controller out page .page) 2) 0 ≡ true
+      → bit (wordAt (pageStepCall image read controller out page .page) 2) 0
+      ≡ bit (wordAt page 2) 0 || not (eqb (wordAt page 1) (stateOf (pageStepCall image read controller out page .call .out) .counters .view))
   pub charge-flag : (image read : List ℕ) (controller : ℕ) (out page : List ℕ) → pageStepCall image read controller out page .call .answer .number ≡ 0
-      → somebodyCharged (stateOf image .setup .n) (stateOf image .counters .view) (pageStepCall image read controller out page .call .answer .health) ≡ true
-      → bit (wordAt (pageStepCall image read controller out page .page) 2) 1 ≡ true
+      → bit (wordAt (pageStepCall image read controller out page .page) 2) 1
+      ≡ bit (wordAt page 2) 1
+      || somebodyCharged (stateOf image .setup .n) (stateOf image .counters .view) (pageStepCall image read controller out page .call .answer .health)
+  pub other-flags : (image read : List ℕ) (controller : ℕ) (out page : List ℕ) → pageStepCall image read controller out page .call .answer .number ≡ 0
+      → (j : ℕ) → 2 ≤ j → j < 32 → bit (wordAt (pageStepCall image read controller out page .page) 2) j ≡ bit (wordAt page 2) j
+  -- A step leaves enable and every word after it as they were.
+  pub other-words : (image read : List ℕ) (controller : ℕ) (out page : List ℕ) → pageStepCall image read controller out page .call .answer .number ≡ 0
+      → (i : ℕ) → 3 ≤ i → wordAt (pageStepCall image read controller out page .page) i ≡ wordAt page i
+  -- A write of word 2, at offset 8, clears exactly the flags written as ones, and changes no other word.
+  pub clears : (page : List ℕ) (value : ℕ) → length page ≡ 64 → (j : ℕ) → j < 32
+      → bit (wordAt (writeCall page 8 value .page) 2) j ≡ bit (wordAt page 2) j && not (bit value j)
+  pub clears-only : (page : List ℕ) (value : ℕ) → length page ≡ 64 → (i : ℕ) → i ≢ 2 → wordAt (writeCall page 8 value .page) i ≡ wordAt page i
+  -- A write of word 3, at offset 12, stores it whole, and changes no other word.
+  pub stores : (page : List ℕ) (value : ℕ) → length page ≡ 64 → wordAt (writeCall page 12 value .page) 3 ≡ value
+  pub stores-only : (page : List ℕ) (value : ℕ) → length page ≡ 64 → (i : ℕ) → i ≢ 3 → wordAt (writeCall page 12 value .page) i ≡ wordAt page i
+  -- A write at any other offset changes nothing.
+  pub elsewhere : (page : List ℕ) (offset value : ℕ) → offset ≢ 8 → offset ≢ 12 → writeCall page offset value .page ≡ page
+  -- The interrupt is on exactly if flags and enable share a set bit.
+  pub on-exactly : (page : List ℕ) → (interruptOn page ≡ true) ↔ ((j : ℕ) × (j < 32) × (bit (wordAt page 2) j ≡ true) × (bit (wordAt page 3) j ≡ true))
   -- A flag that is set is lost only by a write that names it, or with the whole page when it is opened anew.
   pub kept : (j : ℕ) (page now : List ℕ) → j < 32 → Unnamed j page now → bit (wordAt page 2) j ≡ true → bit (wordAt now 2) j ≡ true
   -- No interrupt is lost: while a flag is set, the interrupt is on whenever the flag is enabled, be it enabled before or later.

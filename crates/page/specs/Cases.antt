@@ -1,0 +1,164 @@
+-- The register page, sentence by sentence (document 02, E1), on a module with document 01's sheet as its setup: what the calls give, and what
+-- document 02 says. Computed in proofs/Cases.antt.
+use Prim.Native.Nat.{ℕ}
+use mathlib.Core.Path.{_≡_}
+use mathlib.Core.Bool.{Bool, true, false, _&&_}
+use mathlib.Core.List.{List, [], _∷_, _++_}
+use lib.Dec.{eqb}
+use lib.ListN.{getD, replicate}
+use Rattle.words.specs.Word.{bytesOf}
+use Rattle.rules.specs.Hearing.{busWord}
+use Rattle.presence.specs.declared.Answer.{Answer}
+use Rattle.presence.specs.declared.WordAnswer.{WordAnswer}
+use Rattle.page.specs.Host.{Written, readCall, writeCall, interruptCall}
+use Rattle.page.specs.Calls.{PageCalled, pageOpenCall, pageStepCall}
+
+-- ---- the table
+
+-- one line: numbers, or the bytes of a page
+pub record Case : Type 0 where
+  pub gives : List ℕ
+  pub says : List ℕ
+
+-- such a line
+abbrev pub case : List ℕ → List ℕ → Case
+case gives says = record { gives = gives; says = says }
+
+-- two lists are the same
+abbrev pub same : List ℕ → List ℕ → Bool
+same [] [] = true
+same [] (y ∷ ys) = false
+same (x ∷ xs) [] = false
+same (x ∷ xs) (y ∷ ys) = eqb x y && same xs ys
+
+-- in every line both are the same
+abbrev pub right : List Case → Bool
+right [] = true
+right (c ∷ cs) = same (c .gives) (c .says) && right cs
+
+-- a page with these words 0 to 3, and the rest 0
+abbrev pub page : ℕ → ℕ → ℕ → ℕ → List ℕ
+page health view flags enable = bytesOf 16 (λ i. getD (health ∷ view ∷ flags ∷ enable ∷ []) i 0)
+
+-- number, index and health of an answer
+abbrev pub answered : Answer → List ℕ
+answered a = a .number ∷ a .index ∷ a .health ∷ []
+
+-- number, index and word of an answer
+abbrev pub told : WordAnswer → List ℕ
+told a = a .number ∷ a .index ∷ a .word ∷ []
+
+-- an accepted call with a page: number 0, index 0, this health vector, and the page at exit
+abbrev pub accepts : PageCalled → ℕ → List ℕ → List Case
+accepts c health next = case (answered (c .call .answer)) (0 ∷ 0 ∷ health ∷ []) ∷ case (c .page) next ∷ []
+
+-- a refused one: this number with index 0 and health 0, and the page as it was
+abbrev pub refuses : PageCalled → ℕ → List ℕ → List Case
+refuses c number lent = case (answered (c .call .answer)) (number ∷ 0 ∷ 0 ∷ []) ∷ case (c .page) lent ∷ []
+
+-- a write: number, index 0, word, and the page at exit
+abbrev pub writes : Written → ℕ → ℕ → List ℕ → List Case
+writes w number word next = case (told (w .answer)) (number ∷ 0 ∷ word ∷ []) ∷ case (w .page) next ∷ []
+
+-- ---- a module: N = 4, P = 1, R = 3, criticality 1, all l = 4
+
+-- its setup
+abbrev pub setup : List ℕ
+setup =
+    bytesOf 7 (λ i. getD (0x1000_0004 ∷ 0x2000_0001 ∷ 0x3000_0003 ∷ 0x4088_0001 ∷ 0x4108_0001 ∷ 0x4188_0001 ∷ 0x4208_0001 ∷ []) i 0)
+
+-- an output for its image, 22 words
+abbrev pub out : List ℕ
+out = replicate 88 0
+
+-- a page before its opening, of any bytes
+abbrev pub lent : List ℕ
+lent = replicate 64 0xA5
+
+-- a page that is one byte short
+abbrev pub short : List ℕ
+short = replicate 63 0
+
+-- a read in which all four send this row
+abbrev pub rows : ℕ → List ℕ
+rows row = bytesOf 4 (λ j. busWord row)
+
+-- opened as module 1
+abbrev pub opened : PageCalled
+opened = pageOpenCall setup 1 out lent
+
+-- a step from what a call left, all four heard with this row, with this page
+abbrev pub step : PageCalled → ℕ → List ℕ → PageCalled
+step c row p = pageStepCall (c .call .out) (rows row) 15 out p
+
+-- rows of ones: nothing happens
+abbrev pub quiet : PageCalled
+quiet = step opened 15 (opened .page)
+
+-- rows with a 0 for module 2: it has health 0, is charged, and stays in the view
+abbrev pub charge : PageCalled
+charge = step quiet 13 (quiet .page)
+
+-- the same once more, after the flag was cleared: it is charged and leaves the view
+abbrev pub leave : PageCalled
+leave = step charge 13 (page 13 15 0 0)
+
+-- ---- a page opened with a module holds health all ones, that module's view, no flags and enable 0; the rest 0
+abbrev pub openCases : List Case
+openCases = accepts opened 0 (page 15 15 0 0)
+
+-- ---- a step updates words 0 and 1, and sets bit 0 if word 1 changed and bit 1 if a module that rule 8 found in the view had health 0
+abbrev pub stepCases : List Case
+stepCases =
+    accepts quiet 15 (page 15 15 0 0) ++ (accepts charge 13 (page 13 15 2 0) ++ (accepts leave 13 (page 13 13 3 0)
+    -- health 0 of a module outside the view is no charge
+    ++ (accepts (step leave 13 (page 13 13 0 0)) 13 (page 13 13 0 0)
+    -- a flag that was set stays, bits without a meaning too, and so does enable; nothing else is set
+    ++ (accepts (step leave 15 (page 13 13 3 0x8000_0005)) 15 (page 15 13 3 0x8000_0005)
+    ++ (accepts (step quiet 15 (page 15 15 0x8000_0004 3)) 15 (page 15 15 0x8000_0004 3)
+    -- word 1 as lent is what the view is compared with
+    ++ accepts (step quiet 15 (page 15 14 0 0)) 15 (page 15 15 1 0))))))
+
+-- ---- writing word 2 clears the flags written as ones; word 3 is stored whole. A write tells the interrupt after it, 1 for on.
+abbrev pub writeCases : List Case
+writeCases =
+    writes (writeCall (page 13 13 3 0) 8 1) 0 0 (page 13 13 2 0) ++ (writes (writeCall (page 13 13 3 0) 8 0xFFFF_FFFC) 0 0 (page 13 13 3 0)
+    ++ (writes (writeCall (page 13 13 3 0) 8 0xFFFF_FFFF) 0 0 (page 13 13 0 0) ++ (writes (writeCall (page 13 13 2 3) 8 1) 0 1 (page 13 13 2 3)
+    ++ (writes (writeCall (page 13 13 3 0) 12 0x8765_4321) 0 1 (page 13 13 3 0x8765_4321)
+    ++ (writes (writeCall (page 13 13 3 0xFFFF_FFFF) 12 4) 0 0 (page 13 13 3 4))))))
+
+-- ---- the interrupt is on exactly while flags and enable share a set bit
+abbrev pub interruptCases : List Case
+interruptCases =
+    case (told (interruptCall (page 15 15 2 3))) (0 ∷ 0 ∷ 1 ∷ []) ∷ case (told (interruptCall (page 15 15 3 2))) (0 ∷ 0 ∷ 1 ∷ [])
+    ∷ case (told (interruptCall (page 15 15 2 1))) (0 ∷ 0 ∷ 0 ∷ []) ∷ case (told (interruptCall (page 15 15 3 0))) (0 ∷ 0 ∷ 0 ∷ [])
+    ∷ case (told (interruptCall (page 15 15 0 3))) (0 ∷ 0 ∷ 0 ∷ [])
+    ∷ case (told (interruptCall (page 15 15 0x8000_0000 0xFFFF_FFFF))) (0 ∷ 0 ∷ 1 ∷ []) ∷ []
+
+-- ---- 17 for a byte offset that isn't the start of one of the 16 words, then 18 for a write outside words 2 and 3, both with index 0; a lent
+-- page not of 64 bytes is 9
+abbrev pub checkCases : List Case
+checkCases =
+    case (told (readCall (page 13 15 0 0) 0)) (0 ∷ 0 ∷ 13 ∷ []) ∷ case (told (readCall (page 13 15 0 7) 12)) (0 ∷ 0 ∷ 7 ∷ [])
+    ∷ case (told (readCall (page 13 15 0 0) 60)) (0 ∷ 0 ∷ 0 ∷ []) ∷ case (told (readCall (page 13 15 0 0) 13)) (17 ∷ 0 ∷ 0 ∷ [])
+    ∷ case (told (readCall (page 13 15 0 0) 64)) (17 ∷ 0 ∷ 0 ∷ []) ∷ case (told (readCall short 13)) (9 ∷ 0 ∷ 0 ∷ [])
+    ∷ case (told (interruptCall short)) (9 ∷ 0 ∷ 0 ∷ [])
+    -- 17 comes before 18, and 9 before both
+    ∷ writes (writeCall (page 15 15 3 0) 13 1) 17 0 (page 15 15 3 0) ++ (writes (writeCall (page 15 15 3 0) 64 1) 17 0 (page 15 15 3 0)
+    ++ (writes (writeCall (page 15 15 3 0) 0 1) 18 0 (page 15 15 3 0) ++ (writes (writeCall (page 15 15 3 0) 4 1) 18 0 (page 15 15 3 0)
+    ++ (writes (writeCall (page 15 15 3 0) 16 1) 18 0 (page 15 15 3 0) ++ (writes (writeCall (page 15 15 3 0) 60 1) 18 0 (page 15 15 3 0)
+    ++ (writes (writeCall short 8 1) 9 0 short ++ (writes (writeCall short 13 1) 9 0 short ++ (writes (writeCall short 0 1) 9 0 short
+    -- opening: 1 to 7 before the page's 9; step: 1 to 8 before it, 10 after it
+    ++ (refuses (pageOpenCall setup 1 out short) 9 short ++ (refuses (pageOpenCall setup 0 out short) 7 short
+    ++ (refuses (pageOpenCall [] 1 out short) 1 short ++ (refuses (pageStepCall (opened .call .out) (rows 15) 15 out short) 9 short
+    ++ (refuses (pageStepCall (opened .call .out) (rows 15) 16 out short) 9 short
+    ++ (refuses (pageStepCall (opened .call .out) (rows 15) 16 out (page 15 15 3 0)) 10 (page 15 15 3 0)
+    ++ refuses (pageStepCall [] (rows 15) 15 out short) 1 short))))))))))))))
+
+-- the whole table
+abbrev pub cases : List Case
+cases = openCases ++ (stepCases ++ (writeCases ++ (interruptCases ++ checkCases)))
+
+-- what is claimed: every line is right
+abbrev pub CasesRight : Type 0
+CasesRight = right cases ≡ true
