@@ -6,3 +6,4 @@ pub mod RunLaws
 pub mod SoundLaws
 pub mod Session
 pub mod OutputLaws
+pub mod Sheet

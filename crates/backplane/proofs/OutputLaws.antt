@@ -1,4 +1,4 @@
--- The parts in which the bench writes make up the whole, and a part is over when the script is.
+-- The parts in which the bench writes make up the whole, a part is over when the script is, and the bench reads enough.
 use Prim.Native.Nat.{ℕ, zero, suc, _+_, _-_, _*_, _/_, _≤_, _<_}
 use mathlib.Core.Path.{_≡_, refl, sym, ap, ap₂, _∙_, subst}
 use mathlib.Core.Bool.{true, false}
@@ -7,11 +7,13 @@ use mathlib.Core.List.{List, [], _++_, append-nil, append-assoc}
 use native.Mathlib.Omega.{arith}
 use native.Mathlib.Nat.{le-refl}
 use native.Mathlib.Numerals.{add-one}
-use lib.Dec.{ltb}
+use lib.Dec.{leb, ltb}
 use lib.ListN.{length, take}
-use borrow.Author.Tests.{eqb-true, eq-eqb, ltb-true, ltb-false, lt-ltb, le-ltb}
+use lib.Seq.{take-all, length-take-le}
+use borrow.Author.Tests.{eqb-true, eq-eqb, leb-true, leb-false, lt-leb, ltb-true, ltb-false, lt-ltb, le-ltb}
 use Rattle.words.proofs.Truth.{which, cond-true, cond-false}
-use Rattle.setup.specs.Verdict.{isAccepted}
+use Rattle.setup.specs.Verdict.{verdict, isAccepted}
+use Rattle.setup.proofs.NextLaws.{check-refused}
 use Rattle.script.specs.Check.{checkScript}
 use Rattle.script.specs.Rounds.{roundsOf}
 use Rattle.script.specs.declared.Cursor.{Cursor}
@@ -21,7 +23,7 @@ use Rattle.text.specs.Wrote.{Wrote}
 use Rattle.text.proofs.WroteLaws.{wrote-none, wrote-front, wrote-then}
 use Rattle.backplane.specs.Play.{Sound}
 use Rattle.backplane.specs.Run.{begun, nextOf, later, runAt, printed}
-use Rattle.backplane.specs.Output.{linesTo, outputOf, roundLines, nextLines, partOf, partsOf, partsTo, PartsWhole}
+use Rattle.backplane.specs.Output.{linesTo, outputOf, roundLines, nextLines, partOf, partsOf, partsTo, PartsWhole, readMost, ReadEnough}
 use Rattle.backplane.specs.declared.Run.{Run}
 use Rattle.backplane.proofs.SoundLaws.{begun-sound, next-sound}
 use Rattle.backplane.proofs.Session.{run-cursor}
@@ -187,3 +189,23 @@ parts-whole s =
     (λ (t : isAccepted (checkScript s) ≡ true). whole-accepted s (eqb-true (checkScript s .number) 0 t))
     (λ (f : isAccepted (checkScript s) ≡ false). whole-refused s f)
     (which (isAccepted (checkScript s)))
+
+-- ---- a script that is too long
+
+long-refused : (s : List ℕ) → 65536 < length s → checkScript s ≡ verdict 16 0
+unfolding checkScript
+long-refused s h = check-refused (leb (length s) 65536) 16 0 _ (lt-leb (length s) 65536 h)
+
+long-output : (s : List ℕ) → 65536 < length s → outputOf s ≡ refusedLine 16 0
+unfolding outputOf
+long-output s h = rw (long-refused s h)
+
+pub read-enough : ReadEnough
+read-enough s =
+    ⊎-elim
+    (λ (t : leb (length s) readMost ≡ true). ap outputOf (take-all readMost s (leb-true (length s) readMost t)))
+    (λ (f : leb (length s) readMost ≡ false).
+    let h : readMost < length s = leb-false (length s) readMost f in
+    let l : length (take readMost s) ≡ readMost = length-take-le readMost s (omega arith) in
+    long-output (take readMost s) (omega (arith, l)) ∙ sym (long-output s (omega arith)))
+    (which (leb (length s) readMost))

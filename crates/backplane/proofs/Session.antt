@@ -28,6 +28,7 @@ use Rattle.script.specs.Check.{checkScript}
 use Rattle.script.specs.Cursor.{advanced, cursorAt}
 use Rattle.script.specs.Told.{castOf}
 use Rattle.script.specs.Rounds.{roundsOf}
+use Rattle.script.specs.Effect.{fateIn, toldIn}
 use Rattle.script.specs.declared.Cursor.{Cursor}
 use Rattle.script.specs.declared.Events.{Events}
 use Rattle.script.proofs.CastLaws.{only-cast, plays-all}
@@ -42,7 +43,7 @@ use Rattle.backplane.specs.Bus.{faultless, arrived}
 use Rattle.backplane.specs.Limit.{hearingOf, keptOver}
 use Rattle.backplane.specs.Play.{stateAt, openedStates, opened, sentWords, steppedStates, answeredHealth, earlier, played}
 use Rattle.backplane.specs.Run.{begun, goesOn, nextOf, later, runAt}
-use Rattle.backplane.specs.Session.{fateIn, toldIn, PlayedBy, HasSession, Carries, Hears, Holds, PlaysSession, InAgrees}
+use Rattle.backplane.specs.Session.{PlayedBy, HasSession, Carries, Hears, Holds, PlaysSession, InAgrees}
 use Rattle.backplane.specs.declared.Backplane.{Backplane}
 use Rattle.backplane.proofs.StartLaws.{accepts, setup-read}
 use Rattle.backplane.proofs.RoundLaws.{Tells, hears-bus, limit-as, carries, states-as, health-as}

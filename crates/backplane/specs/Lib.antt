@@ -5,3 +5,4 @@ pub mod Play
 pub mod Run
 pub mod Output
 pub mod Session
+pub mod Sheet

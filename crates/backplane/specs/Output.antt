@@ -1,9 +1,10 @@
--- All that the bench writes: the line of a refusal, or the lines of every round; and the parts in which it is written.
--- (document 01, "What runs" and "Bench sheet") That the parts make up the whole is proved in proofs/OutputLaws.antt.
+-- All that the bench writes: the line of a refusal, or the lines of every round; the parts in which it is written, and how much is read.
+-- (document 01, "What runs" and "Bench sheet") That the parts make up the whole, and that enough is read, is proved in proofs/OutputLaws.antt.
 use Prim.Native.Nat.{ℕ, zero, suc, _+_, _*_, _/_}
 use mathlib.Core.Path.{_≡_}
 use mathlib.Core.Bool.{cond}
 use mathlib.Core.List.{List, [], _++_}
+use lib.ListN.{take}
 use Rattle.setup.specs.Verdict.{isAccepted}
 use Rattle.script.specs.Check.{checkScript}
 use Rattle.script.specs.Rounds.{roundsOf}
@@ -51,3 +52,13 @@ partsTo s (suc k) = partsTo s k ++ partOf s k
 -- all parts one after the other are the whole
 abbrev pub PartsWhole : Type 0
 PartsWhole = (s : List ℕ) → partsTo s (partsOf s) ≡ outputOf s
+
+-- ---- how much is read
+
+-- how many bytes of its input the bench reads at most: one more than a script may have
+abbrev pub readMost : ℕ
+readMost = 65537
+
+-- what comes after them changes nothing: a longer input is refused as it is, by 16
+abbrev pub ReadEnough : Type 0
+ReadEnough = (s : List ℕ) → outputOf (take readMost s) ≡ outputOf s

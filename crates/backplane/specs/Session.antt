@@ -1,6 +1,6 @@
 -- The session that a run script plays is one of demand 3's sessions, and what the bench prints of a round is what the session has.
 -- (document 01, "A session" and "Bench sheet") Proved in proofs/Session.antt.
-use Prim.Native.Nat.{ℕ, suc, _+_, _-_, _*_, _≤_, _<_}
+use Prim.Native.Nat.{ℕ, suc, _-_, _*_, _≤_, _<_}
 use mathlib.Core.Path.{_≡_}
 use mathlib.Core.Bool.{true, false, not}
 use mathlib.Core.Logic.{_≢_}
@@ -11,9 +11,9 @@ use Rattle.words.specs.Bits.{bit}
 use Rattle.words.specs.Count.{all}
 use Rattle.setup.specs.Setup.{setupOf}
 use Rattle.script.specs.Check.{checkScript}
-use Rattle.script.specs.Cursor.{cursorAt}
 use Rattle.script.specs.Told.{castOf}
 use Rattle.script.specs.Rounds.{roundsOf}
+use Rattle.script.specs.Effect.{fateIn, toldIn}
 use Rattle.agreement.specs.Fault.{heard}
 use Rattle.agreement.specs.Session.{Session, Accepted, size, u, follows, RuleFollower, bitIn, wordIn, round, state, health, sent, Bound, unheard, halfHeard, kept}
 use Rattle.backplane.specs.Bus.{bitTo, wordTo}
@@ -23,15 +23,7 @@ use Rattle.backplane.specs.declared.Bus.{Bus}
 use Rattle.backplane.specs.declared.Hearing.{Hearing}
 use Rattle.backplane.specs.declared.Backplane.{Backplane}
 
--- what becomes in round k of the word from sender j + 1 to receiver i + 1: 0 it arrives as sent, 7 it is lost, 8 a told word arrives
-abbrev pub fateIn : List ℕ → ℕ → ℕ → ℕ → ℕ
-fateIn s k i j = getD (cursorAt s k .events .fate) (i * 16 + j) 0
-
--- the told word that arrives in its place
-abbrev pub toldIn : List ℕ → ℕ → ℕ → ℕ → ℕ
-toldIn s k i j = getD (cursorAt s k .events .told) (i * 16 + j) 0
-
--- S is the session that the script s plays.
+-- S is the session that the script s plays; script/specs/Effect.antt says of every round which words are lost and told.
 pub record PlayedBy (s : List ℕ) (S : Session) : Type 0 where
   pub setup : S .setup ≡ setupOf s
   pub accepted : Accepted S

@@ -1,9 +1,11 @@
 // The bench: plays a run script from standard input, and writes the lines of every round to standard output.
 //
 // The output is written in parts. Every part is proved to be the next part of the whole before it is written, and none is left out.
+mod input;
 mod written;
 
 use backplane::Run;
+use input::Input;
 use text::line::put_refusal;
 use written::Written;
 ghost use mathlib.Core.Path.{_≡_};
@@ -56,10 +58,8 @@ fn play(script: &[u8]) -> Written
 }
 
 fn main() {
-    // One byte more than a script may have, so that a longer one is seen to be too long.
-    let mut input = [0u8; 65537];
-    let got = io::read_full(0, &mut input);
-    let written = play(&input[..got]);
+    let input = Input::read();
+    let written = input.play();
     if !written.is_whole() {
         io::write_all(
             2,

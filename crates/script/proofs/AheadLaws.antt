@@ -61,6 +61,12 @@ module _ (sc : Scan) (w : ℕ) where
   unfolding scanned
   scanned-event f t = cond-false _ _ f ∙ cond-false _ _ t
 
+  pub told-of : {x : Scan} → scanned sc w ≡ x → scanned sc w .told ≡ x .told
+  told-of y = ap (λ (x : Scan). x .told) y
+
+  pub rounds-of : {x : Scan} → scanned sc w ≡ x → scanned sc w .rounds ≡ x .rounds
+  rounds-of y = ap (λ (x : Scan). x .rounds) y
+
   pub refusal-play : (n cast : ℕ) → sc .told ≡ false → eqb (kindOf w) 9 ≡ true → refusal n cast sc w ≡ playRefusal (sc .rounds) w
   unfolding refusal
   refusal-play n cast f t = cond-false _ _ f ∙ cond-true _ _ t

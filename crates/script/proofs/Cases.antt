@@ -4,12 +4,20 @@ use mathlib.Core.Bool.{true}
 use Rattle.words.specs.Word.{wordAt, bytesOf}
 use Rattle.words.specs.Bits.{bit}
 use Rattle.words.specs.Count.{lowest}
+use Rattle.words.specs.Table.{updated, table}
 use Rattle.setup.specs.Verdict.{check, checkEach}
 use Rattle.setup.specs.Check.{moduleFits, markFits, whole, headOk, limitOk, moduleOk, markOk, checkHead, checkWords, checkFront}
 use Rattle.script.specs.Words.{castOk, eventOk, playOk}
 use Rattle.script.specs.Check.{playRefusal, eventRefusal, refusal, scanned, finished, scan, checkPlay, checkScript}
-use Rattle.script.specs.Cases.{right, cases}
+use Rattle.script.specs.Events.{none, concerns, withEvent}
+use Rattle.script.specs.Cursor.{isPlay, lieAfter, eventsAfter, gather, start, advanced, cursorAt}
+use Rattle.script.specs.Rounds.{lastScan, roundsOf}
+use Rattle.script.specs.Cases.{right, cases, heeded, plays}
 
 pub cases-right : right cases ≡ true
 unfolding wordAt bytesOf bit lowest check checkEach moduleFits markFits whole headOk limitOk moduleOk markOk checkHead checkWords checkFront castOk eventOk playOk playRefusal eventRefusal refusal scanned finished scan checkPlay checkScript
 cases-right = refl
+
+pub plays-right : heeded plays ≡ true
+unfolding wordAt bytesOf bit lowest updated table check checkEach moduleFits markFits whole headOk limitOk moduleOk markOk checkHead checkWords checkFront castOk eventOk playOk playRefusal eventRefusal refusal scanned finished scan checkPlay checkScript none concerns withEvent isPlay lieAfter eventsAfter gather start advanced cursorAt lastScan roundsOf
+plays-right = refl

@@ -1,29 +1,32 @@
--- An accepted run script: only the cast lies, and the rounds played are those that its plays count.
-use mathlib.Core.Path.{_≡_, refl, sym}
+-- An accepted run script: only the cast lies, the rounds played are those that its plays count, and events count for the next round played.
+use mathlib.Core.Path.{_≡_, refl, sym, ap, _∙_}
 use mathlib.Core.Logic.{inl, ⊎-elim}
 use mathlib.Core.Bool.{true, false}
 use mathlib.Core.List.{List}
-use Prim.Native.Nat.{ℕ, zero, suc, _+_, _-_, _/_, _≤_}
+use Prim.Native.Nat.{ℕ, zero, suc, _+_, _-_, _/_, _≤_, _<_}
 use native.Mathlib.Omega.{arith}
 use native.Mathlib.Numerals.{add-one}
 use lib.Dec.{eqb, leb, ltb}
 use lib.ListN.{length}
-use borrow.Author.Tests.{eqb-true, eqb-false, ltb-true}
+use borrow.Author.Tests.{eqb-true, eqb-false, ltb-true, leb-true, leb-false}
 use Rattle.words.specs.Word.{wordAt}
 use Rattle.words.proofs.Truth.{which}
 use Rattle.setup.specs.Setup.{sizeIn}
 use Rattle.setup.proofs.VerdictLaws.{check-pass}
 use Rattle.setup.proofs.CheckLaws.{front-pass}
+use Rattle.script.specs.declared.Scan.{Scan}
 use Rattle.script.specs.declared.Cursor.{Cursor}
 use Rattle.script.specs.Words.{castOk}
-use Rattle.script.specs.Check.{begun, scan, checkPlay, checkScript}
+use Rattle.script.specs.Check.{begun, scanned, scan, checkPlay, checkScript}
 use Rattle.script.specs.Cursor.{start, advanced, cursorAt}
 use Rattle.script.specs.Told.{castOf, OnlyCast}
 use Rattle.script.specs.Rounds.{roundsOf, PlaysAll}
+use Rattle.script.specs.Effect.{roundsBefore, EventsCount}
 use Rattle.script.proofs.EventLaws.{told-none}
-use Rattle.script.proofs.AheadLaws.{Ahead, ahead-total, ahead-most}
+use Rattle.script.proofs.AheadLaws.{Ahead, ahead-next, ahead-ends, ahead-total, ahead-most}
+use Rattle.script.proofs.EffectLaws.{Linked, linked-next, told-first, rounds-first, rounds-mono, tells-none}
 use Rattle.script.proofs.GatherLaws.{next-round, next-play}
-use Rattle.script.proofs.PlaceLaws.{Placed, placed-round, placed-play}
+use Rattle.script.proofs.PlaceLaws.{Running, Placed, placed-round, placed-play}
 
 play-pass : (s : List ℕ) → checkScript s .number ≡ 0 → checkPlay s (sizeIn (wordAt s 0)) .number ≡ 0
 unfolding checkScript
@@ -45,22 +48,39 @@ module _ (s : List ℕ) (ok : checkScript s .number ≡ 0) where
       record { within = omega arith; taken = f; last = refl }
 
   abbrev At : ℕ → Cursor → Type 0
-  At k c = Placed s n (castOf s) (length s / 4) (roundsOf s) k c
+  At k c = Placed s (castOf s) (roundsOf s) k c
 
   placed-next : (k : ℕ) (c : Cursor) → At k c → At (k + 1) (advanced s c)
   placed-next k c p =
       ⊎-elim
       (λ (t : eqb (c .left) 0 ≡ true).
       let z = eqb-true (c .left) 0 t in
-      rw (sym (next-play s c refl z)) (placed-play s n (castOf s) (length s / 4) (roundsOf s) k c p z))
+      rw (sym (next-play s c refl z)) (placed-play s (castOf s) (roundsOf s) k c p z))
       (λ (t : eqb (c .left) 0 ≡ false).
       let f = eqb-false (c .left) 0 t in
-      rw (sym (next-round s c refl f)) (placed-round s n (castOf s) (length s / 4) (roundsOf s) k c p f))
+      rw (sym (next-round s c refl f)) (placed-round s (castOf s) (roundsOf s) k c p f))
       (which (eqb (c .left) 0))
+
+  first-linked : Linked s (n + 4) begun
+  first-linked = record { after = omega arith; told = sym (told-first s); rounds = sym (rounds-first s (n + 4) (omega arith)) }
 
   placed : (k : ℕ) → At k (cursorAt s k)
   unfolding cursorAt start
-  placed zero = record { scan = begun; told = refl; ahead = behind-cast; by-cast = told-none (castOf s); time = inl (refl, refl) }
+  placed zero =
+      record {
+        scan = begun;
+        told = refl;
+        linked = first-linked;
+        ahead = behind-cast;
+        by-cast = told-none (castOf s);
+        time = inl
+            (record {
+              playing = refl;
+              time = refl;
+              past = λ w x l. absurd (omega arith);
+              tells = tells-none s 0 (length s / 4) (λ w x l e. absurd (omega arith));
+            });
+      }
   placed (suc k) = rw (sym (add-one k)) (placed-next k (cursorAt s k) (placed k))
 
   so-far : (k : ℕ) → placed k .scan .rounds ≤ roundsOf s
@@ -72,6 +92,26 @@ module _ (s : List ℕ) (ok : checkScript s .number ≡ 0) where
   within : n + 4 ≤ length s / 4
   within = behind-cast .within
 
+  -- a round of the script
+  running : (k : ℕ) → k ≤ roundsOf s → Running s (castOf s) (roundsOf s) k (cursorAt s k) (placed k .scan)
+  running k l = ⊎-elim (λ t. t) (λ t. let h = t .time in absurd (omega arith)) (placed k .time)
+
+  -- the rounds before the last word's end
+  all-rounds : (words at : ℕ) (sc : Scan) → at + words ≡ length s / 4 → Linked s at sc → Ahead s n (castOf s) (length s / 4) (roundsOf s) at sc
+      → roundsBefore s (length s / 4) ≡ roundsOf s
+  all-rounds zero at sc h l a =
+      let e : at ≡ length s / 4 = omega arith in
+      let (f, p, t) = ahead-ends s n (castOf s) (length s / 4) (roundsOf s) sc (rw e at a) in
+      ap (roundsBefore s) (sym e) ∙ sym (l .rounds) ∙ t
+  all-rounds (suc words) at sc h l a =
+      let next = ahead-next s n (castOf s) (length s / 4) (roundsOf s) at sc (omega arith) a .1 in
+      all-rounds words (at + 1) (scanned sc (wordAt s at)) (omega arith) (linked-next s at sc l) next
+
+  rounds-are : roundsBefore s (length s / 4) ≡ roundsOf s
+  rounds-are =
+      let h = within in
+      all-rounds (length s / 4 - (n + 4)) (n + 4) begun (omega arith) first-linked behind-cast
+
 pub only-cast : OnlyCast
 only-cast s ok k = placed s ok k .by-cast
 
@@ -82,8 +122,30 @@ plays-all s ok =
     record {
       least = ahead-total s n (castOf s) (length s / 4) (roundsOf s) (length s / 4 - (n + 4)) (n + 4) begun (omega arith) (behind-cast s ok) .1;
       most = ahead-most s n (castOf s) (length s / 4) (roundsOf s) (length s / 4 - (n + 4)) (n + 4) begun (omega arith) (behind-cast s ok) (omega arith);
-      playing = λ k l. ⊎-elim (λ t. t .0) (λ t. absurd (omega arith)) (placed s ok k .time);
+      playing = λ k l. running s ok k l .playing;
       over = λ k l.
           let m = so-far s ok k in
-          ⊎-elim (λ t. absurd (omega arith)) (λ t. t .0) (placed s ok k .time);
+          ⊎-elim (λ t. let h = t .time in absurd (omega arith)) (λ t. t .over) (placed s ok k .time);
+    }
+
+pub events-count : EventsCount
+events-count s ok =
+    record {
+      rounds = rounds-are s ok;
+      events = λ k l i j a b. running s ok k l .tells i j a b;
+      first-only = λ w h t k l m i j a b.
+          let o = rounds-mono s (w + 1) (length s / 4) (omega arith) in
+          let q = rounds-are s ok in
+          running s ok k (omega arith) .tells i j a b .as-sent
+          (λ v x c.
+          let e = c .next in
+          ⊎-elim
+          (λ (y : leb v w ≡ true).
+          let u = rounds-mono s v w (leb-true v w y) in
+          absurd (omega arith))
+          (λ (y : leb v w ≡ false).
+          let z : w < v = leb-false v w y in
+          let u = rounds-mono s (w + 1) v (omega arith) in
+          absurd (omega arith))
+          (which (leb v w)));
     }

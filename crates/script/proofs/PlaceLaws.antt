@@ -1,15 +1,19 @@
--- The place of every round of an accepted run script: what lies ahead of it is accepted, and its events tell words for the cast alone.
-use mathlib.Core.Path.{_≡_, refl, ap, ap₂, _∙_, sym}
+-- The place of every round of an accepted run script: what lies ahead of it is accepted, its events are those of the script that count for it,
+-- and they tell words for the cast alone.
+use mathlib.Core.Path.{_≡_, refl, ap, ap₂, _∙_, sym, subst}
 use mathlib.Core.Logic.{_⊎_, inl, inr, ⊎-elim}
 use mathlib.Core.Bool.{true, false}
 use mathlib.Core.List.{List}
-use Prim.Native.Nat.{ℕ, zero, suc, _+_, _-_, _<_}
+use Prim.Native.Nat.{ℕ, zero, suc, _+_, _-_, _/_, _≤_, _<_}
 use native.Mathlib.Omega.{arith}
-use lib.Dec.{eqb}
-use borrow.Author.Tests.{eq-eqb, ne-eqb}
+use native.Mathlib.Nat.{eq-or-lt-of-le}
+use lib.Dec.{eqb, ltb}
+use lib.ListN.{length}
+use borrow.Author.Tests.{eqb-true, eq-eqb, ne-eqb, ltb-true, ltb-false}
 use Rattle.words.specs.Word.{wordAt}
 use Rattle.words.specs.Bits.{bit}
-use Rattle.words.proofs.Truth.{which, and-false-l, cond-true, cond-false}
+use Rattle.words.proofs.Truth.{which, clash, and-false-l, cond-true, cond-false}
+use Rattle.setup.specs.Setup.{sizeIn}
 use Rattle.script.specs.declared.Scan.{Scan}
 use Rattle.script.specs.declared.Events.{Events}
 use Rattle.script.specs.declared.Cursor.{Cursor}
@@ -18,21 +22,13 @@ use Rattle.script.specs.Check.{refusal, scanned}
 use Rattle.script.specs.Events.{none, withEvent}
 use Rattle.script.specs.Cursor.{isPlay, lieAfter, eventsAfter, gather}
 use Rattle.script.specs.Told.{ToldBy}
+use Rattle.script.specs.Effect.{firstOf, toldAt, roundsBefore, Counts}
 use Rattle.script.proofs.EventLaws.{told-none, told-with}
-use Rattle.script.proofs.AheadLaws.{Ahead, ahead-next, ahead-ends, ahead-total, play-taken, event-taken, scanned-told, scanned-play, scanned-event, refusal-play, refusal-event}
+use Rattle.script.proofs.AheadLaws.{Ahead, ahead-next, ahead-ends, play-taken, event-taken, scanned-told, scanned-play, scanned-event, told-of, rounds-of, refusal-play, refusal-event}
+use Rattle.script.proofs.EffectLaws.{Linked, linked-next, play-kind, rounds-play, rounds-mono, Tells, tells-none, tells-past, tells-event}
 use Rattle.script.proofs.GatherLaws.{gather-over, gather-step}
 
 -- ---- one word, as `gather` takes it
-
--- a lie w whose told word comes next, by a sender of the cast
-pub record Lie (cast w : ℕ) : Type 0 where
-  pub kind : kindOf w ≡ 8
-  pub inside : bit cast (senderIn w - 1) ≡ true
-
-lie-some : (cast lie : ℕ) → Lie cast lie → eqb lie 0 ≡ false
-lie-some cast lie l =
-    let k = l .kind in
-    ne-eqb lie 0 (λ z. omega arith)
 
 -- the told word of a lie
 module _ (lie w : ℕ) (e : Events) (f : eqb lie 0 ≡ false) where
@@ -72,42 +68,82 @@ module _ (w : ℕ) (e : Events) where
 
 -- ---- the place of round k
 
-module _ (s : List ℕ) (n cast count total : ℕ) where
-  -- the rounds of the plays so far are k and those that are left
-  abbrev Running : ℕ → Cursor → Scan → Type 0
-  Running k c sc = (c .over ≡ false) × (k + c .left ≡ sc .rounds)
+module _ (s : List ℕ) (cast total : ℕ) where
+  abbrev n : ℕ
+  n = sizeIn (wordAt s 0)
+
+  abbrev count : ℕ
+  count = length s / 4
+
+  -- The rounds of the plays so far are k and those that are left. No word before the next counts for a round after k, and the events of round k
+  -- are those of the whole script that count for it.
+  pub record Running (k : ℕ) (c : Cursor) (sc : Scan) : Type 0 where
+    pub playing : c .over ≡ false
+    pub time : k + c .left ≡ sc .rounds
+    pub past : (w : ℕ) → firstOf s ≤ w → w < c .at → roundsBefore s w < k
+    pub tells : Tells s k count (c .events)
 
   -- all rounds were played before round k
-  abbrev Done : ℕ → Cursor → Scan → Type 0
-  Done k c sc = (c .over ≡ true) × (c .left ≡ 0) × (sc .rounds ≡ total) × (total < k)
+  pub record Done (k : ℕ) (c : Cursor) (sc : Scan) : Type 0 where
+    pub over : c .over ≡ true
+    pub ended : c .at ≡ count
+    pub left : c .left ≡ 0
+    pub all : sc .rounds ≡ total
+    pub time : total < k
 
   -- `c` is the place of round k: the scan has come as far, and accepts what lies ahead
   pub record Placed (k : ℕ) (c : Cursor) : Type 0 where
     pub scan : Scan
     pub told : scan .told ≡ false
+    pub linked : Linked s (c .at) scan
     pub ahead : Ahead s n cast count total (c .at) scan
     pub by-cast : ToldBy cast (c .events)
     pub time : Running k c scan ⊎ Done k c scan
 
   -- ---- the words up to the next play
 
+  -- the lie whose told word stands at `at`, by a sender of the cast; the events e are those before it
+  pub record Lie (k at lie : ℕ) (e : Events) : Type 0 where
+    pub word : ℕ
+    pub is : lie ≡ wordAt s word
+    pub next : at ≡ word + 1
+    pub after : firstOf s ≤ word
+    pub plain : toldAt s word ≡ false
+    pub kind : kindOf lie ≡ 8
+    pub inside : bit cast (senderIn lie - 1) ≡ true
+    pub time : k ≡ roundsBefore s word + 1
+    pub tells : Tells s k word e
+
+  lie-some : (k at lie : ℕ) (e : Events) → Lie k at lie e → eqb lie 0 ≡ false
+  lie-some k at lie e l =
+      let h = l .kind in
+      ne-eqb lie 0 (λ z. omega arith)
+
   -- no told word comes next, or that of `lie`
-  abbrev Waits : ℕ → Scan → Type 0
-  Waits lie sc = ((lie ≡ 0) × (sc .told ≡ false)) ⊎ (Lie cast lie × (sc .told ≡ true))
+  abbrev Waits : ℕ → ℕ → ℕ → Events → Scan → Type 0
+  Waits k at lie e sc = ((lie ≡ 0) × (sc .told ≡ false) × Tells s k at e) ⊎ (Lie k at lie e × (sc .told ≡ true))
 
   -- what `gather` finds from `at` on, after r rounds
   abbrev Found : ℕ → ℕ → Type 0
-  Found r at = (lie : ℕ) (e : Events) (sc : Scan) → sc .rounds ≡ r → Waits lie sc → ToldBy cast e → Ahead s n cast count total at sc
-      → Placed (r + 1) (gather s (count - at) at lie e)
+  Found r at = (lie : ℕ) (e : Events) (sc : Scan) → sc .rounds ≡ r → Linked s at sc → Waits (r + 1) at lie e sc → ToldBy cast e
+      → Ahead s n cast count total at sc → Placed (r + 1) (gather s (count - at) at lie e)
 
-  module _ (r at lie : ℕ) (e : Events) (sc : Scan) (q : sc .rounds ≡ r) (b : ToldBy cast e) (a : Ahead s n cast count total at sc) where
-    -- no word is left
-    found-over : at ≡ count → Placed (r + 1) (gather s (count - at) at lie e)
-    found-over h =
-        let (f, p, t) = ahead-ends s n cast count total sc (rw h at a) in
-        rw (sym (gather-over s count at lie e (omega arith) refl))
-        (record { scan = sc; told = f; ahead = a; by-cast = told-none cast; time = inr (refl, refl, t, omega arith) })
+  -- no word is left
+  found-over : (k at lie : ℕ) (e : Events) (sc : Scan) → at ≡ count → total < k → Linked s at sc → Ahead s n cast count total at sc
+      → Placed k (gather s (count - at) at lie e)
+  found-over k at lie e sc h m l a =
+      let (f, p, t) = ahead-ends s n cast count total sc (rw h at a) in
+      rw (sym (gather-over s count at lie e (omega arith) refl))
+      (record {
+        scan = sc;
+        told = f;
+        linked = l;
+        ahead = a;
+        by-cast = told-none cast;
+        time = inr (record { over = refl; ended = h; left = refl; all = t; time = m });
+      })
 
+  module _ (r at lie : ℕ) (e : Events) (sc : Scan) (q : sc .rounds ≡ r) (k : Linked s at sc) (b : ToldBy cast e) (a : Ahead s n cast count total at sc) where
     module _ (h : at < count) (again : Found r (at + 1)) where
       abbrev w : ℕ
       w = wordAt s at
@@ -118,32 +154,80 @@ module _ (s : List ℕ) (n cast count total : ℕ) where
       next : Ahead s n cast count total (at + 1) (scanned sc w)
       next = ahead-next s n cast count total at sc h a .1
 
-      rounds-of : {x : Scan} → scanned sc w ≡ x → x .rounds ≡ sc .rounds → scanned sc w .rounds ≡ r
-      rounds-of y z = ap (λ (x : Scan). x .rounds) y ∙ z ∙ q
+      linked : Linked s (at + 1) (scanned sc w)
+      linked = linked-next s at sc k
 
-      told-of : {x : Scan} → scanned sc w ≡ x → scanned sc w .told ≡ x .told
-      told-of y = ap (λ (x : Scan). x .told) y
+      this-round : r + 1 ≡ roundsBefore s at + 1
+      this-round =
+          let z = k .rounds in
+          omega arith
 
-      -- a told word
-      found-told : Lie cast lie → sc .told ≡ true → Placed (r + 1) (gather s (count - at) at lie e)
+      -- a told word is no event
+      told-silent : (v i j : ℕ) → sc .told ≡ true → v ≡ at → Counts s (r + 1) i j v → ⊥
+      told-silent v i j t z d = clash (toldAt s v) (ap (toldAt s) z ∙ sym (k .told) ∙ t) (d .plain)
+
+      -- a told word: its lie counts now
+      found-told : Lie (r + 1) at lie e → sc .told ≡ true → Placed (r + 1) (gather s (count - at) at lie e)
       found-told l t =
-          let f = lie-some cast lie l in
+          let f = lie-some (r + 1) at lie e l in
           let g =
           gather-step s count at lie e h
           ∙ cond-false _ _ (told-play lie w e f)
           ∙ ap₂ (gather s (count - (at + 1)) (at + 1)) (told-lie lie w e f) (told-events lie w e f)
           in
           let y = scanned-told sc w t in
-          rw g (again 0 (withEvent e lie w) (scanned sc w) (rounds-of y refl) (inl (refl, told-of y)) (told-with cast lie w e b (λ _. l .inside)) next)
+          let o =
+          tells-event s (r + 1) (l .word) w e (l .after) (l .plain) (inr (ap kindOf (sym (l .is)) ∙ l .kind)) (l .time) (λ _. ap (wordAt s) (l .next)) (l .tells)
+          in
+          let o′ : Tells s (r + 1) at (withEvent e lie w) =
+          subst (λ (x : ℕ). Tells s (r + 1) x (withEvent e lie w)) (sym (l .next))
+          (subst (λ (x : ℕ). Tells s (r + 1) (l .word + 1) (withEvent e x w)) (sym (l .is)) o)
+          in
+          let o″ : Tells s (r + 1) (at + 1) (withEvent e lie w) =
+          tells-past s (r + 1) at (at + 1) (withEvent e lie w) (omega arith) (λ v i j x x′ d. told-silent v i j t (omega arith) d) o′
+          in
+          rw g (again 0 (withEvent e lie w) (scanned sc w) (rounds-of sc w y ∙ q) linked (inl (refl, told-of sc w y, o″)) (told-with cast lie w e b (λ _. l .inside)) next)
+
+      -- neither the play nor what comes after it is an event for its first round
+      after-play : (v i j : ℕ) → kindOf w ≡ 9 → roundsBefore s at < roundsBefore s (at + 1) → at ≤ v → Counts s (r + 1) i j v → ⊥
+      after-play v i j t m x d =
+          let z = this-round in
+          let y = d .next in
+          ⊎-elim
+          (λ (o : at ≡ v).
+          let p : kindOf (wordAt s v) ≡ 9 = ap (λ (u : ℕ). kindOf (wordAt s u)) (sym o) ∙ t in
+          ⊎-elim (λ (u : kindOf (wordAt s v) ≡ 7). absurd (omega arith)) (λ (u : kindOf (wordAt s v) ≡ 8). absurd (omega arith)) (d .kind))
+          (λ (o : at < v).
+          let u = rounds-mono s (at + 1) v (omega arith) in
+          absurd (omega arith))
+          (eq-or-lt-of-le x)
 
       -- a play
-      found-play : sc .told ≡ false → eqb (kindOf w) 9 ≡ true → Placed (r + 1) (gather s (count - at) at 0 e)
-      found-play f t =
+      found-play : sc .told ≡ false → eqb (kindOf w) 9 ≡ true → Tells s (r + 1) at e → Placed (r + 1) (gather s (count - at) at 0 e)
+      found-play f t o =
           let y = scanned-play sc w f t in
           let m = play-taken (sc .rounds) w (sym (refusal-play sc w n cast f t) ∙ zero-answer) in
-          let v : scanned sc w .rounds ≡ sc .rounds + roundsIn w = ap (λ (x : Scan). x .rounds) y in
+          let v : scanned sc w .rounds ≡ sc .rounds + roundsIn w = rounds-of sc w y in
+          let later : roundsBefore s at < roundsBefore s (at + 1) =
+          let x = rounds-play s at (play-kind s at sc k f ∙ t) in
+          omega (arith, m)
+          in
           rw (gather-step s count at 0 e h ∙ cond-true _ _ (plain-play w e ∙ t))
-          (record { scan = scanned sc w; told = told-of y; ahead = next; by-cast = b; time = inl (refl, omega arith) })
+          (record {
+            scan = scanned sc w;
+            told = told-of sc w y;
+            linked = linked;
+            ahead = next;
+            by-cast = b;
+            time = inl (record {
+              playing = refl;
+              time = omega arith;
+              past = λ v x l.
+                  let m = rounds-mono s v at (omega arith) in
+                  omega arith;
+              tells = tells-past s (r + 1) at count e (omega arith) (λ v i j x x′ d. after-play v i j (eqb-true (kindOf w) 9 t) later x d) o;
+            });
+          })
 
       no-play : {lie′ : ℕ} {e′ : Events} → eqb (kindOf w) 9 ≡ false → lieAfter 0 w ≡ lie′ → eventsAfter 0 w e ≡ e′
           → gather s (count - at) at 0 e ≡ gather s (count - (at + 1)) (at + 1) lie′ e′
@@ -151,29 +235,52 @@ module _ (s : List ℕ) (n cast count total : ℕ) where
           gather-step s count at 0 e h ∙ cond-false _ _ (plain-play w e ∙ f) ∙ ap₂ (gather s (count - (at + 1)) (at + 1)) l v
 
       -- a loss, or a lie whose told word comes next
-      found-event : sc .told ≡ false → eqb (kindOf w) 9 ≡ false → Placed (r + 1) (gather s (count - at) at 0 e)
-      found-event f t =
+      found-event : sc .told ≡ false → eqb (kindOf w) 9 ≡ false → Tells s (r + 1) at e → Placed (r + 1) (gather s (count - at) at 0 e)
+      found-event f t o =
           let y = scanned-event sc w f t in
+          let p : toldAt s at ≡ false = sym (k .told) ∙ f in
           ⊎-elim
-          (λ (k : kindOf w ≡ 7).
-          rw (no-play t (loss-lie w e k) (loss-events w e k))
-          (again 0 (withEvent e w 0) (scanned sc w) (rounds-of y refl) (inl (refl, told-of y ∙ ne-eqb (kindOf w) 8 (λ z. omega arith)))
+          (λ (x : kindOf w ≡ 7).
+          rw (no-play t (loss-lie w e x) (loss-events w e x))
+          (again 0 (withEvent e w 0) (scanned sc w) (rounds-of sc w y ∙ q) linked
+          (inl (
+            refl,
+            told-of sc w y ∙ ne-eqb (kindOf w) 8 (λ z. omega arith),
+            tells-event s (r + 1) at 0 e (k .after) p (inl x) this-round (λ z. absurd (omega arith)) o,
+          ))
           (told-with cast w 0 e b (λ z. absurd (omega arith))) next))
           (λ (l : (kindOf w ≡ 8) × (bit cast (senderIn w - 1) ≡ true)).
           rw (no-play t (lie-lie w e (l .0)) (lie-events w e (l .0)))
-          (again w e (scanned sc w) (rounds-of y refl)
-          (inr (record { kind = l .0; inside = l .1 }, told-of y ∙ eq-eqb (kindOf w) 8 (l .0))) b next))
+          (again w e (scanned sc w) (rounds-of sc w y ∙ q) linked
+          (inr (
+            record {
+              word = at;
+              is = refl;
+              next = refl;
+              after = k .after;
+              plain = p;
+              kind = l .0;
+              inside = l .1;
+              time = this-round;
+              tells = o;
+            },
+            told-of sc w y ∙ eq-eqb (kindOf w) 8 (l .0),
+          ))
+          b next))
           (event-taken n cast w (sym (refusal-event sc w n cast f t) ∙ zero-answer))
 
-      found-plain : lie ≡ 0 → sc .told ≡ false → Placed (r + 1) (gather s (count - at) at lie e)
-      found-plain z f = rw z (⊎-elim (found-play f) (found-event f) (which (eqb (kindOf w) 9)))
+      found-plain : lie ≡ 0 → sc .told ≡ false → Tells s (r + 1) at e → Placed (r + 1) (gather s (count - at) at lie e)
+      found-plain z f o = rw z (⊎-elim (λ t. found-play f t o) (λ t. found-event f t o) (which (eqb (kindOf w) 9)))
 
-      found-here : Waits lie sc → Placed (r + 1) (gather s (count - at) at lie e)
-      found-here = ⊎-elim (λ p. found-plain (p .0) (p .1)) (λ p. found-told (p .0) (p .1))
+      found-here : Waits (r + 1) at lie e sc → Placed (r + 1) (gather s (count - at) at lie e)
+      found-here = ⊎-elim (λ p. found-plain (p .0) (p .1) (p .2)) (λ p. found-told (p .0) (p .1))
 
   found : (words r at : ℕ) → at + words ≡ count → Found r at
-  found zero r at h lie e sc q d b a = found-over r at lie e sc q b a (omega arith)
-  found (suc words) r at h lie e sc q d b a = found-here r at lie e sc q b a (omega arith) (found words r (at + 1) (omega arith)) d
+  found zero r at h lie e sc q k d b a =
+      let z : at ≡ count = omega arith in
+      let (f, p, t) = ahead-ends s n cast count total sc (rw z at a) in
+      found-over (r + 1) at lie e sc (omega arith) (omega arith) k a
+  found (suc words) r at h lie e sc q k d b a = found-here r at lie e sc q k b a (omega arith) (found words r (at + 1) (omega arith)) d
 
   -- ---- from round to round
 
@@ -184,28 +291,47 @@ module _ (s : List ℕ) (n cast count total : ℕ) where
         record {
           scan = p .scan;
           told = p .told;
+          linked = p .linked;
           ahead = p .ahead;
           by-cast = told-none cast;
-          time = ⊎-elim (λ t. inl (refl, omega arith)) (λ t. absurd (f (t .1))) (p .time);
+          time = ⊎-elim (λ t. inl (goes-on t)) (λ t. absurd (f (t .left))) (p .time);
         }
+      where
+        silent : Running k c (p .scan) → (w : ℕ) → firstOf s ≤ w → k + 1 ≡ roundsBefore s w + 1 → ⊥
+        silent t w x e =
+            let q = t .time in
+            let l = p .linked .rounds in
+            ⊎-elim
+            (λ (y : ltb w (c .at) ≡ true).
+            let m = t .past w x (ltb-true w (c .at) y) in
+            absurd (omega arith))
+            (λ (y : ltb w (c .at) ≡ false).
+            let m = rounds-mono s (c .at) w (ltb-false w (c .at) y) in
+            f (omega arith))
+            (which (ltb w (c .at)))
 
-    gathered : (r : ℕ) → p .scan .rounds ≡ r → Placed (r + 1) (gather s (count - c .at) (c .at) 0 none)
-    gathered r e =
-        let h = p .ahead .within in
-        found (count - c .at) r (c .at) (omega arith) 0 none (p .scan) e (inl (refl, p .told)) (told-none cast) (p .ahead)
+        goes-on : Running k c (p .scan) → Running (k + 1) (record { at = c .at; left = c .left - 1; over = false; events = none }) (p .scan)
+        goes-on t =
+            let q = t .time in
+            record {
+              playing = refl;
+              time = omega arith;
+              past = λ w x l.
+                  let m = t .past w x l in
+                  omega arith;
+              tells = tells-none s (k + 1) count (λ w x l e. silent t w x e);
+            }
 
     -- the play is over
     pub placed-play : c .left ≡ 0 → Placed (k + 1) (gather s (count - c .at) (c .at) 0 none)
-    placed-play z = ⊎-elim (λ t. gathered k (omega arith)) (λ t. later (gathered total (t .2)) (t .3)) (p .time)
+    placed-play z = ⊎-elim next-play (λ t. found-over (k + 1) (c .at) 0 none (p .scan) (t .ended) (still (t .time)) (p .linked) (p .ahead)) (p .time)
       where
-        later : {d : Cursor} → Placed (total + 1) d → total < k → Placed (k + 1) d
-        later {d} g l =
-            let h = g .ahead .within in
-            let m = ahead-total s n cast count total (count - d .at) (d .at) (g .scan) (omega arith) (g .ahead) in
-            record {
-              scan = g .scan;
-              told = g .told;
-              ahead = g .ahead;
-              by-cast = g .by-cast;
-              time = ⊎-elim (λ t. absurd (omega arith)) (λ t. inr (t .0, t .1, t .2, omega arith)) (g .time);
-            }
+        still : total < k → total < k + 1
+        still h = omega arith
+
+        next-play : Running k c (p .scan) → Placed (k + 1) (gather s (count - c .at) (c .at) 0 none)
+        next-play t =
+            let h = p .ahead .within in
+            let q = t .time in
+            found (count - c .at) k (c .at) (omega arith) 0 none (p .scan) (omega arith) (p .linked)
+            (inl (refl, p .told, tells-none s (k + 1) (c .at) (λ w x l e. let m = t .past w x l in absurd (omega arith)))) (told-none cast) (p .ahead)

@@ -1,0 +1,39 @@
+-- The sheet and the two scripts beside it: computed, from the words' bytes to the lines' bytes.
+use mathlib.Core.Path.{refl}
+use Rattle.words.specs.Word.{wordAt, bytesOf}
+use Rattle.words.specs.Bits.{bit, pack}
+use Rattle.words.specs.Count.{count, any, all, lowest}
+use Rattle.words.specs.Array.{array, clearFrom}
+use Rattle.words.specs.Table.{updated, table}
+use Rattle.setup.specs.Verdict.{check, checkEach}
+use Rattle.setup.specs.Setup.{setupOf, blankSetup}
+use Rattle.setup.specs.Check.{moduleFits, markFits, whole, headOk, limitOk, moduleOk, markOk, checkHead, checkWords, checkFront, setupPart, checkSetup, setupTidy, checkFields, readSetup}
+use Rattle.rules.specs.Lag.{skewed}
+use Rattle.rules.specs.Hearing.{busWord, wordHeard, entryOf, readingOf}
+use Rattle.rules.specs.Alignment.{alignedOf}
+use Rattle.rules.specs.Vote.{decision, tally, voteOf, healthOf}
+use Rattle.rules.specs.Accusation.{differsAt, accusationOf, accusationsOf}
+use Rattle.rules.specs.Syndrome.{syndromeOf, judgementOf, outgoingOf}
+use Rattle.rules.specs.Account.{charged, rewarded, accounted, accountAt, accountedAt, countersOf}
+use Rattle.image.specs.Fits.{rowFits, penaltyFits, rewardFits}
+use Rattle.presence.specs.Valid.{stateTidy, checkState, stateVerdict}
+use Rattle.presence.specs.Opening.{fresh, blank, checkOpening, openOf}
+use Rattle.presence.specs.Step.{placeOf, markOf, ownSyndrome, alignedFor, judgementFor, outgoingFor, afterRound, refusedStep, acceptedStep, testedStep, readStep, stepOf}
+use Rattle.script.specs.Words.{castOk, eventOk, playOk}
+use Rattle.script.specs.Check.{playRefusal, eventRefusal, refusal, scanned, finished, scan, checkPlay, checkScript}
+use Rattle.script.specs.Events.{none, concerns, withEvent}
+use Rattle.script.specs.Cursor.{isPlay, lieAfter, eventsAfter, gather, start, advanced}
+use Rattle.script.specs.Rounds.{lastScan, roundsOf}
+use Rattle.agreement.specs.Fault.{differ, half, heard, within}
+use Rattle.text.specs.Text.{numeral, vector}
+use Rattle.text.specs.Lines.{lineWith, linesOf, refusedLine}
+use Rattle.backplane.specs.Bus.{roundOf, faultless, arrived, readWords, readBits}
+use Rattle.backplane.specs.Limit.{hearingOf, isHalf, isBreaker, isUnheard, keptOver}
+use Rattle.backplane.specs.Play.{openedStates, opened, sentWords, stepAt, steppedStates, answeredHealth, earlier, played}
+use Rattle.backplane.specs.Run.{begun, goesOn, nextOf, later, printed}
+use Rattle.backplane.specs.Output.{linesTo, outputOf}
+use Rattle.backplane.specs.Sheet.{Written}
+
+pub written : Written
+unfolding wordAt bytesOf bit pack count any all lowest array clearFrom updated table check checkEach setupOf blankSetup moduleFits markFits whole headOk limitOk moduleOk markOk checkHead checkWords checkFront setupPart checkSetup setupTidy checkFields readSetup skewed busWord wordHeard entryOf readingOf alignedOf decision tally voteOf healthOf differsAt accusationOf accusationsOf syndromeOf judgementOf outgoingOf charged rewarded accounted accountAt accountedAt countersOf rowFits penaltyFits rewardFits stateTidy checkState stateVerdict fresh blank checkOpening openOf placeOf markOf ownSyndrome alignedFor judgementFor outgoingFor afterRound refusedStep acceptedStep testedStep readStep stepOf castOk eventOk playOk playRefusal eventRefusal refusal scanned finished scan checkPlay checkScript none concerns withEvent isPlay lieAfter eventsAfter gather start advanced lastScan roundsOf differ half heard within numeral vector lineWith linesOf refusedLine roundOf faultless arrived readWords readBits hearingOf isHalf isBreaker isUnheard keptOver openedStates opened sentWords stepAt steppedStates answeredHealth earlier played begun goesOn nextOf later printed linesTo outputOf
+written = record { sheet = refl; refused = refl; half-heard = refl }

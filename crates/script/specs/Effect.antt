@@ -1,0 +1,92 @@
+-- What the events of a run script do, read off its words without playing it. (document 01, "What runs": "Events count for the next round played;
+-- a later one for the same sender and receiver replaces an earlier.") Proved in proofs/CastLaws.antt and proofs/EventLaws.antt.
+use Prim.Native.Nat.{ℕ, zero, suc, _+_, _*_, _/_, _≤_, _<_}
+use mathlib.Core.Path.{_≡_}
+use mathlib.Core.Logic.{_⊎_}
+use mathlib.Core.Bool.{Bool, true, false, cond, not, _&&_}
+use mathlib.Core.List.{List}
+use lib.Dec.{eqb, leb}
+use lib.ListN.{getD, length}
+use Rattle.words.specs.Word.{wordAt}
+use Rattle.words.specs.Bits.{bit}
+use Rattle.setup.specs.Setup.{sizeIn}
+use Rattle.script.specs.Words.{kindOf, senderIn, receiversIn, roundsIn}
+use Rattle.script.specs.Check.{checkScript}
+use Rattle.script.specs.Events.{withEvent}
+use Rattle.script.specs.Cursor.{cursorAt}
+use Rattle.script.specs.Rounds.{roundsOf}
+use Rattle.script.specs.declared.Events.{Events}
+
+-- ---- what becomes of a word
+
+-- what becomes in round k of the word from sender j + 1 to receiver i + 1: 0 it arrives as sent, 7 it is lost, 8 a told word arrives
+abbrev pub fateIn : List ℕ → ℕ → ℕ → ℕ → ℕ
+fateIn s k i j = getD (cursorAt s k .events .fate) (i * 16 + j) 0
+
+-- the told word that arrives in its place
+abbrev pub toldIn : List ℕ → ℕ → ℕ → ℕ → ℕ
+toldIn s k i j = getD (cursorAt s k .events .told) (i * 16 + j) 0
+
+-- ---- the words of a script, word w counted from 0
+
+-- the first word after the cast
+abbrev pub firstOf : List ℕ → ℕ
+firstOf s = sizeIn (wordAt s 0) + 4
+
+-- word w is a told word: the one before it is a lie after the cast, and no told word itself
+unfoldable pub toldAt : List ℕ → ℕ → Bool
+toldAt s zero = false
+toldAt s (suc w) = leb (firstOf s) w && (not (toldAt s w) && eqb (kindOf (wordAt s w)) 8)
+
+-- word w is a play after the cast, and no told word
+unfoldable pub playAt : List ℕ → ℕ → Bool
+playAt s w = leb (firstOf s) w && (not (toldAt s w) && eqb (kindOf (wordAt s w)) 9)
+
+-- how many rounds are played before word w: those of all plays before it
+unfoldable pub roundsBefore : List ℕ → ℕ → ℕ
+roundsBefore s zero = 0
+roundsBefore s (suc w) = roundsBefore s w + cond (playAt s w) (roundsIn (wordAt s w)) 0
+
+-- ---- which events count
+
+-- Word w is an event that counts in round k for the word from sender j + 1 to receiver i + 1: a loss or a lie after the cast, no told word, with
+-- that sender and that receiver; and round k is the next one played.
+pub record Counts (s : List ℕ) (k i j w : ℕ) : Type 0 where
+  pub after : firstOf s ≤ w
+  pub plain : toldAt s w ≡ false
+  pub kind : (kindOf (wordAt s w) ≡ 7) ⊎ (kindOf (wordAt s w) ≡ 8)
+  pub sender : senderIn (wordAt s w) ≡ j + 1
+  pub receiver : bit (receiversIn (wordAt s w)) i ≡ true
+  pub next : k ≡ roundsBefore s w + 1
+
+-- What the events before word m make of that word: its fate is the kind of the last one that counts, and a lie's told word is the word after it.
+-- Where none counts, the word arrives as it was sent.
+pub record Effect (s : List ℕ) (k i j m fate told : ℕ) : Type 0 where
+  pub last : (w : ℕ) → w < m → Counts s k i j w → ((v : ℕ) → w < v → v < m → Counts s k i j v → ⊥)
+      → (fate ≡ kindOf (wordAt s w)) × (kindOf (wordAt s w) ≡ 8 → told ≡ wordAt s (w + 1))
+  pub as-sent : ((w : ℕ) → w < m → Counts s k i j w → ⊥) → fate ≡ 0
+
+-- ---- of every accepted script
+
+pub record Heeded (s : List ℕ) : Type 0 where
+  -- all plays together are the script's rounds
+  pub rounds : roundsBefore s (length s / 4) ≡ roundsOf s
+  -- in every round the last event that counts decides, among all words of the script
+  pub events : (k : ℕ) → k ≤ roundsOf s → (i j : ℕ) → i < 16 → j < 16 → Effect s k i j (length s / 4) (fateIn s k i j) (toldIn s k i j)
+  -- in a round of a play that is not its first, every word arrives as it was sent
+  pub first-only : (w : ℕ) → w < length s / 4 → playAt s w ≡ true
+      → (k : ℕ) → roundsBefore s w + 1 < k → k ≤ roundsBefore s (w + 1) → (i j : ℕ) → i < 16 → j < 16 → fateIn s k i j ≡ 0
+
+-- events count for the next round played, and the last one wins
+abbrev pub EventsCount : Type 0
+EventsCount = (s : List ℕ) → checkScript s .number ≡ 0 → Heeded s
+
+-- ---- one more event
+
+-- One more event w, with its told word t, replaces what was there for its sender and its receivers, and leaves what was there for all others.
+abbrev pub Replaces : Type 0
+Replaces = (e : Events) (w t i j : ℕ) → i < 16 → j < 16
+    → (getD (withEvent e w t .fate) (i * 16 + j) 0
+    ≡ cond (eqb (senderIn w) (j + 1) && bit (receiversIn w) i) (kindOf w) (getD (e .fate) (i * 16 + j) 0))
+    × (getD (withEvent e w t .told) (i * 16 + j) 0
+    ≡ cond (eqb (senderIn w) (j + 1) && bit (receiversIn w) i) t (getD (e .told) (i * 16 + j) 0))
