@@ -2,6 +2,7 @@ pub mod AnswerLaws
 pub mod CallLaws
 pub mod AxisHistory
 pub mod ByHistory
+pub mod ByEvents
 pub mod SoundLaws
 pub mod ImageLaws
 pub mod RefusalLaws

@@ -2,6 +2,7 @@ pub mod Axis
 pub mod Locks
 pub mod History
 pub mod ByHistory
+pub mod ByEvents
 pub mod Image
 pub mod Calls
 pub mod Images
