@@ -1,11 +1,11 @@
 -- The moves that the history leaves are those of the events: by induction, event by event.
-use Prim.Native.Nat.{ℕ, _+_, _-_, _≤_}
-use mathlib.Core.Path.{_≡_, refl, sym, ap, ap₂, _∙_, subst}
+use Prim.Native.Nat.{ℕ, _+_, _-_}
+use mathlib.Core.Path.{_≡_, refl, sym, ap, _∙_, subst}
 use mathlib.Core.Bool.{Bool, true, false, cond, not, _&&_, _||_, true≢false, false≢true}
 use mathlib.Core.Logic.{_↔_, _≢_, _⊎_, inl, inr, ⊎-elim}
-use mathlib.Core.List.{List, [], _∷_, _++_, append-nil, append-assoc, List·Memᴰ, List·Memᴰ·head, List·Memᴰ·tail, List·Memᴰ·cases-cons, List·Memᴰ·not-nil, List·Memᴰ·append-cases}
+use mathlib.Core.List.{List, [], _∷_, _++_, append-nil, List·Memᴰ·head, List·Memᴰ·tail, List·Memᴰ·cases-cons, List·Memᴰ·not-nil}
 use native.Mathlib.Omega.{arith}
-use borrow.Author.Tests.{eqb-true, eqb-false, eq-eqb}
+use borrow.Author.Tests.{eqb-true, eq-eqb}
 use lib.Dec.{eqb, leb}
 use lib.Seq.{set-getD}
 use Rattle.words.proofs.Truth.{which, clash, cond-true, cond-false, and-l, or-false-r}
@@ -13,7 +13,7 @@ use Rattle.scanlock.specs.Axis.{axis, free, abortedOf, finishedOf, stopp
 use Rattle.scanlock.specs.History.{Motion, resting, moving, halting, started, aborted, finished, stopped, motion, isUnfinished, isHalting, left, standing, depth, holder, unfinished, stopping, named, taken, number, accepted}
 use Rattle.scanlock.specs.Locks.{locks, axisAt, withAxis, admits, putOf, refusedOf, abortOf, finishedBy, stoppedBy, eventOf}
 use Rattle.scanlock.specs.ByHistory.{after}
-use Rattle.scanlock.specs.ByEvents.{No, Running, Aborted, Stopping, Unfinished, AbortsStop, ByEvents, MotionByEvents, Unchanged, ChangesNothing}
+use Rattle.scanlock.specs.ByEvents.{No, Running, Aborted, Stopping, Unfinished, AbortsStop, MotionByEvents, Unchanged, ChangesNothing}
 use Rattle.scanlock.specs.declared.Axis.{Axis}
 use Rattle.scanlock.specs.declared.Locks.{Locks}
 use Rattle.scanlock.specs.declared.Event.{Event}
@@ -62,8 +62,8 @@ module _ (a : ℕ) where
   running-less : (e : Event) (t : List Event) → Running a (e ∷ t) → Before e t
   running-less e t r = go (r .since) (r .started) (r .no-finish) (r .no-abort)
     where
-      go : (since : List Event) → e ∷ t ≡ since ++ (Start (r .by) a ∷ r .before) → No (Finished a) since → ((m : ℕ) → No (Abort m a) since)
-          → Before e t
+      go : (since : List Event) → e ∷ t ≡ since ++ (Start (r .by) a ∷ r .before) → No (Finished a) since
+          → ((m : ℕ) → No (Abort m a) since) → Before e t
       go [] s f b = now (r .by) (cc)
       go (d ∷ since) s f b =
           let g : e ≡ d = cc in
@@ -355,7 +355,8 @@ motion-by-events n h a =
       stops = i;
       moves = moves-exactly (motion a t) _ _ (k .running) (k .stops);
       stop-ends = λ s since.
-          since-alike a (Stopped a ∷ t) [] (stop-ends a t (i .1 s)) since .locks 0 (λ by. true) ∙ ap (λ (l : List Event). standing a l) (append-nil since);
+          since-alike a (Stopped a ∷ t) [] (stop-ends a t (i .1 s)) since .locks 0 (λ by. true)
+          ∙ ap (λ (l : List Event). standing a l) (append-nil since);
       stop-idle = λ s since.
           since-alike a (Stopped a ∷ t) t (stop-idle a t (is-false _ (λ e. s (i .0 e)))) since .locks 0 (λ by. true);
     }

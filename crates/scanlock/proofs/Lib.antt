@@ -8,4 +8,5 @@ pub mod ImageLaws
 pub mod RefusalLaws
 pub mod Images
 pub mod Agreement
+pub mod Cases
 pub mod Incident

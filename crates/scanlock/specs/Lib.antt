@@ -7,4 +7,5 @@ pub mod Image
 pub mod Calls
 pub mod Images
 pub mod Agreement
+pub mod Cases
 pub mod Incident
