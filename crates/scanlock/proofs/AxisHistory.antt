@@ -1,6 +1,6 @@
 -- One axis and its history: what an accepted event does to the axis is what it does to the locks and the move that the history leaves.
 use Prim.Native.Nat.{ℕ, zero, suc, _+_, _-_, _≤_}
-use mathlib.Core.Path.{_≡_, refl, sym, ap, ap₂, _∙_}
+use mathlib.Core.Path.{_≡_, refl, sym, ap, ap₂, _∙_, subst}
 use mathlib.Core.Bool.{Bool, true, false, cond, not, _&&_, _||_, true≢false, false≢true}
 use mathlib.Core.Logic.{_⊎_, inl, inr, ⊎-elim}
 use mathlib.Core.List.{List, [], _∷_}
@@ -63,20 +63,26 @@ unfolding left motion isUnfinished isHalting
 shows-free a =
     record { locks = λ ends stays. sym (none free ends stays refl); nobody = λ e. refl; nothing = λ e. refl; move = refl; stop = refl }
 
--- ---- an event of another axis
+-- ---- histories that leave the same of axis a
 
-pub record Same (a : ℕ) (t : List Event) (e : Event) : Type 0 where
-  pub locks : (ends : ℕ) (stays : ℕ → Bool) → left a ends stays (e ∷ t) ≡ left a ends stays t
-  pub motion : motion a (e ∷ t) ≡ motion a t
+pub record Alike (a : ℕ) (t t′ : List Event) : Type 0 where
+  pub locks : (ends : ℕ) (stays : ℕ → Bool) → left a ends stays t ≡ left a ends stays t′
+  pub motion : motion a t ≡ motion a t′
 
-pub same-shows : (a : ℕ) (t : List Event) (e : Event) (x : Axis) → Same a t e → Shows a t x → Shows a (e ∷ t) x
-same-shows a t e x o s = record {
+pub alike-shows : (a : ℕ) (t t′ : List Event) (x : Axis) → Alike a t t′ → Shows a t′ x → Shows a t x
+alike-shows a t t′ x o s = record {
   locks = λ ends stays. o .locks ends stays ∙ s .locks ends stays;
   nobody = s .nobody;
   nothing = s .nothing;
   move = s .move ∙ ap isUnfinished (sym (o .motion));
   stop = s .stop ∙ ap isHalting (sym (o .motion));
 }
+
+-- an event that leaves of axis a what was there
+abbrev pub Same : ℕ → List Event → Event → Type 0
+Same a t e = Alike a (e ∷ t) t
+
+-- ---- an event of another axis
 
 module _ (a b : ℕ) (t : List Event) (f : eqb b a ≡ false) where
   pub other-begin : (by : ℕ) → Same a t (Begin by b)
@@ -277,17 +283,36 @@ finished-stop resting = refl
 finished-stop moving = refl
 finished-stop halting = refl
 
-stopped-rests : (m : Motion) → isHalting m ≡ true → (isUnfinished (stopped m) ≡ false) × (isHalting (stopped m) ≡ false)
-unfolding stopped isUnfinished isHalting
+stopped-rests : (m : Motion) → isHalting m ≡ true → stopped m ≡ resting
+unfolding stopped isHalting
 stopped-rests resting e = absurd (false≢true e)
 stopped-rests moving e = absurd (false≢true e)
-stopped-rests halting e = (refl, refl)
+stopped-rests halting e = refl
 
 stopped-stays : (m : Motion) → isHalting m ≡ false → stopped m ≡ m
 unfolding stopped isHalting
 stopped-stays resting e = refl
 stopped-stays moving e = refl
 stopped-stays halting e = absurd (true≢false e)
+
+-- ---- stop reports
+
+module _ (a : ℕ) (t : List Event) where
+  -- of a stopping axis: as if nothing had been
+  pub stop-ends : stopping a t ≡ true → Alike a (Stopped a ∷ t) []
+  unfolding left motion
+  stop-ends q = record {
+    locks = λ ends stays. cond-true _ _ (and-true (eqb a a) _ (eq-eqb a a refl) q);
+    motion = cond-true _ _ (eq-eqb a a refl) ∙ stopped-rests (motion a t) q;
+  }
+
+  -- of another: as if it had not come
+  pub stop-idle : stopping a t ≡ false → Same a t (Stopped a)
+  unfolding left motion
+  stop-idle q = record {
+    locks = λ ends stays. cond-false _ _ (and-false-r (eqb a a) _ q);
+    motion = cond-true _ _ (eq-eqb a a refl) ∙ stopped-stays (motion a t) q;
+  }
 
 -- ---- moves
 
@@ -325,27 +350,11 @@ module _ (a : ℕ) (t : List Event) (x : Axis) (s : Shows a t x) where
   }
 
   pub shows-stopped : Shows a (Stopped a ∷ t) (stoppedOf x)
-  unfolding left motion stoppedOf
+  unfolding stoppedOf
   shows-stopped =
       ⊎-elim
-      (λ (p : x .stopping ≡ true).
-      let q = sym (s .stop) ∙ p in
-      let (m, k) = stopped-rests (motion a t) q in
-      rw p (record {
-        locks = λ ends stays. cond-true _ _ (and-true (eqb a a) _ (eq-eqb a a refl) q) ∙ sym (none free ends stays refl);
-        nobody = λ e. refl;
-        nothing = λ e. refl;
-        move = sym (ap isUnfinished (cond-true _ _ (eq-eqb a a refl)) ∙ m);
-        stop = sym (ap isHalting (cond-true _ _ (eq-eqb a a refl)) ∙ k);
-      }))
+      (λ (p : x .stopping ≡ true). rw p (alike-shows a (Stopped a ∷ t) [] free (stop-ends a t (sym (s .stop) ∙ p)) (shows-free a)))
       (λ (p : x .stopping ≡ false).
-      let q = sym (s .stop) ∙ p in
-      let m = cond-true _ _ (eq-eqb a a refl) ∙ stopped-stays (motion a t) q in
-      rw p (record {
-        locks = λ ends stays. cond-false _ _ (and-false-r (eqb a a) _ q) ∙ s .locks ends stays;
-        nobody = s .nobody;
-        nothing = s .nothing;
-        move = s .move ∙ ap isUnfinished (sym m);
-        stop = sym p ∙ s .stop ∙ ap isHalting (sym m);
-      }))
+      subst (λ (y : Axis). Shows a (Stopped a ∷ t) y) (sym (cond-false free x p))
+      (alike-shows a (Stopped a ∷ t) t x (stop-idle a t (sym (s .stop) ∙ p)) s))
       (which (x .stopping))

@@ -22,7 +22,7 @@ use Rattle.scanlock.specs.declared.Answered.{Answered}
 use Rattle.scanlock.specs.declared.Event.{Event}
 use Rattle.scanlock.specs.declared.Event.the-variants.{View, Begin, End, Start, Abort, Finished, Stopped}
 use Rattle.scanlock.proofs.AnswerLaws.{on-axis, admitted}
-use Rattle.scanlock.proofs.AxisHistory.{Shows, Same, same-shows, shows-free, shows-depth, shows-holder, shows-view, shows-begin, shows-end, shows-start, shows-abort, shows-finished, shows-stopped, other-begin, other-end, other-start, other-abort, other-finished, other-stopped}
+use Rattle.scanlock.proofs.AxisHistory.{Shows, Same, alike-shows, shows-free, shows-depth, shows-holder, shows-view, shows-begin, shows-end, shows-start, shows-abort, shows-finished, shows-stopped, other-begin, other-end, other-start, other-abort, other-finished, other-stopped}
 
 -- the locks st after the accepted events t
 record Kept (n : ℕ) (t : List Event) (st : Locks) : Type 0 where
@@ -71,7 +71,7 @@ module _ (n : ℕ) (t : List Event) (st : Locks) (k : Kept n t st) (e : Event) w
           (λ (p : eqb b a ≡ false).
           let q = eqb-false b a p in
           subst (λ (x : Axis). Shows a (e ∷ t) x) (sym (getD-set-other (st .axes) (b - 1) (a - 1) y free (apart a l q)))
-          (same-shows a t e (axisAt st a) (others a p) (k .each a l h)))
+          (alike-shows a (e ∷ t) t (axisAt st a) (others a p) (k .each a l h)))
           (which (eqb b a));
     }
       where

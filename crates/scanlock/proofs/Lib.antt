@@ -2,9 +2,11 @@ pub mod AnswerLaws
 pub mod CallLaws
 pub mod AxisHistory
 pub mod ByHistory
+pub mod ByEvents
 pub mod SoundLaws
 pub mod ImageLaws
 pub mod RefusalLaws
 pub mod Images
 pub mod Agreement
+pub mod Cases
 pub mod Incident

@@ -14,7 +14,8 @@ use Rattle.scanlock.specs.declared.Event.the-variants.{View, Begin, End,
 
 -- ---- the move of axis a, by the events that were accepted
 
--- what the accepted events leave of an axis's move
+-- What the accepted events leave of an axis's move. This only computes it, event by event: what an unfinished move and a stopping axis are
+-- is stated by the events themselves in specs/ByEvents.antt, and `MotionByEvents` there says that the two agree.
 pub data Motion : Type 0 where
   resting : Motion
   -- a move is unfinished

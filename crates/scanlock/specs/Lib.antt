@@ -2,8 +2,10 @@ pub mod Axis
 pub mod Locks
 pub mod History
 pub mod ByHistory
+pub mod ByEvents
 pub mod Image
 pub mod Calls
 pub mod Images
 pub mod Agreement
+pub mod Cases
 pub mod Incident
