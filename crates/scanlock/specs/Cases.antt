@@ -1,10 +1,11 @@
 -- Document 02, E2, sentence by sentence: a table of what the definitions give and what the sentence says, of a backplane of four modules.
 -- Each line asks the state (`after`, specs/Locks.antt) and the history (specs/History.antt). The checker computes it whole, in proofs/Cases.antt.
 use Prim.Native.Nat.{ℕ}
+use mathlib.Core.Path.{_≡_}
 use mathlib.Core.Bool.{Bool, true, false}
 use mathlib.Core.List.{List, [], _∷_, _++_, reverse}
 use lib.ListN.{replicate}
-use Rattle.agreement.specs.Stars.{Case, case, test}
+use Rattle.agreement.specs.Stars.{Case, case, test, right}
 use Rattle.scanlock.specs.Axis.{axis, free}
 use Rattle.scanlock.specs.Locks.{axisAt, eventOf, joystickOf}
 use Rattle.scanlock.specs.History.{depth, holder, unfinished, stopping, number, accepted, live}
@@ -153,3 +154,7 @@ checkCases = table (
 -- the whole table
 abbrev pub cases : List Case
 cases = lockCases ++ (moveCases ++ (joystickCases ++ checkCases))
+
+-- what is claimed: every line is right
+abbrev pub CasesRight : Type 0
+CasesRight = right cases ≡ true

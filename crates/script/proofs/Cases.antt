@@ -1,6 +1,5 @@
 -- The cases are right, each computed.
-use mathlib.Core.Path.{_≡_, refl}
-use mathlib.Core.Bool.{true}
+use mathlib.Core.Path.{refl}
 use Rattle.words.specs.Word.{wordAt, bytesOf}
 use Rattle.words.specs.Bits.{bit}
 use Rattle.words.specs.Count.{lowest}
@@ -12,12 +11,8 @@ use Rattle.script.specs.Check.{playRefusal, eventRefusal, refusal, scann
 use Rattle.script.specs.Events.{none, concerns, withEvent}
 use Rattle.script.specs.Cursor.{isPlay, lieAfter, eventsAfter, gather, start, advanced, cursorAt}
 use Rattle.script.specs.Rounds.{lastScan, roundsOf}
-use Rattle.script.specs.Cases.{right, cases, heeded, plays}
+use Rattle.script.specs.Cases.{CasesRight}
 
-pub cases-right : right cases ≡ true
-unfolding wordAt bytesOf bit lowest check checkEach moduleFits markFits whole headOk limitOk moduleOk markOk checkHead checkWords checkFront castOk eventOk playOk playRefusal eventRefusal refusal scanned finished scan checkPlay checkScript
-cases-right = refl
-
-pub plays-right : heeded plays ≡ true
+pub cases-right : CasesRight
 unfolding wordAt bytesOf bit lowest updated table check checkEach moduleFits markFits whole headOk limitOk moduleOk markOk checkHead checkWords checkFront castOk eventOk playOk playRefusal eventRefusal refusal scanned finished scan checkPlay checkScript none concerns withEvent isPlay lieAfter eventsAfter gather start advanced cursorAt lastScan roundsOf
-plays-right = refl
+cases-right = record { verdicts = refl; fates = refl }

@@ -1,6 +1,7 @@
 -- Run scripts and their verdicts: cases of numbers 1 to 3 and 12 to 15 of document 01's table of answers, and of their order. Then run scripts and
 -- what their events do in each round. Computed in proofs/Cases.antt.
 use Prim.Native.Nat.{ℕ, _-_}
+use mathlib.Core.Path.{_≡_}
 use mathlib.Core.Bool.{Bool, true, not, _&&_, _||_}
 use mathlib.Core.List.{List, [], _∷_, _++_}
 use lib.Dec.{eqb}
@@ -130,3 +131,8 @@ plays =
     ∷ play (0x8100_000F ∷ 0x9000_0005 ∷ 0x9000_0002 ∷ []) 2 (tells 1 2 1 0x9000_0005 ∷ sent 2 2 1 ∷ [])
     ∷ play (0x8100_000F ∷ 0x7080_000F ∷ 0x9000_0001 ∷ []) 1 (tells 1 2 1 0x7080_000F ∷ sent 1 1 1 ∷ [])
     ∷ play (0x8100_000F ∷ 0x8100_000F ∷ 0x9000_0001 ∷ []) 1 (tells 1 2 1 0x8100_000F ∷ []) ∷ []
+
+-- what is claimed: every script has its verdict, and every word its fate
+pub record CasesRight : Type 0 where
+  pub verdicts : right cases ≡ true
+  pub fates : heeded plays ≡ true
