@@ -3,7 +3,8 @@
 Every function that outsiders can call, and every inner function that another crate calls, has two edits with each of which the prover does
 not prove it. No function of the first kind has a `requires`; one of the second kind that no other crate calls has to be private. And every
 slip in the code that an edit makes is one that the contract of its own function refuses: the prover says of that function that it is not
-proved, whatever else the edit has.
+proved, whatever else the edit has. An edit that makes its slip in definition, code and proofs alike is one for the theorems: every function
+is proved with it, and still it is refused.
 """
 
 import os
@@ -89,7 +90,7 @@ def slips(crate, edit):
     """The functions in whose code an edit makes a slip. Where it says that definition and code have the slip alike, the contract has it too, and
     what refuses it is a law or a case: then none."""
     file, lines = None, text(CRATES, crate, "must-fail", edit + ".edit").splitlines()
-    if lines[0].endswith("though definition and code have it alike"):
+    if lines[0].endswith("though definition and code have it alike") or in_proofs_too(crate, edit):
         return
     for line in lines:
         file = line[6:] if line.startswith("file: ") else file
@@ -99,6 +100,11 @@ def slips(crate, edit):
             for f in functions(source):
                 if f.first <= at <= f.last:
                     yield name_of(crate, file[4:-3], f.struct, f.name)
+
+
+def in_proofs_too(crate, edit):
+    """Whether an edit makes its slip in the proofs too, so that every contract holds and only a theorem or a case can refuse it."""
+    return "\nfile: proofs/" in text(CRATES, crate, "must-fail", edit + ".edit")
 
 
 def name_of(crate, module, struct, name):
@@ -177,9 +183,18 @@ class WrongPrograms(unittest.TestCase):
         for crate in (*LISTED, "bench"):
             for edit in edits(crate):
                 content = text(CRATES, crate, "must-fail", edit + ".edit")
-                if "alike" in content.splitlines()[0]:
+                if "alike" in content.splitlines()[0] or in_proofs_too(crate, edit):
                     with self.subTest(f"{crate} {edit}"):
-                        self.assertEqual({part.split("/")[0] for part in re.findall(r"^file: (\S+)", content, re.M)}, {"specs", "src"})
+                        self.assertLessEqual({"specs", "src"}, {part.split("/")[0] for part in re.findall(r"^file: (\S+)", content, re.M)})
+
+    @unittest.skipUnless(IN_GATE or os.path.isdir(LOGS), "no edit has been tried: rt must-fail does")
+    def test_with_a_slip_in_the_proofs_too_every_function_is_proved(self):
+        for crate in (*LISTED, "bench"):
+            for edit in filter(lambda edit: in_proofs_too(crate, edit), edits(crate)):
+                found = self.tried(crate, edit)
+                if found is not None:
+                    with self.subTest(f"{crate} {edit}"):
+                        self.assertEqual(set(found.values()), {"proved"})
 
     @unittest.skipUnless(IN_GATE or os.path.isdir(LOGS), "no edit has been tried: rt must-fail does")
     def test_each_slip_is_refused_by_the_contract_of_its_own_function(self):

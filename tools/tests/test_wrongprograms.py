@@ -23,7 +23,7 @@ class Page(unittest.TestCase):
         self.assertEqual((done.returncode, done.stderr), (0, b""))
 
     def test_every_edit_has_one_line(self):
-        rows = re.findall(r"^\| (\w+) \| (\w+) \| (?:code|definition|code, definition) \| \S.* \|$", pagetools.read(wrongprograms.PAGE), re.M)
+        rows = re.findall(r"^\| (\w+) \| (\w+) \| (?:code|definition|code, definition|code, definition, proofs) \| \S.* \|$", pagetools.read(wrongprograms.PAGE), re.M)
         folders = os.path.join(ROOT, "crates")
         there = [(crate, name[:-5]) for crate in sorted(os.listdir(folders)) if os.path.isdir(os.path.join(folders, crate, "must-fail"))
                  for name in sorted(os.listdir(os.path.join(folders, crate, "must-fail"))) if name.endswith(".edit")]
