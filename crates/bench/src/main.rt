@@ -57,6 +57,7 @@ fn play(script: &[u8]) -> Written
     write_rounds(run, script)
 }
 
+// `main` can have no contract: that it reads once and plays what was read is read off its first two lines.
 fn main() {
     let input = Input::read();
     let written = input.play();

@@ -68,6 +68,7 @@ pub record Effect (s : List ℕ) (k i j m fate told : ℕ) : Type 0 where
 
 -- ---- of every accepted script
 
+-- which events decide in which round
 pub record Heeded (s : List ℕ) : Type 0 where
   -- all plays together are the script's rounds
   pub rounds : roundsBefore s (length s / 4) ≡ roundsOf s
