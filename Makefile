@@ -42,13 +42,12 @@ rust: library
 harness: rust bench
 	cd harness && CARGO_TARGET_DIR=../target/harness cargo test --release --offline --quiet
 	cd harness && ../$(RUST)/vectors
-	for f in harness/data/calls.txt harness/data/own-calls.txt harness/data/e01-calls.txt; do $(RUST)/vectors --print $$f | diff - $$f || exit 1; done
+	for f in harness/data/*calls.txt; do $(RUST)/vectors --print $$f | diff - $$f || exit 1; done
 	$(RUST)/differential 36500 $(SEED)
 	$(RUST)/locks harness/data/scanlock/calls.txt harness/data/scanlock/own.txt
 	$(RUST)/locks --random 20000 $(SEED)
 	tools/hex2bin examples/sheet.hex | cmp - harness/data/vectors/001-star-sheet.bin
-	$(RUST)/scripts --dir harness/data/vectors $(BENCH)
-	$(RUST)/scripts --dir harness/data/own-scripts $(BENCH)
+	for d in vectors e04 own-scripts; do $(RUST)/scripts --dir harness/data/$$d $(BENCH) || exit 1; done
 	$(RUST)/scripts --long $(BENCH)
 	$(RUST)/scripts 1000 $(SEED) $(BENCH)
 	$(TOOLS_TEST)

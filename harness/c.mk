@@ -10,7 +10,7 @@
 
 PRESENCE_LIB ?= target/staticlib
 PRESENCE_LIBS ?=
-CALLS ?= harness/data/calls.txt harness/data/own-calls.txt harness/data/e01-calls.txt
+CALLS ?= $(sort $(wildcard harness/data/*calls.txt))
 C_BUILD ?= target/c
 
 C_FLAGS = -std=c99 -Wall -Wextra -Werror -Iinclude

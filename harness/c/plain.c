@@ -279,8 +279,8 @@ static uint32_t delay(const struct setup *s)
     return 0;
 }
 
-/* Rule 4: the vote on each module over the present rows of the others. */
-static uint32_t vote(uint32_t n, const bool *present, const uint32_t *row,
+/* Rule 4: the vote on each module over the rows of the others that vote. */
+static uint32_t vote(uint32_t n, const bool *voter, const uint32_t *row,
                      uint32_t own_syndrome)
 {
     uint32_t health = 0, ones, zeros, i, j;
@@ -290,7 +290,7 @@ static uint32_t vote(uint32_t n, const bool *present, const uint32_t *row,
         ones = 0;
         zeros = 0;
         for (i = 0; i < n; i++) {
-            if (i == j || !present[i])
+            if (i == j || !voter[i])
                 continue;
             if (bit(row[i], j))
                 ones++;
@@ -380,7 +380,7 @@ presence_answer plain_step(const uint8_t *state, size_t state_len,
 {
     struct state s;
     presence_answer a = load_state(&s, state, state_len);
-    bool heard[MAX], present[MAX];
+    bool heard[MAX], present[MAX], voter[MAX];
     uint32_t row[MAX], aligned[MAX];
     uint32_t n, u, place, health, syndrome, word, j;
 
@@ -411,15 +411,16 @@ presence_answer plain_step(const uint8_t *state, size_t state_len,
             present[j] = heard[j];
             aligned[j] = row[j];
         }
+        voter[j] = present[j] && bit(s.view, j);
     }
 
     /* Rule 4; the own syndrome of round k-u-1. */
-    health = vote(n, present, aligned, u == 1 ? s.before : s.latest);
+    health = vote(n, voter, aligned, u == 1 ? s.before : s.latest);
 
-    /* Rules 5 and 6. */
+    /* Rules 5 and 6; a module outside the view is not accused. */
     syndrome = 0;
     for (j = 0; j < n; j++)
-        if (present[j] && !is_accused(j, aligned[j], health))
+        if (present[j] && !(voter[j] && is_accused(j, aligned[j], health)))
             syndrome |= 1u << j;
 
     count(&s, health);

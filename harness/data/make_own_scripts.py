@@ -519,10 +519,10 @@ def counter_runs():
     by_hand("eleven-charges", tenfold + [cast()] + by_round(*[[loss(2, ALL)]] * 12),
             [GOOD] + ["1011 1111 in"] * 10 + ["1011 1011 in"],
             "P = 1,000,000: ten charges of 100,000 stay, the eleventh leaves")
-    by_hand("out-of-view-votes", SHEET + [cast(), loss(2, ALL), play(1), loss(2, ALL), play(3), loss(1,
-            of(2, 3)), play(4)], [GOOD, "1011 1111 in", "1011 1011 in", "1111 1011 in", "1111 1011 in",
-            "0111 1011 in", "1110 1011 in", "1111 1011 in"],
-            "2 has left; in round 5 2 and 3 miss 1, so in round 6 rows 2 and 3 vote 0 on 1, row 4 votes 1 and is accused")
+    by_hand("out-of-view-votes-not", SHEET + [cast(), loss(2, ALL), play(1), loss(2, ALL), play(3), loss(1,
+            of(2, 3)), play(4)], [GOOD, "1011 1111 in", "1011 1011 in", "1111 1011 in", "1111 1011 out",
+            "1111 1011 out", "1101 1011 out", "1111 1011 out"],
+            "2 has left; in round 5 2 and 3 miss 1: a = 1, three in the view, out. In round 6 rows 3 and 4 vote 0 and 1 on 1: 1; row 3 is accused, row 2 is not")
     by_hand("nobody-heard-n2", TWO + [cast(), loss(1, 3), loss(2, 3), play(3)],
             ["11 11 in", "00 11 in", "11 11 in"],
             "a = s = 0: in. Round 1: empty votes, own syndromes; round 2: both rows are 00")

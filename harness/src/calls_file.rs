@@ -4,6 +4,16 @@
 use crate::call::{Buffers, Call, Reply};
 use crate::hex::{from_hex, to_hex};
 use crate::model::calls::Functions;
+use std::fs;
+
+/// The calls files of a folder, by name.
+pub fn calls_files(folder: &str) -> Vec<String> {
+    let entries = fs::read_dir(folder).expect("a folder of calls files");
+    let mut files: Vec<String> = entries.map(|entry| entry.unwrap().path().display().to_string()).collect();
+    files.retain(|file| file.ends_with("calls.txt"));
+    files.sort();
+    files
+}
 
 /// A call and what must come out.
 #[derive(Clone, PartialEq, Eq, Debug)]

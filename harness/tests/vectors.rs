@@ -2,7 +2,7 @@
 
 mod common;
 
-use harness::calls_file::{answered, compare, parse};
+use harness::calls_file::{answered, calls_files, compare, parse};
 use harness::model::calls::Model;
 use std::collections::BTreeSet;
 use std::fs;
@@ -12,12 +12,16 @@ fn data(name: &str) -> PathBuf {
     PathBuf::from(env!("CARGO_MANIFEST_DIR")).join("data").join(name)
 }
 
-const CALLS: [&str; 3] = ["calls.txt", "own-calls.txt", "e01-calls.txt"];
+fn all_calls() -> Vec<String> {
+    let files = calls_files(data("").to_str().unwrap());
+    assert_eq!(files.len(), 4);
+    files
+}
 
 #[test]
 fn calls() {
-    for name in CALLS {
-        let text = fs::read_to_string(data(name)).unwrap();
+    for name in all_calls() {
+        let text = fs::read_to_string(name).unwrap();
         let mut lines = 0;
         for text in text.lines() {
             let cases = parse(text).unwrap();
@@ -33,8 +37,8 @@ fn calls() {
 
 #[test]
 fn calls_written_anew() {
-    for name in CALLS {
-        for text in fs::read_to_string(data(name)).unwrap().lines() {
+    for name in all_calls() {
+        for text in fs::read_to_string(name).unwrap().lines() {
             assert_eq!(answered(text, &Model).as_deref(), Ok(text));
         }
     }
@@ -87,7 +91,8 @@ fn outputs(folder: &str) -> Vec<String> {
 
 #[test]
 fn scripts() {
-    assert_eq!(outputs("vectors").len(), 46);
+    assert_eq!(outputs("vectors").len(), 42);
+    assert_eq!(outputs("e04").len(), 17);
 }
 
 /// Own scripts hold every number that a run can be refused by, and runs that end in and out of the limit.

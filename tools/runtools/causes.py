@@ -1,4 +1,4 @@
-"""Why a module was charged, as far as the script shows it, after rules 3 to 6 of document 01.
+"""Why a module was charged, as far as the script shows it, after rules 3 to 6 of document 01 and E4 of document 02.
 
 A charge in round k judges the module's word of round r = k − 2u − 1, by the votes that were sent in round k − u. A vote against it
 has one of three reasons: its word of round r did not reach the voter as sent; or it did, and reported otherwise than the vote on
@@ -69,8 +69,10 @@ def cause(hearing, module, number, judges):
 
 
 def votes(hearing, judge, module, voted):
-    """Rule 4: the rows that vote on the module at this judge, by voter; where there are none, the judge's own syndrome decides."""
-    rows = ((voter, hearing.heard(judge, voter, voted)) for voter in range(1, hearing.n + 1) if voter != module)
+    """Rule 4: the rows that vote on the module at this judge, by voter; where there are none, the judge's own syndrome decides. Only modules in
+    the judge's view before its step vote (document 02, E4)."""
+    voters = (voter for voter in range(1, hearing.n + 1) if voter != module and hearing.votes_at(judge, voter, voted + hearing.u))
+    rows = ((voter, hearing.heard(judge, voter, voted)) for voter in voters)
     return {voter: row for voter, row in rows if row is not None} or {judge: hearing.sent(judge, voted)}
 
 

@@ -1,7 +1,7 @@
-"""What each module sent and heard in every round, from the script's events and the health that the bench printed.
+"""What each module sent and heard in every round, from the script's events and the health and view that the bench printed.
 
-Nothing is voted on here: with the printed health, rules 2, 5 and 6 of document 01 give each module's syndrome, and that is the
-word that it sends in the next round.
+Nothing is voted on here: with the printed health and view, rules 2, 5 and 6 of document 01, as document 02's E4 has them, give each module's
+syndrome, and that is the word that it sends in the next round.
 """
 
 from . import words as w
@@ -19,7 +19,7 @@ class Hearing:
         known = {}
         for number in range(1, len(run.rounds)):
             # rounds alike give the same syndromes, so that long runs need little time
-            key = self.alike(number - self.u), self.alike(number)
+            key = self.alike(number - self.u), self.alike(number), self._views(number - 1)
             if key not in known:
                 known[key] = self._syndromes(number)
             self._sent.append(known[key])
@@ -43,18 +43,29 @@ class Hearing:
         """The health vector that a module printed in a round; all ones before round 1."""
         return w.vector_mask(self.run.rounds[number - 1].rows[module - 1][0]) if number > 0 else w.all_modules(self.n)
 
+    def votes_at(self, receiver, sender, number):
+        """E4: whether a sender's row votes and can be accused in a receiver's step of a round: by its view after the round before."""
+        return bool(self._views(number - 1)[receiver - 1] >> (sender - 1) & 1)
+
+    def _views(self, number):
+        """The view that each module printed in a round; full before round 1."""
+        if number < 1:
+            return self._fresh
+        return tuple(w.vector_mask(row[1]) for row in self.run.rounds[number - 1].rows)
+
     def half_heard(self, sender, number):
         """Document 01: two rule-followers differ in hearing the sender, or hear different words."""
         return len({self.heard(i, sender, number) for i in self.script.followers}) > 1
 
     def _syndromes(self, number):
-        """Rules 5 and 6 at each module: who is heard after alignment, and not accused."""
+        """Rules 5 and 6 at each module: who is heard after alignment, and not accused; nobody outside the view is."""
         modules, aligned = range(1, self.n + 1), number - self.u
-        healths = [self.health(i, number) for i in modules]
+        healths, views = [self.health(i, number) for i in modules], self._views(number - 1)
         as_sent = {health: w.mask_of(j for j in modules if not differing(self.sent(j, aligned), health, j)) for health in set(healths)}
-        found = [as_sent[health] for health in healths]
+        found = [as_sent[health] | w.all_modules(self.n) & ~view for health, view in zip(healths, views)]
         for (sender, receiver), row in self._altered.get(aligned, {}).items():
-            good = row is not None and not differing(row, healths[receiver - 1], sender)
+            outside = not self.votes_at(receiver, sender, number)
+            good = row is not None and (outside or not differing(row, healths[receiver - 1], sender))
             place = w.mask_of([sender])
             found[receiver - 1] = found[receiver - 1] | place if good else found[receiver - 1] & ~place
         return tuple(found)

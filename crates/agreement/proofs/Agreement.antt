@@ -43,13 +43,13 @@ module _ (P : Protocol) (last : ℕ) (R : Rules P last) where
   open Protocol P using (n, u, follows, round, elect, counted, syn, health)
 
   -- A sender that is not half heard in a step's deciding round has the same syndrome bit everywhere.
-  same-bit : (m : ℕ) → ((k : ℕ) → k ≤ m → Agree P k) → (j : ℕ) → j < n → half n follows (round (m - u)) j ≡ false
+  same-bit : (m : ℕ) → m ≤ last → ((k : ℕ) → k ≤ m → Agree P k) → (j : ℕ) → j < n → half n follows (round (m - u)) j ≡ false
       → (l l′ : ℕ) → Follower n follows l → Follower n follows l′ → syn m l j ≡ syn m l′ j
-  same-bit zero ag j hj not-half l l′ fl fl′ = R .start-syn l j fl hj ∙ sym (R .start-syn l′ j fl′ hj)
-  same-bit (suc m) ag j hj not-half l l′ fl fl′ =
+  same-bit zero hm ag j hj not-half l l′ fl fl′ = R .start-syn l j fl hj ∙ sym (R .start-syn l′ j fl′ hj)
+  same-bit (suc m) hm ag j hj not-half l l′ fl fl′ =
       let a = alike n follows (now P (suc m)) j not-half l l′ fl fl′ in
       let c : counted (suc m) l j ≡ counted (suc m) l′ j
-      = R .counting (suc m) l j (λ k h. ag k (omega arith)) fl hj ∙ sym (R .counting (suc m) l′ j (λ k h. ag k (omega arith)) fl′ hj) in
+      = R .counting (suc m) l j hm (λ k h. ag k (omega arith)) fl hj ∙ sym (R .counting (suc m) l′ j hm (λ k h. ag k (omega arith)) fl′ hj) in
       let left = R .marked m l j fl hj in
       let right = R .marked m l′ j fl′ hj in
       ⊎-elim
@@ -72,7 +72,7 @@ module _ (P : Protocol) (last : ℕ) (R : Rules P last) where
 
     votes-elect : (i j l : ℕ) → Follower n follows i → l < n → votes i j l ≡ true → elect (suc k) l ≡ true
     unfolding votes
-    votes-elect i j l fi hl t = sym (R .counting (suc k) i l ag fi hl) ∙ and-l (counted (suc k) i l) _ (and-r (not (eqb l j)) _ t)
+    votes-elect i j l fi hl t = sym (R .counting (suc k) i l hk ag fi hl) ∙ and-l (counted (suc k) i l) _ (and-r (not (eqb l j)) _ t)
 
     -- a reliable row votes, whoever hears it
     ReliableRow : ℕ → ℕ → Type 0
@@ -82,7 +82,7 @@ module _ (P : Protocol) (last : ℕ) (R : Rules P last) where
     unfolding votes ReliableRow
     reliable-votes i j l fi hl s =
         and-true (not (eqb l j)) _ (ap not (s .other))
-        (and-true (counted (suc k) i l) _ (R .counting (suc k) i l ag fi hl ∙ s .elected) (s .hears i fi))
+        (and-true (counted (suc k) i l) _ (R .counting (suc k) i l hk ag fi hl ∙ s .elected) (s .hears i fi))
 
     -- a rule-follower's row says its syndrome
     says-syn : (i j l : ℕ) → Follower n follows i → Follower n follows l → j < n → now P (suc k) .hears i l ≡ true
@@ -162,8 +162,8 @@ module _ (P : Protocol) (last : ℕ) (R : Rules P last) where
         ⊎-elim (λ (e : eqb l j ≡ true). (cc, cc))
         (λ (e : eqb l j ≡ false).
         let a = alike n follows (now P (suc k)) l (not-half e) i i′ fi fi′ in
-        let c = R .counting (suc k) i l ag fi hl in
-        let c′ = R .counting (suc k) i′ l ag fi′ hl in
+        let c = R .counting (suc k) i l hk ag fi hl in
+        let c′ = R .counting (suc k) i′ l hk ag fi′ hl in
         let r = row-alike (not (eqb l j)) (counted (suc k) i l) _ _ _ (λ t. ap (λ w. bit w j) (a .word t)) in
         (cc, cc))
         (which (eqb l j))
@@ -175,7 +175,7 @@ module _ (P : Protocol) (last : ℕ) (R : Rules P last) where
         not-half : half n follows (round (suc k - u - 1 - u)) j ≡ false → health (suc k) i j ≡ health (suc k) i′ j
         not-half c =
             let all : (l : ℕ) → Follower n follows l → syn (suc k - u - 1) l j ≡ syn (suc k - u - 1) i j
-            = λ l fl. same-bit (suc k - u - 1) (λ m h. ag m (omega arith)) j hj c l i fl fi in
+            = λ l fl. same-bit (suc k - u - 1) (omega arith) (λ m h. ag m (omega arith)) j hj c l i fl fi in
             common kept j hj _ all i fi ∙ sym (common kept j hj _ all i′ fi′)
 
         halfheard : half n follows (round (suc k - u - 1 - u)) j ≡ true → health (suc k) i j ≡ health (suc k) i′ j
@@ -229,7 +229,7 @@ module _ (P : Protocol) (last : ℕ) (R : Rules P last) where
       = any-empty n _ (λ h hh. agrees-at (eqb h j) _ _ (λ other.
       R .sent (suc m - u) l j h (omega arith) fl fj hh (here l fl)
       ∙ sym (common m hm (λ k g. ag k (omega arith)) kept h hh _
-      (λ l′ fl′. same-bit (suc m - u - 1) (λ k g. ag k (omega arith)) h hh
+      (λ l′ fl′. same-bit (suc m - u - 1) (omega arith) (λ k g. ag k (omega arith)) h hh
       (ap (λ r. half n follows (round r) h) (omega arith) ∙ not-half h hh other) l′ j fl′ fj) l fl))) in
       R .marked m l j fl (fj .below) ∙ stays-set _ (present P (suc m) l j) _ (here l fl) q
 

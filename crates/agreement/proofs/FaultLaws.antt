@@ -9,18 +9,12 @@ use borrow.Author.Tests.{eqb-true, leb-true, ltb-true, not-true, not-false, eq-e
 use Rattle.words.specs.Count.{count}
 use Rattle.words.proofs.Truth.{clash, which, and-l, and-r, and-true, and-false-r, or-l, or-r, or-cases, or-false-l, or-false-r, beq-eq}
 use Rattle.words.proofs.CountLaws.{any-intro, any-witness, any-empty, count-mono, count-or, count-single}
-use Rattle.agreement.specs.Fault.{Round, differ, half, heard, halfIn, breakerIn, unheardIn, within}
+use Rattle.agreement.specs.Fault.{Round, differ, half, heard, halfIn, breakerIn, unheardIn, within, limit}
 
 -- a module that follows the rules
 pub record Follower (n : ℕ) (follows : ℕ → Bool) (i : ℕ) : Type 0 where
   pub below : i < n
   pub true-to : follows i ≡ true
-
--- The limit with N, s and b counted over those whose rows vote, the electors, and a over all modules.
-unfoldable pub limitOver : ℕ → (ℕ → Bool) → (ℕ → Bool) → Round → Round → Bool
-limitOver n follows elect e e′ =
-    within (count n elect) (count n (halfIn n follows e e′)) (count n (λ l. elect l && breakerIn n follows e e′ l))
-    (count n (λ l. elect l && unheardIn n follows e e′ l))
 
 within-cases : (N a s b : ℕ) → within N a s b ≡ true → (a + s ≡ 0) ⊎ ((a ≤ 1) × (2 * a + 2 * s + b + 1 < N))
 unfolding within
@@ -128,9 +122,9 @@ module _ (n : ℕ) (follows elect : ℕ → Bool) (e e′ : Round) where
       )
 
   -- Where the limit is kept, nobody is at fault; or at most one is half heard, and on each module more rows are reliable than can be at fault.
-  pub limit-cases : limitOver n follows elect e e′ ≡ true
+  pub limit-cases : limit n follows elect e e′ ≡ true
       → (faults ≡ 0) ⊎ ((count n (halfIn n follows e e′) ≤ 1) × ((j : ℕ) → faults < count n (reliable j)))
-  unfolding limitOver
+  unfolding limit
   limit-cases t = ⊎-elim inl (λ h. inr (h .0, λ j. quorum j (h .1))) (within-cases _ _ _ _ t)
 
   -- what a reliable row's sender is

@@ -3,6 +3,7 @@ pub mod Protocol
 pub mod Agreement
 pub mod Steps
 pub mod Aligned
+pub mod Shared
 pub mod Meets
 pub mod Ledger
 pub mod Demand

@@ -2,30 +2,32 @@
 use Prim.Native.Nat.{ℕ, zero, suc, _-_, _^_, _≤_, _<_}
 use mathlib.Core.Path.{_≡_, refl, sym, ap, ap₂, _∙_, subst}
 use mathlib.Core.Bool.{Bool, true, false, not, _&&_, Bool·beq}
-use mathlib.Core.Logic.{inr, ⊎-elim}
+use mathlib.Core.Logic.{inr}
 use native.Mathlib.Omega.{arith}
 use native.Mathlib.Nat.{zero-lt-suc}
 use lib.Dec.{eqb}
 use lib.ListN.{getD}
 use Rattle.words.specs.Bits.{bit, full}
 use Rattle.words.specs.Count.{any}
-use Rattle.words.proofs.Truth.{which}
-use Rattle.words.proofs.BitLaws.{bit-full, bit-ext, bit-mod}
+use Rattle.words.proofs.Truth.{and-r}
+use Rattle.words.proofs.BitLaws.{bit-full, bit-mod}
 use Rattle.words.proofs.CountLaws.{any-ext}
 use Rattle.rules.specs.Hearing.{busWord}
 use Rattle.rules.specs.Vote.{tally, voteOf}
 use Rattle.rules.specs.Accusation.{differsAt}
+use Rattle.rules.specs.Syndrome.{votersOf}
 use Rattle.presence.specs.Opening.{fresh}
 use Rattle.presence.specs.Step.{alignedFor, ownSyndrome, judgementFor, afterRound}
 use Rattle.presence.specs.declared.State.{State}
 use Rattle.rules.proofs.HearingLaws.{below-kind, row-of-bus, entry-bit, entry-row}
-use Rattle.rules.proofs.SyndromeLaws.{health-lt, health-bit, syndrome-bit}
+use Rattle.rules.proofs.SyndromeLaws.{voter-bit, health-bit, syndrome-bit}
 use Rattle.rules.proofs.VoteLaws.{tally-ext}
 use Rattle.agreement.specs.Fault.{half}
-use Rattle.agreement.specs.Session.{Session, Accepted, size, u, RuleFollower, follows, bitIn, wordIn, round, state, health, sent, Bound}
-use Rattle.agreement.proofs.FaultLaws.{Follower, half-none}
-use Rattle.agreement.proofs.Protocol.{Protocol, Rules, Agree}
+use Rattle.agreement.specs.Session.{Session, Accepted, size, u, RuleFollower, follows, bitIn, wordIn, round, state, health, sent, Bound, viewOf}
+use Rattle.agreement.proofs.FaultLaws.{half-none}
+use Rattle.agreement.proofs.Protocol.{Rules}
 use Rattle.agreement.proofs.Steps.{small, held, reading, state-zero, state-suc, health-suc}
+use Rattle.agreement.proofs.Shared.{protocol, rule-follower, counting}
 use Rattle.agreement.proofs.Aligned.{entry, start-hears, start-row, own-size, aligned-hears, aligned-rows, own-is, sent-is}
 
 -- a test matters only where another passed
@@ -33,77 +35,47 @@ and-when : (a b c : Bool) → (a ≡ true → b ≡ c) → a && b ≡ a && c
 and-when true b c h = h refl
 and-when false b c h = refl
 
-module _ (S : Session) where
-  abbrev n : ℕ
-  n = size S
-
-  -- whose rows vote: everybody's
-  abbrev pub protocol : Protocol
-  protocol = record {
-    n = n;
-    u = u S;
-    follows = follows S;
-    round = round S;
-    elect = λ k l. true;
-    counted = λ k i l. true;
-    syn = λ k i j. bit (state S i k .latest) j;
-    health = λ k i j. bit (health S i k) j;
-  }
-
-  pub follower : (i : ℕ) → RuleFollower S i → Follower n (follows S) i
-  follower i f = record { below = f .below; true-to = f .true-to }
-
-  pub rule-follower : (i : ℕ) → Follower n (follows S) i → RuleFollower S i
-  rule-follower i f = record { below = f .below; true-to = f .true-to }
-
 module _ (S : Session) (ok : Accepted S) where
-  -- ---- alike in health, alike in what is counted by it
-
-  health-small : (i k : ℕ) → i < size S → health S i (suc k) < 2 ^ size S
-  unfolding judgementFor
-  health-small i k hi =
-      subst (λ (h : ℕ). h < 2 ^ size S) (sym (health-suc S ok i hi k))
-      (subst (λ (m : ℕ). judgementFor (state S i k) (reading S i (suc k)) .health < 2 ^ m) (own-size S ok i hi k) (health-lt _ _ _))
-
-  pub health-eq : (k : ℕ) → Agree (protocol S) k → (i i′ : ℕ) → RuleFollower S i → RuleFollower S i′ → health S i k ≡ health S i′ k
-  unfolding health
-  health-eq zero ag i i′ fi fi′ = refl
-  health-eq (suc k) ag i i′ fi fi′ =
-      bit-ext (size S) (health S i (suc k)) (health S i′ (suc k)) (health-small i k (fi .below)) (health-small i′ k (fi′ .below))
-      (λ j hj. ag i i′ j (follower S i fi) (follower S i′ fi′) hj)
-
   -- ---- rule 4
+
+  -- whose rows vote: those of modules in the own view that are heard in the deciding round
+  voters-are : (k i l : ℕ) → i < size S → l < size S
+      → bit (votersOf (size S) (viewOf S i k) (alignedFor (state S i k) (reading S i (suc k)))) l
+      ≡ bit (viewOf S i (suc k - 1)) l && round S (suc k - u S) .hears i l
+  voters-are k i l hi hl =
+      let e : k ≡ suc k - 1 = omega arith in
+      voter-bit (size S) (viewOf S i k) (alignedFor (state S i k) (reading S i (suc k))) l hl
+      ∙ ap₂ (λ (v : ℕ) (b : Bool). bit v l && b) (ap (λ (m : ℕ). viewOf S i m) e) (aligned-hears S ok i hi k l hl)
 
   voted : (k i j : ℕ) → i < size S → j < size S
       → bit (health S i (suc k)) j
-      ≡ tally (size S) (λ l. not (eqb l j) && round S (suc k - u S) .hears i l) (λ l. bit (wordIn S (suc k - u S) i l) j)
-      (bit (state S i (suc k - u S - 1) .latest) j)
+      ≡ tally (size S) (λ l. not (eqb l j) && (bit (viewOf S i (suc k - 1)) l && round S (suc k - u S) .hears i l))
+      (λ l. bit (wordIn S (suc k - u S) i l) j) (bit (state S i (suc k - u S - 1) .latest) j)
   unfolding judgementFor voteOf
   voted k i j hi hj =
       let z = own-size S ok i hi k in
       let st = state S i k in
       let a = alignedFor st (reading S i (suc k)) in
-      let b : bit (health S i (suc k)) j ≡ voteOf (size S) (a .heard) (a .rows) (ownSyndrome st) j
-      = ap (λ (h : ℕ). bit h j) (health-suc S ok i hi k) ∙ health-bit (st .setup .n) a (ownSyndrome st) j (subst (λ (m : ℕ). j < m) (sym z) hj)
-      ∙ ap (λ (m : ℕ). voteOf m (a .heard) (a .rows) (ownSyndrome st) j) z in
-      let hears : (l : ℕ) → l < size S → bit (a .heard) l ≡ round S (suc k - u S) .hears i l = λ l hl. aligned-hears S ok i hi k l hl in
+      let voters = votersOf (size S) (viewOf S i k) a in
+      let b : bit (health S i (suc k)) j ≡ voteOf (size S) voters (a .rows) (ownSyndrome st) j
+      = ap (λ (h : ℕ). bit h j) (health-suc S ok i hi k)
+      ∙ health-bit (st .setup .n) (st .counters .view) a (ownSyndrome st) j (subst (λ (m : ℕ). j < m) (sym z) hj)
+      ∙ ap (λ (m : ℕ). voteOf m (votersOf m (st .counters .view) a) (a .rows) (ownSyndrome st) j) z in
       let says : (l : ℕ) → l < size S → round S (suc k - u S) .hears i l ≡ true → bit (getD (a .rows) l 0) j ≡ bit (wordIn S (suc k - u S) i l) j
       = λ l hl t. ap (λ (r : ℕ). bit r j) (aligned-rows S ok i hi k l hl)
       ∙ entry-bit (size S) (bitIn S (suc k - u S) i l) (wordIn S (suc k - u S) i l) j (omega (arith, small S ok)) t in
-      b ∙ tally-ext (size S) _ _ _ _ _ _ (λ l hl. ap (λ (b : Bool). not (eqb l j) && b) (hears l hl))
-      (λ l hl. ap (λ (b : Bool). not (eqb l j) && b && bit (getD (a .rows) l 0) j) (hears l hl) ∙ row-alike l hl _ _ _ (says l hl))
+      b ∙ tally-ext (size S) _ _ _ _ _ _ (λ l hl. ap (λ (b : Bool). not (eqb l j) && b) (voters-are k i l hi hl))
+      (λ l hl. ap (λ (b : Bool). not (eqb l j) && b && bit (getD (a .rows) l 0) j) (voters-are k i l hi hl)
+      ∙ and-when (not (eqb l j) && (bit (viewOf S i (suc k - 1)) l && round S (suc k - u S) .hears i l)) _ _
+      (λ t. says l hl (and-r (bit (viewOf S i (suc k - 1)) l) _ (and-r (not (eqb l j)) _ t))))
       (inr (ap (λ (w : ℕ). bit w j) (own-is S ok i hi k)))
-    where
-      row-alike : (l : ℕ) → l < size S → (h s s′ : Bool) → (h ≡ true → s ≡ s′) → not (eqb l j) && h && s ≡ not (eqb l j) && h && s′
-      row-alike l hl true s s′ e = ap (λ (b : Bool). not (eqb l j) && true && b) (e refl)
-      row-alike l hl false s s′ e = ⊎-elim (λ (t : eqb l j ≡ true). rw t) (λ (f : eqb l j ≡ false). rw f) (which (eqb l j))
 
   -- ---- rules 5 and 6
 
   marked : (k i j : ℕ) → i < size S → j < size S
       → bit (state S i (suc k) .latest) j
       ≡ (round S (suc k - u S) .hears i j
-      && not (round S (suc k - u S) .hears i j
+      && not (bit (viewOf S i (suc k - 1)) j && round S (suc k - u S) .hears i j
       && any (size S) (λ h. not (eqb h j) && not (Bool·beq (bit (wordIn S (suc k - u S) i j) h) (bit (health S i (suc k)) h)))))
   unfolding judgementFor afterRound differsAt
   marked k i j hi hj =
@@ -111,8 +83,10 @@ module _ (S : Session) (ok : Accepted S) where
       let st = state S i k in
       let a = alignedFor st (reading S i (suc k)) in
       let e : state S i (suc k) .latest ≡ judgementFor st (reading S i (suc k)) .syndrome = ap (λ (s : State). s .latest) (state-suc S ok i hi k) in
-      let b = syndrome-bit (st .setup .n) a (ownSyndrome st) j (subst (λ (m : ℕ). j < m) (sym z) hj) (subst (λ (m : ℕ). m ≤ 16) (sym z) (small S ok)) in
+      let b = syndrome-bit (st .setup .n) (st .counters .view) a (ownSyndrome st) j (subst (λ (m : ℕ). j < m) (sym z) hj) (subst (λ (m : ℕ). m ≤ 16) (sym z) (small S ok)) in
       let hears = aligned-hears S ok i hi k j hj in
+      let v : bit (votersOf (st .setup .n) (st .counters .view) a) j ≡ bit (viewOf S i (suc k - 1)) j && round S (suc k - u S) .hears i j
+      = ap (λ (m : ℕ). bit (votersOf m (st .counters .view) a) j) z ∙ voters-are k i j hi hj in
       let r = aligned-rows S ok i hi k j hj in
       let hs = health-suc S ok i hi k in
       let hit : (row health : ℕ) → ℕ → Bool = λ row health h. not (eqb h j) && not (Bool·beq (bit row h) (bit health h)) in
@@ -121,8 +95,8 @@ module _ (S : Session) (ok : Accepted S) where
       = ap (λ (m : ℕ). any m (hit (getD (a .rows) j 0) (judgementFor st (reading S i (suc k)) .health))) z
       ∙ ap₂ (λ (x y : ℕ). any (size S) (hit x y)) r (sym hs) in
       ap (λ (v : ℕ). bit v j) e ∙ b
-      ∙ ap₂ (λ (x y : Bool). x && not (x && y)) hears q
-      ∙ and-when _ _ _ (λ t. ap (λ (x : Bool). not (round S (suc k - u S) .hears i j && x))
+      ∙ ap₂ (λ (x y : Bool). x && not y) hears (ap₂ (λ (x y : Bool). x && y) v q)
+      ∙ and-when _ _ _ (λ t. ap (λ (x : Bool). not (bit (viewOf S i (suc k - 1)) j && round S (suc k - u S) .hears i j && x))
       (any-ext (size S) _ _ (λ h hh. ap (λ (x : Bool). not (eqb h j) && not (Bool·beq x (bit (health S i (suc k)) h)))
       (entry-bit (size S) (bitIn S (suc k - u S) i j) (wordIn S (suc k - u S) i j) h (omega (arith, small S ok)) t))))
 
@@ -169,7 +143,7 @@ module _ (S : Session) (ok : Accepted S) where
     voted = λ k i j fi hj. voted k i j (fi .below) hj;
     marked = λ k i j fi hj. marked k i j (fi .below) hj;
     sent = λ k i l h hk fi fl hh t. says-syn last bound k i l h hk (rule-follower S i fi) (rule-follower S l fl) hh t;
-    counting = λ k i l ag fi hl. refl;
+    counting = λ k i l hk ag fi hl. counting S ok k i l ag (rule-follower S i fi);
     start-hears = start-hears S ok;
     start-not-half = start-not-half;
     start-says = start-says;

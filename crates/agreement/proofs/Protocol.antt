@@ -8,8 +8,8 @@ use lib.Dec.{eqb}
 use Rattle.words.specs.Bits.{bit}
 use Rattle.words.specs.Count.{any}
 use Rattle.rules.specs.Vote.{tally}
-use Rattle.agreement.specs.Fault.{Round, half}
-use Rattle.agreement.proofs.FaultLaws.{Follower, limitOver}
+use Rattle.agreement.specs.Fault.{Round, half, limit}
+use Rattle.agreement.proofs.FaultLaws.{Follower}
 
 pub record Protocol : Type 0 where
   pub n : ℕ
@@ -47,7 +47,7 @@ rowDiffers P k i j = any (P .n) (λ h. not (eqb h j) && not (Bool·beq (says P k
 
 -- The limit for the deciding round of step k, which is k - u; it is asked for only where that round is not before the first.
 abbrev pub Kept : Protocol → ℕ → Type 0
-Kept P k = (k - P .u ≡ 0) ⊎ (limitOver (P .n) (P .follows) (P .elect k) (now P k) (past P k) ≡ true)
+Kept P k = (k - P .u ≡ 0) ⊎ (limit (P .n) (P .follows) (P .elect k) (now P k) (past P k) ≡ true)
 
 -- Rules 4 to 7, and what binds the words, up to round `last`.
 pub record Rules (P : Protocol) (last : ℕ) : Type 0 where
@@ -57,7 +57,7 @@ pub record Rules (P : Protocol) (last : ℕ) : Type 0 where
       → P .syn (suc k) i j ≡ (now P (suc k) .hears i j && not (present P (suc k) i j && rowDiffers P (suc k) i j))
   pub sent : (k i l h : ℕ) → k ≤ last → Follower (P .n) (P .follows) i → Follower (P .n) (P .follows) l → h < P .n → P .round k .hears i l ≡ true
       → bit (P .round k .word i l) h ≡ P .syn (k - 1) l h
-  pub counting : (k i l : ℕ) → ((m : ℕ) → m < k → Agree P m) → Follower (P .n) (P .follows) i → l < P .n → P .counted k i l ≡ P .elect k l
+  pub counting : (k i l : ℕ) → k ≤ last → ((m : ℕ) → m < k → Agree P m) → Follower (P .n) (P .follows) i → l < P .n → P .counted k i l ≡ P .elect k l
   pub start-hears : (i j : ℕ) → P .round 0 .hears i j ≡ true
   pub start-not-half : (j : ℕ) → half (P .n) (P .follows) (P .round 0) j ≡ false
   pub start-says : (i l h : ℕ) → h < P .n → bit (P .round 0 .word i l) h ≡ true

@@ -1,4 +1,4 @@
--- Demand 3: what a session promises while the fault limit is kept. (document 01, "A session")
+-- Demand 3: what a session promises while the fault limit is kept. (document 01, "A session"; document 02, E4)
 -- Proved in proofs/Demand.antt; docs/THEOREM.md sets each line beside the sentence of document 01 that it is.
 use Prim.Native.Nat.{ℕ, suc, _+_, _-_, _*_, _^_, _≤_, _<_}
 use mathlib.Core.Path.{_≡_}
@@ -7,7 +7,7 @@ use mathlib.Core.Logic.{_≢_}
 use Rattle.words.specs.Bits.{bit}
 use Rattle.presence.specs.Opening.{openOf}
 use Rattle.presence.specs.declared.State.{State}
-use Rattle.agreement.specs.Session.{Session, Accepted, size, u, RuleFollower, round, answer, state, health, Bound, unheard, halfHeard, kept}
+use Rattle.agreement.specs.Session.{Session, Accepted, size, u, RuleFollower, round, answer, state, health, Bound, unheard, halfHeard, keptBy, kept}
 use Rattle.agreement.specs.Life.{Life}
 
 module _ (S : Session) where
@@ -45,3 +45,6 @@ pub record Demand3 : Type 0 where
   pub served : (S : Session) → Accepted S → (i : ℕ) → i < size S → Served S i
   -- the rule-followers of a session that is bound up to round `last`, after each of these rounds while the limit is kept
   pub agreement : (S : Session) → Accepted S → (last : ℕ) → Bound S last → (k : ℕ) → 0 < k → k ≤ last → KeptTo S k → Agreement S k
+  -- "the rule-followers' view": as long as the limit was kept for the rounds before ρ, it is kept for ρ or not by whichever rule-follower's view
+  pub one-view : (S : Session) → Accepted S → (last : ℕ) → Bound S last → (ρ : ℕ) → 0 < ρ → ρ + u S - 1 ≤ last
+      → ((r : ℕ) → 0 < r → r < ρ → kept S r ≡ true) → (i : ℕ) → RuleFollower S i → keptBy S i ρ ≡ kept S ρ

@@ -1,4 +1,4 @@
--- The fault limit. (document 01, "Fault limit")
+-- The fault limit. (document 01, "Fault limit"; document 02, E4)
 -- A module is its number less one here, as in a vector: module j + 1 is bit j.
 use Prim.Native.Nat.{ℕ, _+_, _*_}
 use mathlib.Core.Bool.{Bool, not, _&&_, _||_, Bool·beq}
@@ -42,7 +42,8 @@ module _ (n : ℕ) (follows : ℕ → Bool) where
 unfoldable pub within : ℕ → ℕ → ℕ → ℕ → Bool
 within n a s b = eqb (a + s) 0 || (leb a 1 && ltb (2 * a + 2 * s + b + 1) n)
 
--- the limit over a round and the round u + 1 before it
-unfoldable pub limit : ℕ → (ℕ → Bool) → Round → Round → Bool
-limit n follows r r′ =
-    within n (count n (halfIn n follows r r′)) (count n (breakerIn n follows r r′)) (count n (unheardIn n follows r r′))
+-- the limit over a round and the round u + 1 before it: N, s and b are taken over the modules in a view, and a over all modules
+unfoldable pub limit : ℕ → (ℕ → Bool) → (ℕ → Bool) → Round → Round → Bool
+limit n follows inView r r′ =
+    within (count n inView) (count n (halfIn n follows r r′)) (count n (λ j. inView j && breakerIn n follows r r′ j))
+    (count n (λ j. inView j && unheardIn n follows r r′ j))

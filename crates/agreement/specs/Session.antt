@@ -1,5 +1,5 @@
 -- A session: an accepted setup, any cast, and for each round, sender and rule-follower a controller bit and a word of any bits.
--- (document 01, "A session")
+-- (document 01, "A session"; the fault limit as document 02, E4, has it)
 -- A module is its number less one here: i, j and l stand for modules i + 1, j + 1 and l + 1.
 -- Rounds are 1, 2 and on. Round 0 stands for every round before 1, in which all hear all, with all-ones words: so a difference of
 -- rounds such as k - u - 1, which stops at 0, is right as it stands.
@@ -11,6 +11,7 @@ use lib.Dec.{ltb}
 use lib.ListN.{getD}
 use Rattle.words.specs.Word.{bytesOf}
 use Rattle.words.specs.Bits.{bit, pack, full}
+use Rattle.words.specs.Count.{lowest}
 use Rattle.setup.specs.Check.{setupVerdict}
 use Rattle.setup.specs.declared.Setup.{Setup}
 use Rattle.rules.specs.Lag.{lag}
@@ -124,6 +125,19 @@ module _ (S : Session) where
   abbrev pub halfHeard : ℕ → ℕ → Bool
   halfHeard k j = half size follows (round k) j
 
-  -- the limit is kept for round ρ, over rounds ρ and ρ - u - 1
-  unfoldable pub kept : ℕ → Bool
-  kept ρ = limit size follows (round ρ) (round (ρ - u - 1))
+  -- the view that module i holds at the end of round k
+  abbrev pub viewOf : ℕ → ℕ → ℕ
+  viewOf i k = state i k .counters .view
+
+  -- the limit is kept for round ρ, over rounds ρ and ρ - u - 1, with N, s and b taken over the view that module i holds at the end of round ρ + u - 1
+  unfoldable pub keptBy : ℕ → ℕ → Bool
+  keptBy i ρ = limit size follows (bit (viewOf i (ρ + u - 1))) (round ρ) (round (ρ - u - 1))
+
+  -- the lowest rule-follower; where there is none it does not matter who this is, since then a and s are 0
+  abbrev pub firstFollower : ℕ
+  firstFollower = lowest size follows - 1
+
+  -- The limit for round ρ by the rule-followers' view, which is that of the lowest of them: as long as the limit was kept for the rounds before ρ
+  -- all of them hold the same (`one-view` of Demand.antt).
+  abbrev pub kept : ℕ → Bool
+  kept ρ = keptBy firstFollower ρ

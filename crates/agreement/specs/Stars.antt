@@ -16,8 +16,10 @@ use Rattle.setup.specs.Check.{checkSetup}
 use Rattle.setup.specs.declared.Setup.{Setup}
 use Rattle.rules.specs.Hearing.{busWord, wordHeard}
 use Rattle.rules.specs.Vote.{voteOf}
+use Rattle.rules.specs.Syndrome.{judgementOf}
 use Rattle.rules.specs.Account.{countersOf}
 use Rattle.presence.specs.Opening.{fresh}
+use Rattle.rules.specs.declared.Judgement.{Judgement}
 use Rattle.rules.specs.declared.Counters.{Counters}
 use Rattle.agreement.specs.Session.{Session, size, u, follows, round, wordIn, state, health, sent, Bound, kept}
 use Rattle.agreement.specs.Demand.{KeptTo}
@@ -308,6 +310,62 @@ lateCases =
     ∷ test (kept lateRun 4) true ∷ test (kept lateRun 5) false ∷ test (keptTo lateRun 2) true ∷ test (keptTo lateRun 3) false
     ∷ test (keptForStep lateRun 3) true ∷ test (keptForStep lateRun 4) false ∷ []
 
+-- ---- not starred (document 02, E4): module 2 is outside the view, and its row says otherwise than the rows of modules 3 and 4 do together
+
+-- what module 1 makes of these rows, all heard, by this view
+abbrev pub struckOff : ℕ → Judgement
+struckOff view = judgementOf 4 view (record { heard = 15; rows = 15 ∷ 6 ∷ 15 ∷ 14 ∷ [] }) 15
+
+-- On module 1 the rows of 3 and 4 say 1 and 0, which is a tie; with that of module 2 it is 1, 0, 0. Module 2, whose row differs at module 4, is not
+-- accused, and its bit is set.
+abbrev pub struckOffCases : List Case
+struckOffCases =
+    case (printed 4 (struckOff 13 .health)) 1111 ∷ case (printed 4 (struckOff 15 .health)) 111
+    ∷ case (getD (struckOff 13 .accusations) 1 9) 0 ∷ case (getD (struckOff 15 .accusations) 1 9) 4
+    ∷ case (printed 4 (struckOff 13 .syndrome)) 1110 ∷ case (printed 4 (struckOff 15 .syndrome)) 1001 ∷ []
+
+-- ---- not starred (document 02, E4): the fault limit by the view, in round 4 with u = 0, over rounds 4 and 3
+
+-- A session of n modules in which nobody hears the modules `off` in rounds 1 to m; so they are charged in steps 2 and 3 and leave the view in
+-- step 3. Besides somebody may not hear somebody in round 4 (`hears`). The words of a round say who was heard in the round before.
+abbrev pub struckRun : ℕ → ℕ → ℕ → ℕ → (ℕ → ℕ → ℕ → Bool) → Session
+struckRun n cast off m hears =
+    castSession cast (like n 0 (replicate 16 n)) (λ k i j. not (bit off j && leb k m) && hears k i j)
+    (λ k j. cond (leb 2 k && leb k (m + 1)) (full n - off) (full n))
+
+-- such a session is bound, the view after round 3 lacks those modules, and the limit in round 4 is kept, or is not
+abbrev pub struckCase : ℕ → ℕ → ℕ → ℕ → (ℕ → ℕ → ℕ → Bool) → Bool → List Case
+struckCase n cast off m hears says =
+    let S = struckRun n cast off m hears in
+    test (bound S 4) true ∷ case (state S 0 3 .counters .view) (full n - off) ∷ test (keptTo S 3) true ∷ test (kept S 4) says ∷ []
+
+-- Module 1 is half heard in round 4, a = 1, and modules are struck off: N > 3 is asked of those that are left.
+abbrev pub leftCases : List Case
+leftCases =
+    -- one of four is struck off, then one of five
+    struckCase 4 0 2 2 (missed 2 0 4) false ++ (struckCase 5 0 2 2 (missed 2 0 4) true
+    -- two of four, of five and of six
+    ++ (struckCase 4 0 10 2 (missed 2 0 4) false ++ (struckCase 5 0 10 2 (missed 2 0 4) false ++ (struckCase 6 0 10 2 (missed 2 0 4) true
+    -- the one that is struck off stays unheard, and does not count in b
+    ++ (struckCase 4 0 2 4 (missed 2 0 4) false ++ (struckCase 5 0 2 4 (missed 2 0 4) true
+    -- it breaks the rules and is heard, and does not count in s; one in the view that breaks them does
+    ++ (struckCase 4 2 2 2 (missed 2 0 4) false ++ (struckCase 5 2 2 2 (missed 2 0 4) true ++ (struckCase 5 8 2 2 (missed 2 0 4) false
+    -- the one half heard is itself struck off: a counts it all the same
+    ++ (struckCase 4 0 2 2 (missed 2 1 4) false ++ struckCase 5 0 2 2 (missed 2 1 4) true))))))))))
+
+-- ---- not starred (document 02, E4): u = 1, module 2, unheard in rounds 1 and 2, leaves the view in step 5; in round 5 module 1 is half heard. The rows
+-- of round 5 are counted by the view at the end of round 5, so three are left; by that of round 4 it were four.
+abbrev pub leavesRun : Session
+leavesRun =
+    session (like 4 0 (0 ∷ 0 ∷ 0 ∷ 0 ∷ [])) (λ k i j. not (eqb j 1 && leb k 2) && missed 2 0 5 k i j)
+    (λ k j. getD (15 ∷ 15 ∷ 15 ∷ 13 ∷ 13 ∷ []) k 15)
+
+-- the session is bound; the views after rounds 4 and 5; the limit is kept up to round 4 and not in round 5
+abbrev pub leavesCases : List Case
+leavesCases =
+    test (bound leavesRun 5) true ∷ views leavesRun 4 1111
+    ++ (views leavesRun 5 1011 ++ (test (keptTo leavesRun 4) true ∷ test (kept leavesRun 5) false ∷ []))
+
 -- ---- the whole table
 
 -- document 01's starred cases
@@ -321,9 +379,13 @@ limitCases =
     nobodyCases ++ (breakerCases ++ (onceHeardCases ++ (neverHeardCases ++ (halfHeardCases ++ (breakerHearsCases
     ++ (twoHalfCases ++ (twoWordsCases ++ lateCases)))))))
 
+-- document 02's E4
+abbrev pub struckCases : List Case
+struckCases = struckOffCases ++ (leftCases ++ leavesCases)
+
 -- all of it
 abbrev pub stars : List Case
-stars = starred ++ (emptyCases ++ (ownRowCases ++ (boundCases ++ limitCases)))
+stars = starred ++ (emptyCases ++ (ownRowCases ++ (boundCases ++ (limitCases ++ struckCases))))
 
 -- what is claimed: every line is right
 abbrev pub StarsRight : Type 0

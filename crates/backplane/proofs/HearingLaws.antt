@@ -19,8 +19,8 @@ use Rattle.rules.specs.Hearing.{wordHeard, entryOf}
 use Rattle.rules.proofs.HearingLaws.{entry-heard}
 use Rattle.agreement.specs.Fault.{differ, half, heard}
 use Rattle.backplane.specs.Bus.{bitTo, wordTo, roundOf}
-use Rattle.backplane.specs.Limit.{followsIn}
-use Rattle.backplane.specs.Heard.{heardWord, heardWords, firstFollower, otherwise}
+use Rattle.backplane.specs.Limit.{followsIn, firstFollower}
+use Rattle.backplane.specs.Heard.{heardWord, heardWords, otherwise}
 use Rattle.backplane.specs.declared.Bus.{Bus}
 
 -- ---- a heard word is not 0, so the words as heard tell who hears what
@@ -99,6 +99,10 @@ module _ (n cast : ℕ) where
 
 -- ---- the code's masks are document 01's
 
+pub first-small : (n cast : ℕ) → n ≤ 16 → firstFollower n cast < 16
+unfolding firstFollower
+first-small n cast h = let l = lowest-le (followsIn cast) n in omega arith
+
 module _ (n cast : ℕ) (b : Bus) (small : n ≤ 16) where
   -- receiver i's word of sender j as heard
   entry : (i j : ℕ) → i < 16 → j < 16 → getD (heardWords n (b .bits) (b .words)) (i * 16 + j) 0 ≡ heardWord n (bitTo b i j) (wordTo b i j)
@@ -114,16 +118,12 @@ module _ (n cast : ℕ) (b : Bus) (small : n ≤ 16) where
   abbrev words : List ℕ
   words = heardWords n (b .bits) (b .words)
 
-  pub first-small : firstFollower n cast < 16
-  unfolding firstFollower
-  first-small = let h = lowest-le (followsIn cast) n in omega arith
-
   half-as : (j : ℕ) → j < n → otherwise n cast words j (getD words (firstFollower n cast * 16 + j) 0) ≡ half n (followsIn cast) (roundOf n b) j
   unfolding half differ roundOf otherwise
   half-as j hj =
       any-ext n _ _
       (λ i hi.
-      ap₂ (λ (x y : ℕ). followsIn cast i && not (eqb x y)) (entry i j (omega arith) (omega arith)) (entry (firstFollower n cast) j first-small (omega arith)))
+      ap₂ (λ (x y : ℕ). followsIn cast i && not (eqb x y)) (entry i j (omega arith) (omega arith)) (entry (firstFollower n cast) j (first-small n cast small) (omega arith)))
       ∙ sym (pairs n cast (λ i. key i j))
       ∙ any-ext n _ _
       (λ i hi.

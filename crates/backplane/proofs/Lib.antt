@@ -1,4 +1,5 @@
 pub mod HearingLaws
+pub mod LimitLaws
 pub mod PlayLaws
 pub mod RoundLaws
 pub mod StartLaws

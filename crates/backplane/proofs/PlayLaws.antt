@@ -1,7 +1,7 @@
 -- A backplane put together from what the functions of a round answer.
 use Prim.Native.Nat.{ℕ, _+_, _<_, _≤_}
 use mathlib.Core.Path.{_≡_, ap, ap₂, _∙_}
-use mathlib.Core.Bool.{Bool, true, _&&_}
+use mathlib.Core.Bool.{Bool, true, cond, _&&_}
 use mathlib.Core.List.{List, _++_}
 use native.Mathlib.Omega.{arith}
 use native.Mathlib.Nat.{le-refl}
@@ -12,12 +12,13 @@ use Rattle.words.specs.Array.{array}
 use Rattle.words.specs.Table.{updated}
 use Rattle.words.proofs.TableLaws.{updated-above, getD-there}
 use Rattle.setup.specs.declared.Setup.{Setup}
+use Rattle.rules.specs.Lag.{skewed}
 use Rattle.presence.specs.Opening.{blank}
 use Rattle.presence.specs.declared.State.{State}
 use Rattle.script.specs.declared.Events.{Events}
 use Rattle.backplane.specs.Bus.{faultless, arrived}
 use Rattle.backplane.specs.Limit.{hearingOf, keptOver}
-use Rattle.backplane.specs.Play.{openedStates, opened, sentWords, steppedStates, answeredHealth, earlier, played}
+use Rattle.backplane.specs.Play.{openedStates, opened, sentWords, steppedStates, answeredHealth, earlier, followersView, countingView, played}
 use Rattle.backplane.specs.declared.Bus.{Bus}
 use Rattle.backplane.specs.declared.Hearing.{Hearing}
 use Rattle.backplane.specs.declared.Backplane.{Backplane}
@@ -58,6 +59,13 @@ module _ (s : Setup) (cast : ℕ) where
       ap₂ (λ (x : List State) (y : List ℕ). first x y bus hearing) e1 e2
       ∙ ap₂ (λ (x : Bus) (y : Hearing). first (openedStates s) (array (s .n) (λ i. full (s .n))) x y) e3 (e4 ∙ ap (hearingOf (s .n) cast) e3)
 
+-- the view by which rows are counted, from the two that are at hand
+pub counting-made : (b : Backplane) (after : List State) {skew : Bool} {x y r : ℕ} → r ≡ cond skew x y → skew ≡ skewed (b .setup .n) (b .setup .places)
+    → x ≡ followersView (b .setup .n) (b .cast) after → y ≡ followersView (b .setup .n) (b .cast) (b .states) → r ≡ countingView b after
+unfolding countingView
+counting-made b after {skew} {x} {y} {r} e s p q =
+    e ∙ ap (λ (t : Bool). cond t x y) s ∙ ap₂ (λ (v w : ℕ). cond (skewed (b .setup .n) (b .setup .places)) v w) p q
+
 -- played
 module _ (b : Backplane) (e : Events) where
   abbrev next : List State → List ℕ → Bus → Hearing → Bool → Backplane
@@ -82,16 +90,18 @@ module _ (b : Backplane) (e : Events) where
   abbrev this : Bus
   this = arrived (b .setup .n) (sentWords (b .setup .n) (b .states)) e
 
-  pub play-made : {stepped : List State} {answered : List ℕ} {sent : List ℕ} {bus : Bus} {hearing then : Hearing} {kept : Bool}
+  pub play-made : {stepped : List State} {answered : List ℕ} {sent : List ℕ} {bus : Bus} {hearing then : Hearing} {view : ℕ} {kept : Bool}
       → sent ≡ sentWords (b .setup .n) (b .states) → bus ≡ arrived (b .setup .n) sent e
       → stepped ≡ steppedStates (b .setup) (b .states) bus (b .bus) → answered ≡ answeredHealth (b .setup) (b .states) bus (b .bus) → hearing ≡ hearingOf (b .setup .n) (b .cast) bus
-      → then ≡ earlier b → kept ≡ keptOver (b .setup .n) (b .cast) hearing then
+      → view ≡ countingView b stepped → then ≡ earlier b → kept ≡ keptOver (b .setup .n) (b .cast) view hearing then
       → next stepped answered bus hearing kept ≡ played b e
   unfolding played
-  play-made {stepped} {answered} {sent} {bus} {hearing} {then} {kept} e0 e1 e2 e3 e4 e5 e6 =
+  play-made {stepped} {answered} {sent} {bus} {hearing} {then} {view} {kept} e0 e1 e2 e3 e4 v e5 e6 =
       let n = b .setup .n in
       let q : bus ≡ this = e1 ∙ ap (λ (x : List ℕ). arrived n x e) e0 in
       let h : hearing ≡ hearingOf n (b .cast) this = e4 ∙ ap (hearingOf n (b .cast)) q in
+      let w : view ≡ countingView b (states this) = v ∙ ap (countingView b) (e2 ∙ ap states q) in
       ap₂ (λ (x : List State) (y : List ℕ). next x y bus hearing kept) (e2 ∙ ap states q) (e3 ∙ ap health q)
       ∙ ap₂ (λ (x : Bus) (y : Hearing). next (states this) (health this) x y kept) q h
-      ∙ ap (λ (x : Bool). next (states this) (health this) this (hearingOf n (b .cast) this) x) (e6 ∙ ap₂ (keptOver n (b .cast)) h e5)
+      ∙ ap (λ (x : Bool). next (states this) (health this) this (hearingOf n (b .cast) this) x) (e6 ∙ ap (λ (x : ℕ). keptOver n (b .cast) x hearing then) w
+      ∙ ap₂ (keptOver n (b .cast) (countingView b (states this))) h e5)

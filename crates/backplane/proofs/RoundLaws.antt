@@ -96,9 +96,13 @@ module _ (S : Session) (ok : Accepted S) where
         (ap₂ (λ (x y : Bool). not x && y) (breaker-as j hj)
         (ap₂ (λ (x y : Bool). not x || not y) (c .is-heard j hj) (c′ .is-heard j hj)))
 
-    pub limit-as : keptOver n (S .cast) h h′ ≡ limit n (follows S) (round S k) (round S k′)
+    pub limit-as : (view : ℕ) → keptOver n (S .cast) view h h′ ≡ limit n (follows S) (bit view) (round S k) (round S k′)
     unfolding keptOver limit
-    limit-as = rw (count-ext n _ _ half-as, count-ext n _ _ breaker-as, count-ext n _ _ unheard-as) refl
+    limit-as view =
+        let a = count-ext n _ _ half-as in
+        let s = count-ext n _ _ (λ j hj. ap (λ (x : Bool). bit view j && x) (breaker-as j hj)) in
+        let u = count-ext n _ _ (λ j hj. ap (λ (x : Bool). bit view j && x) (unheard-as j hj)) in
+        rw (a, s, u) refl
 
   -- ---- the bus
 

@@ -15,6 +15,7 @@ use Rattle.words.proofs.Truth.{and-l, and-r, and-true, and-false-r, cond-true}
 use Rattle.words.proofs.BitLaws.{bit-full}
 use Rattle.words.proofs.ArrayLaws.{array-at}
 use Rattle.words.proofs.CountLaws.{all-at}
+use Rattle.words.proofs.LowestLaws.{lowest-le}
 use Rattle.words.proofs.TableLaws.{table-at, updated-at, updated-length}
 use Rattle.setup.specs.Verdict.{accepted}
 use Rattle.setup.specs.Setup.{setupOf}
@@ -32,16 +33,17 @@ use Rattle.script.specs.Effect.{fateIn, toldIn}
 use Rattle.script.specs.declared.Cursor.{Cursor}
 use Rattle.script.specs.declared.Events.{Events}
 use Rattle.script.proofs.CastLaws.{only-cast, plays-all}
-use Rattle.agreement.specs.Session.{Session, Accepted, size, u, bitIn, wordIn, state, health, kept}
+use Rattle.agreement.specs.Fault.{limit}
+use Rattle.agreement.specs.Session.{Session, Accepted, size, u, follows, bitIn, wordIn, round, state, health, viewOf, keptBy, firstFollower, kept}
 use Rattle.agreement.specs.Life.{Life, opens, steps}
 use Rattle.agreement.specs.Demand.{KeptTo}
 use Rattle.agreement.specs.Existence.{Choice}
-use Rattle.agreement.proofs.Steps.{small}
+use Rattle.agreement.proofs.Steps.{small, setup-fits}
 use Rattle.agreement.proofs.Demand.{demand-3}
 use Rattle.agreement.proofs.Existence.{existence}
 use Rattle.backplane.specs.Bus.{faultless, arrived}
 use Rattle.backplane.specs.Limit.{hearingOf, keptOver}
-use Rattle.backplane.specs.Play.{stateAt, openedStates, opened, sentWords, steppedStates, answeredHealth, earlier, played}
+use Rattle.backplane.specs.Play.{stateAt, openedStates, opened, sentWords, steppedStates, answeredHealth, earlier, followersView, countingView, played}
 use Rattle.backplane.specs.Run.{begun, goesOn, nextOf, later, runAt}
 use Rattle.backplane.specs.Session.{PlayedBy, HasSession, Carries, Hears, Holds, PlaysSession, InAgrees}
 use Rattle.backplane.specs.declared.Backplane.{Backplane}
@@ -97,8 +99,28 @@ module _ (S : Session) (ok : Accepted S) where
       go true = let e : suc k - 1 - 1 ≡ k - 1 = omega arith in rw e (h .before)
       go false = let e : suc k - 0 - 1 ≡ k = omega arith in rw e (h .holds .hearing)
 
+  -- the rule-followers' view, in states after round m
+  view-as : (states : List State) (m : ℕ) → ((i : ℕ) → i < n → stateAt states i ≡ state S i m) → followersView n (S .cast) states ≡ viewOf S (firstFollower S) m
+  unfolding followersView Rattle.backplane.specs.Limit.firstFollower
+  view-as states m are =
+      let most = lowest-le (follows S) n in
+      let least = setup-fits S ok .least in
+      ap (λ (x : State). x .counters .view) (are (firstFollower S) (omega arith))
+
+  -- the view by which the rows of round k + 1 are counted is that at the end of round k + 1 + u - 1
+  counting-as : (k : ℕ) (b : Backplane) → Shows k b → (after : List State) → ((i : ℕ) → i < n → stateAt after i ≡ state S i (suc k))
+      → countingView b after ≡ viewOf S (firstFollower S) (suc k + u S - 1)
+  unfolding countingView
+  counting-as k b h after are =
+      ap₂ (λ (x : Setup) (y : ℕ). cond (skewed (x .n) (x .places)) (followersView (x .n) y after) (followersView (x .n) y (b .states))) (h .holds .setup) (h .cast)
+      ∙ go (skewed n (S .setup .places))
+    where
+      go : (t : Bool) → cond t (followersView n (S .cast) after) (followersView n (S .cast) (b .states)) ≡ viewOf S (firstFollower S) (suc k + b2n t - 1)
+      go true = let e : suc k ≡ suc k + 1 - 1 = omega arith in view-as after (suc k) are ∙ ap (λ (m : ℕ). viewOf S (firstFollower S) m) e
+      go false = let e : k ≡ suc k + 0 - 1 = omega arith in view-as (b .states) k (h .holds .states) ∙ ap (λ (m : ℕ). viewOf S (firstFollower S) m) e
+
   shows-next : (k : ℕ) (b : Backplane) (e : Events) → Shows k b → Tells S ok k e → Shows (suc k) (played b e)
-  unfolding played steppedStates all kept
+  unfolding played steppedStates all keptBy
   shows-next k b e h t =
       let s = h .holds .setup in
       let this = arrived (b .setup .n) (sentWords (b .setup .n) (b .states)) e in
@@ -106,18 +128,22 @@ module _ (S : Session) (ok : Accepted S) where
       let c : Carries S (suc k) this = subst (Carries S (suc k)) (sym q) (carries S ok k (b .states) (h .holds .states) e t) in
       let heard : Hears S (suc k) (hearingOf (b .setup .n) (b .cast) this) =
       subst (Hears S (suc k)) (sym (ap₂ (λ (x : Setup) (y : ℕ). hearingOf (x .n) y this) s (h .cast))) (hears-bus S ok (suc k) this c) in
-      let limit : keptOver (b .setup .n) (b .cast) (hearingOf (b .setup .n) (b .cast) this) (earlier b) ≡ kept S (suc k) =
-      ap₂ (λ (x : Setup) (y : ℕ). keptOver (x .n) y (hearingOf (b .setup .n) (b .cast) this) (earlier b)) s (h .cast)
-      ∙ limit-as S ok (suc k) (suc k - u S - 1) _ _ heard (earlier-hears k b h) in
+      let after = steppedStates (b .setup) (b .states) this (b .bus) in
+      let are : (i : ℕ) → i < n → stateAt after i ≡ state S i (suc k) = λ i hi.
+      ap (λ (x : Setup). stateAt (steppedStates x (b .states) this (b .bus)) i) s
+      ∙ states-as S ok k (b .states) (h .holds .states) this (b .bus) c (h .holds .bus) (h .entries) i hi in
+      let view = countingView b after in
+      let limit : keptOver (b .setup .n) (b .cast) view (hearingOf (b .setup .n) (b .cast) this) (earlier b) ≡ kept S (suc k) =
+      ap₂ (λ (x : Setup) (y : ℕ). keptOver (x .n) y view (hearingOf (b .setup .n) (b .cast) this) (earlier b)) s (h .cast)
+      ∙ limit-as S ok (suc k) (suc k - u S - 1) _ _ heard (earlier-hears k b h) view
+      ∙ ap (λ (v : ℕ). limit n (follows S) (bit v) (round S (suc k)) (round S (suc k - u S - 1))) (counting-as k b h after are) in
       let one : suc k - 1 ≡ k = omega arith in
       record {
         holds =
             record {
               setup = s;
               round = ap (λ (x : ℕ). x + 1) (h .holds .round) ∙ omega arith;
-              states = λ i hi.
-                  ap (λ (x : Setup). stateAt (steppedStates x (b .states) this (b .bus)) i) s
-                  ∙ states-as S ok k (b .states) (h .holds .states) this (b .bus) c (h .holds .bus) (h .entries) i hi;
+              states = are;
               health = λ i hi.
                   ap (λ (x : Setup). getD (answeredHealth x (b .states) this (b .bus)) i 0) s
                   ∙ health-as S ok k (b .states) (h .holds .states) this (b .bus) c (h .holds .bus) i hi;

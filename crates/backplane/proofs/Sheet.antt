@@ -13,7 +13,7 @@ use Rattle.rules.specs.Hearing.{busWord, wordHeard, entryOf, readingOf}
 use Rattle.rules.specs.Alignment.{alignedOf}
 use Rattle.rules.specs.Vote.{decision, tally, voteOf, healthOf}
 use Rattle.rules.specs.Accusation.{differsAt, accusationOf, accusationsOf}
-use Rattle.rules.specs.Syndrome.{syndromeOf, judgementOf, outgoingOf}
+use Rattle.rules.specs.Syndrome.{syndromeOf, votersOf, judgementOf, outgoingOf}
 use Rattle.rules.specs.Account.{charged, rewarded, accounted, accountAt, accountedAt, countersOf}
 use Rattle.image.specs.Fits.{rowFits, penaltyFits, rewardFits}
 use Rattle.presence.specs.Valid.{stateTidy, checkState, stateVerdict}
@@ -28,12 +28,12 @@ use Rattle.agreement.specs.Fault.{differ, half, heard, within}
 use Rattle.text.specs.Text.{numeral, vector}
 use Rattle.text.specs.Lines.{lineWith, linesOf, refusedLine}
 use Rattle.backplane.specs.Bus.{roundOf, faultless, arrived, readWords, readBits}
-use Rattle.backplane.specs.Limit.{hearingOf, isHalf, isBreaker, isUnheard, keptOver}
-use Rattle.backplane.specs.Play.{openedStates, opened, sentWords, stepAt, steppedStates, answeredHealth, earlier, played}
+use Rattle.backplane.specs.Limit.{firstFollower, hearingOf, isHalf, isBreaker, isUnheard, keptOver}
+use Rattle.backplane.specs.Play.{followersView, countingView, openedStates, opened, sentWords, stepAt, steppedStates, answeredHealth, earlier, played}
 use Rattle.backplane.specs.Run.{begun, goesOn, nextOf, later, printed}
 use Rattle.backplane.specs.Output.{linesTo, outputOf}
 use Rattle.backplane.specs.Sheet.{Written}
 
 pub written : Written
-unfolding wordAt bytesOf bit pack count any all lowest array clearFrom updated table check checkEach setupOf blankSetup moduleFits markFits whole headOk limitOk moduleOk markOk checkHead checkWords checkFront setupPart checkSetup setupTidy checkFields readSetup skewed busWord wordHeard entryOf readingOf alignedOf decision tally voteOf healthOf differsAt accusationOf accusationsOf syndromeOf judgementOf outgoingOf charged rewarded accounted accountAt accountedAt countersOf rowFits penaltyFits rewardFits stateTidy checkState stateVerdict fresh blank checkOpening openOf placeOf markOf ownSyndrome alignedFor judgementFor outgoingFor afterRound refusedStep acceptedStep testedStep readStep stepOf castOk eventOk playOk playRefusal eventRefusal refusal scanned finished scan checkPlay checkScript none concerns withEvent isPlay lieAfter eventsAfter gather start advanced lastScan roundsOf differ half heard within numeral vector lineWith linesOf refusedLine roundOf faultless arrived readWords readBits hearingOf isHalf isBreaker isUnheard keptOver openedStates opened sentWords stepAt steppedStates answeredHealth earlier played begun goesOn nextOf later printed linesTo outputOf
+unfolding wordAt bytesOf bit pack count any all lowest array clearFrom updated table check checkEach setupOf blankSetup moduleFits markFits whole headOk limitOk moduleOk markOk checkHead checkWords checkFront setupPart checkSetup setupTidy checkFields readSetup skewed busWord wordHeard entryOf readingOf alignedOf decision tally voteOf healthOf differsAt accusationOf accusationsOf syndromeOf votersOf judgementOf outgoingOf charged rewarded accounted accountAt accountedAt countersOf rowFits penaltyFits rewardFits stateTidy checkState stateVerdict fresh blank checkOpening openOf placeOf markOf ownSyndrome alignedFor judgementFor outgoingFor afterRound refusedStep acceptedStep testedStep readStep stepOf castOk eventOk playOk playRefusal eventRefusal refusal scanned finished scan checkPlay checkScript none concerns withEvent isPlay lieAfter eventsAfter gather start advanced lastScan roundsOf differ half heard within numeral vector lineWith linesOf refusedLine roundOf faultless arrived readWords readBits firstFollower followersView countingView hearingOf isHalf isBreaker isUnheard keptOver openedStates opened sentWords stepAt steppedStates answeredHealth earlier played begun goesOn nextOf later printed linesTo outputOf
 written = record { sheet = refl; refused = refl; half-heard = refl }

@@ -1,13 +1,13 @@
 -- A helper of the contracts of the inner functions of src/half_heard.rt; no public contract rests on it: that of `hearing` names document 01's own
 -- definition (`hearingOf`, Limit.antt), and proofs/HearingLaws.antt shows that both say the same.
 -- How the code finds which senders are half heard: each rule-follower's word of a sender is compared with that of one rule-follower.
-use Prim.Native.Nat.{ℕ, _+_, _-_, _*_, _/_, _%_}
+use Prim.Native.Nat.{ℕ, _+_, _*_, _/_, _%_}
 use mathlib.Core.Bool.{Bool, cond, not, _&&_}
 use mathlib.Core.List.{List}
 use lib.Dec.{eqb}
 use lib.ListN.{getD}
 use Rattle.words.specs.Bits.{bit}
-use Rattle.words.specs.Count.{any, lowest}
+use Rattle.words.specs.Count.{any}
 use Rattle.words.specs.Table.{table}
 use Rattle.rules.specs.Hearing.{entryOf}
 
@@ -18,10 +18,6 @@ heardWord n on w = cond (entryOf n on w .heard) w 0
 -- the same for every receiver and sender; the entry of receiver i + 1 and sender j + 1 stands at 16 * i + j
 unfoldable pub heardWords : ℕ → List ℕ → List ℕ → List ℕ
 heardWords n bits words = table (λ x. heardWord n (bit (getD bits (x / 16) 0) (x % 16)) (getD words x 0))
-
--- the lowest rule-follower, its number less one; 0 where there is none
-unfoldable pub firstFollower : ℕ → ℕ → ℕ
-firstFollower n cast = lowest n (λ i. not (bit cast i)) - 1
 
 -- a rule-follower has another heard word of sender j + 1 than w
 unfoldable pub otherwise : ℕ → ℕ → List ℕ → ℕ → ℕ → Bool

@@ -17,7 +17,7 @@ use Rattle.presence.specs.declared.State.{State}
 use Rattle.presence.specs.declared.Stepped.{Stepped}
 use Rattle.script.specs.declared.Events.{Events}
 use Rattle.backplane.specs.Bus.{faultless, arrived, readWords, readBits}
-use Rattle.backplane.specs.Limit.{hearingOf, keptOver}
+use Rattle.backplane.specs.Limit.{firstFollower, hearingOf, keptOver}
 use Rattle.backplane.specs.declared.Bus.{Bus}
 use Rattle.backplane.specs.declared.Hearing.{Hearing}
 use Rattle.backplane.specs.declared.Backplane.{Backplane}
@@ -77,20 +77,31 @@ answeredHealth s states this before = array (s .n) (λ i. stepAt s states this b
 unfoldable pub earlier : Backplane → Hearing
 earlier b = cond (skewed (b .setup .n) (b .setup .places)) (b .before) (b .hearing)
 
+-- the rule-followers' view in these states, which is that of the lowest of them
+unfoldable pub followersView : ℕ → ℕ → List State → ℕ
+followersView n cast states = stateAt states (firstFollower n cast) .counters .view
+
+-- the view by which the rows of the next round are counted: that at the end of the round itself where u is 1, in the states after it, else that at
+-- the end of the round before
+unfoldable pub countingView : Backplane → List State → ℕ
+countingView b after =
+    cond (skewed (b .setup .n) (b .setup .places)) (followersView (b .setup .n) (b .cast) after) (followersView (b .setup .n) (b .cast) (b .states))
+
 -- The next round with these events: rule-breakers step like the rest, only what they are told to send differs.
 unfoldable pub played : Backplane → Events → Backplane
 played b e =
     let n = b .setup .n in
     let this = arrived n (sentWords n (b .states)) e in
     let hearing = hearingOf n (b .cast) this in
+    let states = steppedStates (b .setup) (b .states) this (b .bus) in
     record {
       setup = b .setup;
       cast = b .cast;
       round = b .round + 1;
-      states = steppedStates (b .setup) (b .states) this (b .bus);
+      states = states;
       health = answeredHealth (b .setup) (b .states) this (b .bus);
       bus = this;
       hearing = hearing;
       before = b .hearing;
-      kept = b .kept && keptOver n (b .cast) hearing (earlier b);
+      kept = b .kept && keptOver n (b .cast) (countingView b states) hearing (earlier b);
     }

@@ -9,8 +9,8 @@ ghost use mathlib.Core.Path.{_≡_};
 ghost use Prim.Native.Nat.{_+_, _*_, _≤_, _<_};
 ghost use lib.ListN.{getD};
 ghost use Rattle.words.specs.Bits.{pack};
-ghost use Rattle.backplane.specs.Heard.{heardWord, heardWords, firstFollower, otherwise};
-ghost use Rattle.backplane.specs.Limit.{hearingOf};
+ghost use Rattle.backplane.specs.Heard.{heardWord, heardWords, otherwise};
+ghost use Rattle.backplane.specs.Limit.{firstFollower, hearingOf};
 
 // The word w where it is heard, else 0, which no heard word is.
 fn heard_word(n: usize, on: bool, w: u32) -> u32
@@ -32,8 +32,8 @@ fn heard_words(n: usize, bits: [u32; 16], words: &[u32; 256]) -> [u32; 256]
     heard
 }
 
-// A rule-follower's number less one, or 0 where there is none.
-fn first_follower(n: usize, cast: u32) -> usize
+// The lowest rule-follower's number less one, or 0 where there is none.
+pub fn first_follower(n: usize, cast: u32) -> usize
     requires { ⌜ n ≤ 16 ⌝ }
     ensures { λ r. ⌜ r ≡ firstFollower n cast ⌝ }
 {

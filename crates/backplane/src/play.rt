@@ -6,6 +6,7 @@ use crate::arrivals::arrived;
 use crate::arrivals::faultless;
 use crate::arrivals::put_read;
 use crate::arrivals::read_bits;
+use crate::half_heard::first_follower;
 use crate::half_heard::hearing;
 use crate::limit::kept_over;
 use presence::State;
@@ -16,13 +17,14 @@ use script::Events;
 use setup::Setup;
 use words::array::filled;
 use words::bits::full_of;
+use words::bits::pick;
 use words::word::KIND;
 ghost use mathlib.Core.Path.{_≡_};
 ghost use Prim.Native.Nat.{ℕ, _≤_, _<_, _^_};
 ghost use Rattle.presence.specs.Valid.{Valid};
 ghost use Rattle.presence.specs.Step.{stepOf};
 ghost use Rattle.backplane.specs.Bus.{readWords};
-ghost use Rattle.backplane.specs.Play.{stateAt, Sound, openedStates, opened, sentWords, steppedStates, answeredHealth, earlier, played};
+ghost use Rattle.backplane.specs.Play.{stateAt, Sound, openedStates, opened, sentWords, steppedStates, answeredHealth, earlier, followersView, countingView, played};
 
 // What the steps of a round give: the states, and the health vectors answered.
 struct Steps {
@@ -102,6 +104,16 @@ fn step_all(setup: Setup, held: [State; 16], this: Bus, before: Bus) -> Steps
     Steps { states, health }
 }
 
+// The rule-followers' view: that of the lowest of them.
+fn followers_view(n: usize, cast: u32, states: [State; 16]) -> u32
+    requires { ⌜ n ≤ 16 ⌝ }
+    ensures { λ r. ⌜ r ≡ followersView n cast states ⌝ }
+{
+    let i = first_follower(n, cast);
+    let state = states[i];
+    state.view()
+}
+
 impl Backplane {
     // Before round 1.
     pub fn open(setup: Setup, cast: u32) -> Backplane
@@ -141,6 +153,23 @@ impl Backplane {
         hearing
     }
 
+    // The view by which the rows of the next round are counted, where `after` are the states after it.
+    fn counting(self, after: [State; 16]) -> u32
+        requires { ⌜ self .setup .n ≤ 16 ⌝ }
+        ensures { λ r. ⌜ r ≡ countingView self after ⌝ }
+    {
+        let setup = self.setup;
+        let n = setup.n;
+        let places = setup.places;
+        let held = self.states;
+        let skew = is_skewed(n, places);
+        pick(
+            skew,
+            followers_view(n, self.cast, after),
+            followers_view(n, self.cast, held),
+        )
+    }
+
     // The next round with these events.
     pub fn play(self, events: Events) -> Backplane
         requires { ⌜ Sound self × (self .round < 2 ^ 31) ⌝ }
@@ -156,8 +185,9 @@ impl Backplane {
         let states = steps.states;
         let health = steps.health;
         let heard = hearing(n, self.cast, bus);
+        let view = self.counting(states);
         let then = self.earlier();
-        let kept = self.kept & kept_over(n, self.cast, heard, then);
+        let kept = self.kept & kept_over(n, self.cast, view, heard, then);
         let before = self.hearing;
         Backplane {
             setup,

@@ -12,7 +12,7 @@ use Rattle.rules.specs.Hearing.{busWord, wordHeard, entryOf, readingOf}
 use Rattle.rules.specs.Alignment.{alignedOf}
 use Rattle.rules.specs.Vote.{decision, tally, voteOf, healthOf}
 use Rattle.rules.specs.Accusation.{differsAt, accusationOf, accusationsOf}
-use Rattle.rules.specs.Syndrome.{syndromeOf, judgementOf, outgoingOf}
+use Rattle.rules.specs.Syndrome.{syndromeOf, votersOf, judgementOf, outgoingOf}
 use Rattle.rules.specs.Account.{charged, rewarded, accounted, accountAt, accountedAt, countersOf}
 use Rattle.image.specs.Fits.{rowFits, penaltyFits, rewardFits}
 use Rattle.image.specs.Check.{ownNumberOk, ownOk, rowOk, syndromeOk, penaltyOk, rewardOk, checkTail, checkImage}
@@ -28,5 +28,5 @@ use Rattle.page.specs.Calls.{withPage, pageOpenCall, pageStepCall}
 use Rattle.page.specs.Cases.{CasesRight}
 
 pub cases-right : CasesRight
-unfolding wordAt putWord bytesOf bit pack count any all lowest array clearFrom check checkEach setupOf setupBytes blankSetup moduleFits markFits whole headOk limitOk moduleOk markOk checkHead checkWords checkSetup setupTidy checkFields skewed busWord wordHeard entryOf readingOf alignedOf decision tally voteOf healthOf differsAt accusationOf accusationsOf syndromeOf judgementOf outgoingOf charged rewarded accounted accountAt accountedAt countersOf rowFits penaltyFits rewardFits ownNumberOk ownOk rowOk syndromeOk penaltyOk rewardOk checkTail checkImage stateTidy checkState stateVerdict fresh blank checkOpening openOf placeOf markOf ownSyndrome alignedFor judgementFor outgoingFor afterRound refusedStep acceptedStep testedStep readStep stepOf imageOf stateOf roomFor refusedCall wrote openCall stepCall joined cleared shared openedWord pageOpened somebodyCharged raised pageStepped pageWritten interruptOn host.readCall host.wrote host.writeCall host.interruptCall withPage pageOpenCall pageStepCall
+unfolding wordAt putWord bytesOf bit pack count any all lowest array clearFrom check checkEach setupOf setupBytes blankSetup moduleFits markFits whole headOk limitOk moduleOk markOk checkHead checkWords checkSetup setupTidy checkFields skewed busWord wordHeard entryOf readingOf alignedOf decision tally voteOf healthOf differsAt accusationOf accusationsOf syndromeOf votersOf judgementOf outgoingOf charged rewarded accounted accountAt accountedAt countersOf rowFits penaltyFits rewardFits ownNumberOk ownOk rowOk syndromeOk penaltyOk rewardOk checkTail checkImage stateTidy checkState stateVerdict fresh blank checkOpening openOf placeOf markOf ownSyndrome alignedFor judgementFor outgoingFor afterRound refusedStep acceptedStep testedStep readStep stepOf imageOf stateOf roomFor refusedCall wrote openCall stepCall joined cleared shared openedWord pageOpened somebodyCharged raised pageStepped pageWritten interruptOn host.readCall host.wrote host.writeCall host.interruptCall withPage pageOpenCall pageStepCall
 cases-right = refl

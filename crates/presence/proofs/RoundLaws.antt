@@ -38,14 +38,14 @@ use Rattle.presence.proofs.ValidLaws.{StateFits}
 
 pub judged-made : (st : State) (this : Reading) {skew : Bool} {place own : ℕ} {a : Reading} {j : Judgement}
     → skew ≡ skewOf st → place ≡ placeOf st → a ≡ alignedOf (st .setup .n) skew place (st .previous) this
-    → own ≡ cond skew (st .earlier) (st .latest) → j ≡ judgementOf (st .setup .n) a own → j ≡ judgementFor st this
+    → own ≡ cond skew (st .earlier) (st .latest) → j ≡ judgementOf (st .setup .n) (st .counters .view) a own → j ≡ judgementFor st this
 unfolding judgementFor alignedFor ownSyndrome
 judged-made st this {skew} {place} {own} {a} {j} s p e o h =
     let a′ : a ≡ alignedOf (st .setup .n) (skewOf st) (placeOf st) (st .previous) this =
     e ∙ ap₂ (λ (x : Bool) (y : ℕ). alignedOf (st .setup .n) x y (st .previous) this) s p
     in
     let o′ : own ≡ cond (skewOf st) (st .earlier) (st .latest) = o ∙ ap (λ (x : Bool). cond x (st .earlier) (st .latest)) s in
-    h ∙ ap₂ (λ (x : Reading) (y : ℕ). judgementOf (st .setup .n) x y) a′ o′
+    h ∙ ap₂ (λ (x : Reading) (y : ℕ). judgementOf (st .setup .n) (st .counters .view) x y) a′ o′
 
 -- a valid state's own read place is at most N
 pub place-small : (st : State) {r : ℕ} → StateFits st → r ≡ placeOf st → r < 31

@@ -48,7 +48,7 @@ pub outgoing-heard : (st : State) (this : Reading) → StateFits st → wordHear
 unfolding outgoingFor outgoingOf judgementFor
 outgoing-heard st this f =
     bus-heard (st .setup .n) _ (f .setup .most)
-    (cond-both (λ v. v < 2 ^ st .setup .n) (markOf st) (st .latest) _ (f .latest) (syndrome-lt (st .setup .n) _ _))
+    (cond-both (λ v. v < 2 ^ st .setup .n) (markOf st) (st .latest) _ (f .latest) (syndrome-lt (st .setup .n) _ _ _))
 
 -- ---- the step
 

@@ -41,9 +41,9 @@ ownSyndrome st = cond (skewOf st) (st .earlier) (st .latest)
 unfoldable pub alignedFor : State → Reading → Reading
 alignedFor st this = alignedOf (st .setup .n) (skewOf st) (placeOf st) (st .previous) this
 
--- rules 4 to 6: the health vector, the accusations and the syndrome of this round
+-- rules 4 to 6: the health vector, the accusations and the syndrome of this round, by the view held at the end of the round before
 unfoldable pub judgementFor : State → Reading → Judgement
-judgementFor st this = judgementOf (st .setup .n) (alignedFor st this) (ownSyndrome st)
+judgementFor st this = judgementOf (st .setup .n) (st .counters .view) (alignedFor st this) (ownSyndrome st)
 
 -- rule 7: the word handed out
 unfoldable pub outgoingFor : State → Reading → ℕ

@@ -43,7 +43,8 @@ impl State {
         let previous = self.previous;
         let aligned = rules::align::aligned(n, skew, self.place(), previous, this);
         let own = pick(skew, self.earlier, self.latest);
-        rules::judge::judgement(n, aligned, own)
+        let counters = self.counters;
+        rules::judge::judgement(n, counters.view, aligned, own)
     }
 
     // Rule 7: the word handed out.

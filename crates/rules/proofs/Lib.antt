@@ -9,5 +9,6 @@ pub mod FourLaws
 pub mod AccusationLaws
 pub mod CompareLaws
 pub mod SyndromeLaws
+pub mod StruckOff
 pub mod AccountLaws
 pub mod RangeLaws

@@ -4,7 +4,7 @@ use mathlib.Core.Bool.{Bool, not, _&&_, Bool·beq, and-comm}
 use Prim.Native.Nat.{ℕ, zero, suc, _+_, _-_, _*_, _/_, _%_, _^_, _<_}
 use native.Mathlib.Omega.{arith}
 use lib.Dec.{eqb}
-use lib.Bits.{bitAnd, and-shr, and-mod, and-block, and-mask, and-le-r}
+use lib.Bits.{bitAnd, and-shr, and-mod, and-block, and-mask, and-le-l, and-le-r}
 use lib.Pow.{shr-shr}
 use Rattle.words.specs.Bits.{bit, b2n, pack}
 use Rattle.words.specs.Count.{all}
@@ -30,6 +30,12 @@ bit-and a b h =
     ap (λ (x : ℕ). eqb (x % 2) 1) (and-shr a b h)
     ∙ ap (λ (x : ℕ). eqb x 1) (and-mod (a / 2 ^ h) (b / 2 ^ h) 1)
     ∙ and-one (a / 2 ^ h % 2) (b / 2 ^ h % 2) (omega arith) (omega arith)
+
+-- a conjunction whose left side has no bits at n or above
+pub and-pack : (n a b : ℕ) → a < 2 ^ n → bitAnd a b ≡ pack n (λ j. bit a j && bit b j)
+and-pack n a b h =
+    bit-ext n (bitAnd a b) (pack n (λ j. bit a j && bit b j)) (omega (arith, and-le-l a b)) (pack-lt n _)
+    (λ k l. bit-and a b k ∙ sym (bit-pack n (λ j. bit a j && bit b j) k l))
 
 -- the mask that clears bit j has every other bit
 mask-bit : (j h : ℕ) → j < 32 → h < 32 → bit (2 ^ 32 - 1 - 2 ^ j) h ≡ not (eqb h j)

@@ -7,5 +7,6 @@ pub mod VoteTable
 pub mod Lanes
 pub mod Accusation
 pub mod Syndrome
+pub mod StruckOff
 pub mod Account
 pub mod Range

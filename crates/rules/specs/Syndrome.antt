@@ -15,15 +15,16 @@ use Rattle.rules.specs.declared.Judgement.{Judgement}
 unfoldable pub syndromeOf : ℕ → ℕ → List ℕ → ℕ
 syndromeOf n heard accusations = pack n (λ j. bit heard j && eqb (getD accusations j 0) 0)
 
--- whose rows vote and can be accused: all that are present
-abbrev pub votersOf : Reading → ℕ
-votersOf aligned = aligned .heard
+-- Whose rows vote and can be accused: those present, of the modules in the view held at the end of the round before. (document 02, E4)
+unfoldable pub votersOf : ℕ → ℕ → Reading → ℕ
+votersOf n view aligned = pack n (λ j. bit view j && bit (aligned .heard) j)
 
--- rules 4, 5 and 6, from the aligned rows and the own syndrome that an empty vote falls back on
-unfoldable pub judgementOf : ℕ → Reading → ℕ → Judgement
-judgementOf n aligned own =
-    let health = healthOf n (votersOf aligned) (aligned .rows) own in
-    let accusations = accusationsOf n (votersOf aligned) (aligned .rows) health in
+-- Rules 4, 5 and 6, from the view, the aligned rows and the own syndrome that an empty vote falls back on. A module outside the view is voted on
+-- like the rest, and by rule 6 its bit is set if it is heard.
+unfoldable pub judgementOf : ℕ → ℕ → Reading → ℕ → Judgement
+judgementOf n view aligned own =
+    let health = healthOf n (votersOf n view aligned) (aligned .rows) own in
+    let accusations = accusationsOf n (votersOf n view aligned) (aligned .rows) health in
     record { health = health; accusations = accusations; syndrome = syndromeOf n (aligned .heard) accusations }
 
 -- Rule 7: with the send mark the syndrome of round k - 1, else that of round k.

@@ -1,8 +1,7 @@
 /*
  * main.c - tests the functions of presence.h.
  *
- *   check [CALLS ...]  files of calls, default harness/data/calls.txt,
- *                      own-calls.txt and e01-calls.txt beside it
+ *   check CALLS ...    files of calls
  *
  * Each call is made with every block in memory of exactly its length, at
  * changing addresses (all of 0..7 modulo 8).  After each call the inputs and
@@ -44,11 +43,6 @@ int main(int argc, char **argv)
 
     for (g = 0; g < COUNT(groups); g++)
         groups[g]();
-    if (argc == 1) {
-        group_calls_file("harness/data/calls.txt");
-        group_calls_file("harness/data/own-calls.txt");
-        group_calls_file("harness/data/e01-calls.txt");
-    }
     for (i = 1; i < argc; i++)
         group_calls_file(argv[i]);
     return print_totals() == 0 ? 0 : 1;

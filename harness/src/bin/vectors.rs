@@ -1,21 +1,15 @@
 //! Runs every line of calls files through the model and the library.
 //! Usage: vectors [--print] [CALLS_FILE...]
-//! Without files: data/calls.txt, data/own-calls.txt and data/e01-calls.txt.
+//! Without files: every file of the folder data whose name ends in calls.txt.
 //! With --print every line is written anew with the answer of the library, and the model is not
 //! asked. The output is the file, byte for byte, if all answers are right.
 
-use harness::calls_file::{answered, compare_all, parse};
+use harness::calls_file::{answered, calls_files, compare_all, parse};
 use harness::ffi::Library;
 use harness::model::calls::{Functions, Model};
 use std::env;
 use std::fs;
 use std::process::ExitCode;
-
-const FILES: [&str; 3] = [
-    concat!(env!("CARGO_MANIFEST_DIR"), "/data/calls.txt"),
-    concat!(env!("CARGO_MANIFEST_DIR"), "/data/own-calls.txt"),
-    concat!(env!("CARGO_MANIFEST_DIR"), "/data/e01-calls.txt"),
-];
 
 fn main() -> ExitCode {
     let mut files: Vec<String> = env::args().skip(1).collect();
@@ -24,7 +18,7 @@ fn main() -> ExitCode {
         files.remove(0);
     }
     if files.is_empty() {
-        files = FILES.map(String::from).to_vec();
+        files = calls_files(concat!(env!("CARGO_MANIFEST_DIR"), "/data"));
     }
     let mut lines = 0;
     let mut differences = 0;

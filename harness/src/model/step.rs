@@ -52,6 +52,16 @@ pub fn align(n: usize, u: usize, l: usize, previous: &[Entry; MAX], this: &[Entr
     aligned
 }
 
+/// Document 02, E4: the rows that vote and can be accused are those of the modules in the view as it was before the step; the others count as
+/// missing here.
+pub fn in_view(n: usize, view: u32, aligned: &[Entry; MAX]) -> [Entry; MAX] {
+    let mut rows = [Entry::default(); MAX];
+    for j in (1..=n).filter(|&j| has(view, j)) {
+        rows[j - 1] = aligned[j - 1];
+    }
+    rows
+}
+
 /// Rule 4 for one module: the vote on j over the present rows of all modules but j;
 /// an empty vote answers bit j of the own syndrome of round k-u-1.
 pub fn vote(n: usize, j: usize, rows: &[Entry; MAX], own_syndrome: u32) -> bool {
@@ -100,9 +110,9 @@ fn accusations(n: usize, rows: &[Entry; MAX], health: u32) -> [u32; MAX] {
     accused
 }
 
-/// Rule 6: the modules whose row is present and that are not accused.
-fn new_syndrome(n: usize, rows: &[Entry; MAX], accused: &[u32; MAX]) -> u32 {
-    let right = |j: &usize| rows[j - 1].heard && accused[j - 1] == 0;
+/// Rule 6: the modules that are heard after alignment and not accused; one outside the view never is.
+fn new_syndrome(n: usize, aligned: &[Entry; MAX], accused: &[u32; MAX]) -> u32 {
+    let right = |j: &usize| aligned[j - 1].heard && accused[j - 1] == 0;
     (1..=n).filter(right).fold(0, |syndrome, j| syndrome | only(j))
 }
 
@@ -154,10 +164,11 @@ pub fn step(setup: &Setup, state: &mut State, read: &[u32], controller: u32) -> 
 
     // Rule 4. The state holds the syndromes of rounds k-1 (latest) and k-2 (before).
     let own_syndrome = if u == 0 { state.latest } else { state.before };
-    let health = health_vector(n, &aligned, own_syndrome);
+    let rows = in_view(n, state.view, &aligned);
+    let health = health_vector(n, &rows, own_syndrome);
 
     // Rules 5 and 6.
-    let accused = accusations(n, &aligned, health);
+    let accused = accusations(n, &rows, health);
     let syndrome = new_syndrome(n, &aligned, &accused);
 
     // Rules 7 and 9 come before 8: a refusal leaves the counters.

@@ -100,6 +100,7 @@ impl Backplane {
     pub fn play_round(&mut self, events: &Events) {
         let n = self.setup.n;
         let earlier = self.arrivals;
+        let view_before = self.followers_view();
         self.round += 1;
 
         for j in 1..=n {
@@ -115,11 +116,18 @@ impl Backplane {
             }
         }
 
-        // The fault limit, over this round and round k-u-1.
+        // The fault limit, over this round and round k-u-1, by the view of the end of round k+u-1.
         self.hearings = [Hearing::of(n, self.cast, &self.arrivals), self.hearings[0], self.hearings[1]];
-        if !kept(n, self.cast, &self.hearings[0], &self.hearings[self.u + 1]) {
+        let view = if self.u == 0 { view_before } else { self.followers_view() };
+        if !kept(n, self.cast, view, &self.hearings[0], &self.hearings[self.u + 1]) {
             self.kept_so_far = false;
         }
+    }
+
+    /// The rule-followers' view. They all hold the same as long as the limit was kept, and after that nothing hangs on whose it is.
+    fn followers_view(&self) -> u32 {
+        let follower = (1..=self.setup.n).find(|&j| !has(self.cast, j));
+        self.states[follower.map_or(0, |j| j - 1)].view
     }
 
     /// Puts the word that module j handed out on the bus of this round.

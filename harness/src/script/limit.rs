@@ -43,8 +43,10 @@ impl Hearing {
     }
 }
 
-/// The limit over round rho and round rho-u-1.
-pub fn kept(n: usize, cast: u32, now: &Hearing, earlier: &Hearing) -> bool {
+/// The limit over round rho and round rho-u-1. N, s and b are taken over the rule-followers' view at the end of round rho+u-1, a over all modules
+/// (document 02, E4).
+pub fn kept(n: usize, cast: u32, view: u32, now: &Hearing, earlier: &Hearing) -> bool {
+    let voters = (1..=n).filter(|&j| has(view, j)).count();
     let mut a = 0;
     let mut s = 0;
     let mut b = 0;
@@ -53,11 +55,13 @@ pub fn kept(n: usize, cast: u32, now: &Hearing, earlier: &Hearing) -> bool {
         let unheard_in_either = has(now.unheard, j) || has(earlier.unheard, j);
         if has(now.half_heard, j) || has(earlier.half_heard, j) {
             a += 1;
+        } else if !has(view, j) {
+            continue;
         } else if has(cast, j) && heard_in_either {
             s += 1;
         } else if unheard_in_either {
             b += 1;
         }
     }
-    a + s == 0 || (a <= 1 && n > 2 * a + 2 * s + b + 1)
+    a + s == 0 || (a <= 1 && voters > 2 * a + 2 * s + b + 1)
 }

@@ -18,21 +18,24 @@ step-all-requires c κs = (c .before .before .before .before .before .pre .0 .fe
 hearing-requires : tie.Need-hearing-requires
 hearing-requires c κs = c .before .before .before .before .before .before .before .before .pre .0 .few
 
+counting-requires : tie.Need-counting-requires
+counting-requires c κs = c .before .before .before .before .before .before .before .before .before .pre .0 .few
+
 earlier-requires : tie.Need-earlier-requires
-earlier-requires c κs = c .before .before .before .before .before .before .before .before .before .pre .0 .few
+earlier-requires c κs = c .before .before .before .before .before .before .before .before .before .before .pre .0 .few
 
 kept-over-requires : tie.Need-kept-over-requires
-kept-over-requires c κs = c .before .before .before .before .before .before .before .before .before .before .pre .0 .few
+kept-over-requires c κs = c .before .before .before .before .before .before .before .before .before .before .before .pre .0 .few
 
-add-t17 : tie.Need-add-t17
-add-t17 c = omega (arith, c .before .before .before .before .before .before .before .before .before .before .before .before .before .before .pre .1)
+add-t18 : tie.Need-add-t18
+add-t18 c = omega (arith, c .before .before .before .before .before .before .before .before .before .before .before .before .before .before .before .pre .1)
 
 returns : tie.Need-returns
 returns c =
     let k = c .before .before .before in
-    let s = k .before .before .before .before .before in
+    let s = k .before .before .before .before .before .before in
     play-made _ _ (s .before .before .before .sent-words .ensures) (s .before .before .arrived .ensures) (s .step-all .ensures .0) (s .step-all .ensures .1)
-    (k .before .before .hearing .ensures) (k .before .earlier .ensures) (k .kept-over .ensures)
+    (k .before .before .before .hearing .ensures) (k .before .before .counting .ensures) (k .before .earlier .ensures) (k .kept-over .ensures)
 
 pub play-spec : {M : Type 1} → statement M
 play-spec =
@@ -42,7 +45,8 @@ play-spec =
     arrived-requires
     step-all-requires
     hearing-requires
+    counting-requires
     earlier-requires
     kept-over-requires
-    add-t17
+    add-t18
     returns)

@@ -6,7 +6,7 @@ use native.Mathlib.Omega.{arith}
 use Rattle.words.specs.Bits.{bit}
 use Rattle.words.specs.Count.{lowest}
 use Rattle.words.proofs.LowestLaws.{lowest-none, lowest-found, lowest-ends}
-use Rattle.backplane.specs.Heard.{firstFollower}
+use Rattle.backplane.specs.Limit.{firstFollower}
 use Rattle.backplane.proofs.half_heard.first_follower.Statement.{statement}
 use Rattle.backplane.proofs.half_heard.first_follower.Tie as tie
 

@@ -17,7 +17,7 @@ first-follower-requires c κs = search needs
 half-heard-requires : tie.Need-half-heard-requires
 half-heard-requires c κs =
     let s = c .before .before .before .before .before .before in
-    let f = first-small (s .args .n) (s .args .cast) (s .args .bus) (s .pre) in
+    let f = first-small (s .args .n) (s .args .cast) (s .pre) in
     (s .pre, omega (arith, f, c .before .first-follower .ensures))
 
 heard-senders-requires : tie.Need-heard-senders-requires

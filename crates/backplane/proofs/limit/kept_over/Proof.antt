@@ -1,24 +1,29 @@
 -- After j turns a, s and b count the senders below j, and are no more than j.
 use Prim.Native.Nat.{_-_, _≤_}
 use mathlib.Core.Path.{_≡_, refl}
+use mathlib.Core.Bool.{_&&_}
 use native.Mathlib.Omega.{arith}
 use borrow.Author.Needs.{needs}
+use Rattle.words.specs.Bits.{bit}
 use Rattle.words.specs.Count.{count}
-use Rattle.words.proofs.CountLaws.{count-more}
+use Rattle.words.proofs.CountLaws.{count-step}
 use Rattle.agreement.specs.Fault.{within}
 use Rattle.backplane.specs.Limit.{isHalf, isBreaker, isUnheard, keptOver}
+use Rattle.backplane.proofs.LimitLaws.{half-turn, breaker-turn, unheard-turn}
 use Rattle.backplane.proofs.limit.kept_over.Statement.{statement}
 use Rattle.backplane.proofs.limit.kept_over.Tie as tie
 
 abbrev Inv-loop : tie.InvT-loop
-Inv-loop n cast now then a₀ s₀ b₀ j₀ a s b j = (j ≤ n) × (a ≤ j) × (s ≤ j) × (b ≤ j) × (a ≡ count j (isHalf now then)) × (s ≡ count j (isBreaker cast now then)) × (b ≡ count j (isUnheard cast now then))
+Inv-loop n cast view now then m₀ a₀ s₀ b₀ j₀ m a s b j =
+    (j ≤ n) × (m ≤ j) × (a ≤ j) × (s ≤ j) × (b ≤ j) × (m ≡ count j (bit view)) × (a ≡ count j (isHalf now then))
+    × (s ≡ count j (λ l. bit view l && isBreaker cast now then l)) × (b ≡ count j (λ l. bit view l && isUnheard cast now then l))
 
 abbrev μ-loop : tie.MeasureT-loop
-μ-loop n cast now then a₀ s₀ b₀ j₀ a s b j = n - j
+μ-loop n cast view now then m₀ a₀ s₀ b₀ j₀ m a s b j = n - j
 
 loop-holds : tie.Need-loop-holds Inv-loop μ-loop
 unfolding count
-loop-holds c = (omega arith, omega arith, omega arith, omega arith, refl, refl, refl)
+loop-holds c = (omega arith, omega arith, omega arith, omega arith, omega arith, refl, refl, refl, refl)
 
 bit-at-requires : tie.Need-bit-at-requires Inv-loop μ-loop
 bit-at-requires c κs = omega arith
@@ -35,20 +40,29 @@ bit-at-requires-4 c κs = omega arith
 bit-at-requires-5 : tie.Need-bit-at-requires-5 Inv-loop μ-loop
 bit-at-requires-5 c κs = omega arith
 
+bit-at-requires-6 : tie.Need-bit-at-requires-6 Inv-loop μ-loop
+bit-at-requires-6 c κs = omega arith
+
 flag-requires : tie.Need-flag-requires Inv-loop μ-loop
 flag-requires c κs = search needs
 
-add-a : tie.Need-add-a Inv-loop μ-loop
-add-a c = omega arith
+add-m : tie.Need-add-m Inv-loop μ-loop
+add-m c = omega arith
 
 flag-requires-2 : tie.Need-flag-requires-2 Inv-loop μ-loop
 flag-requires-2 c κs = search needs
 
-add-s : tie.Need-add-s Inv-loop μ-loop
-add-s c = omega arith
+add-a : tie.Need-add-a Inv-loop μ-loop
+add-a c = omega arith
 
 flag-requires-3 : tie.Need-flag-requires-3 Inv-loop μ-loop
 flag-requires-3 c κs = search needs
+
+add-s : tie.Need-add-s Inv-loop μ-loop
+add-s c = omega arith
+
+flag-requires-4 : tie.Need-flag-requires-4 Inv-loop μ-loop
+flag-requires-4 c κs = search needs
 
 add-b : tie.Need-add-b Inv-loop μ-loop
 add-b c = omega arith
@@ -60,8 +74,27 @@ loop-less : tie.Need-loop-less Inv-loop μ-loop
 loop-less c = omega arith
 
 loop-again : tie.Need-loop-again Inv-loop μ-loop
-unfolding isHalf isBreaker isUnheard
-loop-again c = (omega arith, omega arith, omega arith, omega arith, rw count-more (cc), rw count-more (cc), rw count-more (cc))
+loop-again c =
+    let f = c .before .before .before .before in
+    let g = f .before .before .before .before .before in
+    let a = g .before .before .before .args in
+    let l = g .before .before .loop in
+    let v = g .bit-at .ensures in
+    let h = f .before .before .before .before .bit-at2 .ensures in
+    let t = f .before .before .before .bit-at3 .ensures in
+    let p = f .before .before .bit-at4 .ensures in
+    let q = f .before .bit-at5 .ensures in
+    let k = f .bit-at6 .ensures in (
+      omega arith,
+      omega arith,
+      omega arith,
+      omega arith,
+      omega arith,
+      count-step (l .j) _ (l .inv .5) v (c .before .before .before .flag .ensures .0),
+      count-step (l .j) _ (l .inv .6) (half-turn (a .cast) (a .view) (a .now) (a .then) (l .j) v h t p q k) (c .before .before .flag2 .ensures .0),
+      count-step (l .j) _ (l .inv .7) (breaker-turn (a .cast) (a .view) (a .now) (a .then) (l .j) v h t p q k) (c .before .flag3 .ensures .0),
+      count-step (l .j) _ (l .inv .8) (unheard-turn (a .cast) (a .view) (a .now) (a .then) (l .j) v h t p q k) (c .flag4 .ensures .0),
+    )
 
 add-result : tie.Need-add-result Inv-loop μ-loop
 add-result c = omega arith
@@ -81,9 +114,6 @@ add-result-3 c = omega arith
 add-result-4 : tie.Need-add-result-4 Inv-loop μ-loop
 add-result-4 c = omega arith
 
-cast-result : tie.Need-cast-result Inv-loop μ-loop
-cast-result c = omega arith
-
 returns : tie.Need-returns Inv-loop μ-loop
 unfolding keptOver within
 returns c =
@@ -102,11 +132,14 @@ kept-over-spec =
     bit-at-requires-3
     bit-at-requires-4
     bit-at-requires-5
+    bit-at-requires-6
     flag-requires
-    add-a
+    add-m
     flag-requires-2
-    add-s
+    add-a
     flag-requires-3
+    add-s
+    flag-requires-4
     add-b
     add-j
     loop-less
@@ -117,5 +150,4 @@ kept-over-spec =
     add-result-2
     add-result-3
     add-result-4
-    cast-result
     returns)

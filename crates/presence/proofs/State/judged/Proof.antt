@@ -20,12 +20,14 @@ pick-requires : tie.Need-pick-requires
 pick-requires c κs = search needs
 
 judgement-requires : tie.Need-judgement-requires
-judgement-requires c κs = valid-fits _ (c .before .before .before .before .before .before .before .pre) .setup .most
+judgement-requires c κs =
+    let f = valid-fits _ (c .before .before .before .before .before .before .before .before .pre) in
+    (f .setup .most, f .view)
 
 returns : tie.Need-returns
 returns c =
-    let s = c .before .before .before .before .before in
-    judged-made _ _ (s .is-skewed .ensures) (c .before .before .before .place .ensures) (c .before .before .aligned .ensures) (c .before .pick .ensures)
+    let s = c .before .before in
+    judged-made _ _ (s .before .before .before .before .is-skewed .ensures) (s .before .before .place .ensures) (s .before .aligned .ensures) (s .pick .ensures)
     (c .judgement .ensures)
 
 pub judged-spec : {M : Type 1} → statement M

@@ -21,7 +21,7 @@ outgoing-requires c κs =
     let p = c .before .pre in
     let f = valid-fits _ (p .0) in (
       below-kind _ _ (f .setup .most) (f .latest),
-      below-kind _ _ (f .setup .most) (subst (λ (j : Judgement). j .syndrome < 2 ^ c .before .args .self .setup .n) (sym (p .1)) (syndrome-lt _ _ _)),
+      below-kind _ _ (f .setup .most) (subst (λ (j : Judgement). j .syndrome < 2 ^ c .before .args .self .setup .n) (sym (p .1)) (syndrome-lt _ _ _ _)),
     )
 
 returns : tie.Need-returns

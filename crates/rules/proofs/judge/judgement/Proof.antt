@@ -4,6 +4,9 @@ use Rattle.rules.proofs.SyndromeLaws.{judgement-by}
 use Rattle.rules.proofs.judge.judgement.Statement.{statement}
 use Rattle.rules.proofs.judge.judgement.Tie as tie
 
+voters-requires : tie.Need-voters-requires
+voters-requires c κs = search needs
+
 health-requires : tie.Need-health-requires
 health-requires c κs = search needs
 
@@ -14,8 +17,8 @@ syndrome-requires : tie.Need-syndrome-requires
 syndrome-requires c κs = search needs
 
 returns : tie.Need-returns
-returns c = judgement-by _ _ _ (c .before .before .health .ensures) (c .before .accusations .ensures) (c .syndrome .ensures)
+returns c = judgement-by _ _ _ _ (c .before .before .before .before .voters .ensures) (c .before .before .health .ensures) (c .before .accusations .ensures) (c .syndrome .ensures)
 
 pub judgement-spec : {M : Type 1} → statement M
 judgement-spec =
-    tie.close (tie.spec health-requires accusations-requires syndrome-requires returns)
+    tie.close (tie.spec voters-requires health-requires accusations-requires syndrome-requires returns)

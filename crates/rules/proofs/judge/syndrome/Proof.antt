@@ -13,11 +13,11 @@ use Rattle.rules.proofs.judge.syndrome.Statement.{statement}
 use Rattle.rules.proofs.judge.syndrome.Tie as tie
 
 abbrev Inv-loop : tie.InvT-loop
-Inv-loop n health heard rows voters acc₀ j₀ acc j =
+Inv-loop n voters health heard rows acc₀ j₀ acc j =
     (j ≤ n) × (acc ≡ pack j (λ k. bit heard k && not (bit voters k && any n (differsAt (getD rows k 0) health k))))
 
 abbrev μ-loop : tie.MeasureT-loop
-μ-loop n health heard rows voters acc₀ j₀ acc j = n - j
+μ-loop n voters health heard rows acc₀ j₀ acc j = n - j
 
 loop-holds : tie.Need-loop-holds Inv-loop μ-loop
 unfolding pack
@@ -53,7 +53,7 @@ returns : tie.Need-returns Inv-loop μ-loop
 returns c =
     let a = c .before .before .before .args in
     let e : c .before .loop .j ≡ a .n = omega arith in
-    (rw e at (c .before .loop .inv .1)) ∙ syndrome-by (a .n) (a .aligned) (a .health) (omega arith)
+    (rw e at (c .before .loop .inv .1)) ∙ syndrome-by (a .n) (a .voters) (a .aligned) (a .health) (omega arith)
 
 pub syndrome-spec : {M : Type 1} → statement M
 syndrome-spec =
