@@ -338,6 +338,9 @@ presence_answer presence_open(const uint8_t *setup, size_t setup_len,
  * Accepted: the output holds the image after the step, and health is the
  * health vector: bit j-1 is 1 if module j was healthy.  It judges the round
  * before this one if every l is N, else the one three rounds before this one.
+ * A module outside the view of the image that is passed has no vote in this
+ * step, and what its word says is not held against it; the others still vote
+ * on it.  One that leaves the view in this step has voted in it.
  * Refused: the output stays as it was, no step has been made, and the image
  * that was passed is still the current one.
  * That cards agree is proved of cards that make the step of every round, each
