@@ -649,11 +649,16 @@ def steps_of_empty_votes():
 def steps_of_other_votes():
     note("Votes 0, missing, 0 on 1: rows 2 and 4 lack 1, 3 is unheard. Health 0111, 1 is charged.")
     stepped(SHEET_1, buses(0xF, 0xE, 0xF, 0xE), 0xB, 0xE, [0xF, 0xE, None, 0xE], 0xB, penalty={1: 1})
-    also("4 is out of the view and still votes: on 1 rows 2 and 4 vote 0, row 3 votes 1. Health 0111, 1 is")
-    also("charged, row 3 accused. The counters of 4 stay, a reward below R too.")
+    also("4 is out of the view and does not vote: on 1 row 2 votes 0 and row 3 votes 1, which is 1. Health 1111,")
+    also("nobody charged. Row 2 is accused; row 4, which says the same, is not, and 4 is in the syndrome. The")
+    also("counters of 4 stay, a reward below R too.")
     without_4 = SHEET_1.but(view=0x7, penalty={4: 2}, reward={4: 1})
     rows = [0xF, 0xE, 0xF, 0xE]
-    stepped(without_4, buses(*rows), 0xF, 0xE, rows, 0xB, penalty={1: 1})
+    stepped(without_4, buses(*rows), 0xF, 0xF, rows, 0xD)
+    also("The others vote on it: all their rows lack 4. Health 1110; 4 is out of the view and not charged.")
+    stepped(without_4, buses(0x7, 0x7, 0x7, 0xF), 0xF, 0x7, [0x7, 0x7, 0x7, 0xF], 0xF)
+    also("Unheard, it is not in the syndrome.")
+    stepped(without_4, ALL_ONES, 0x7, 0xF, [0xF, 0xF, 0xF, None], 0x7)
 
 
 def steps_of_the_counters():
