@@ -8,6 +8,7 @@ use harness::model::state::{fresh, image_words, Entry, State};
 use harness::model::step::{read_word, step, Reading};
 use harness::model::words::bytes_of;
 use harness::script::backplane::{add_event, Backplane, Event, NO_EVENTS};
+use harness::script::limit::Hearing;
 
 /// N = 4 with module 4 at l = 2, so u = 1; the others at l = 4.
 const EARLY: [u32; 7] = [0x10000004, 0x20000001, 0x30000003, 0x40880001, 0x41080001, 0x41880001, 0x42040001];
@@ -154,6 +155,18 @@ fn the_bench_takes_the_answer() {
     assert_eq!(backplane.outcomes[1].causes[..4], [0, 0, 0, 0]);
     backplane.play_round(&NO_EVENTS);
     assert_eq!(backplane.outcomes[0].causes[..4], [0, 0, 0, 0]);
+}
+
+/// For the fault limit too: who is missing at all rule-followers is unheard and not half heard, whatever the causes.
+#[test]
+fn the_limit_does_not_ask_for_causes() {
+    let mut backplane = Backplane::new(&setup(&SHEET), 0b1000);
+    let mut events = NO_EVENTS;
+    add_event(&mut events, 4, 0b0001, Event::Loss);
+    add_event(&mut events, 4, 0b0010, Event::Lie { told: 0x7000000F });
+    add_event(&mut events, 4, 0b0100, Event::Lie { told: 0x5000002F });
+    backplane.play_round(&events);
+    assert_eq!(backplane.hearings[0], Hearing { half_heard: 0, unheard: 0b1000 });
 }
 
 fn answered(cause: u32, row: u32) -> CauseAnswer {
