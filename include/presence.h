@@ -188,8 +188,8 @@
  * seven below it, which is byte 15+j of the page.  Modules above N have 0.
  * Every accepted step writes all four words, with the causes of the read that
  * it was given, as it came: the word of module j that this read holds is of
- * this round for j <= l and of the round before for the others.  So if some l
- * is not N, words 4 to 7 speak of later words than the health vector judges.
+ * this round for j <= l and of the round before for the others.  So these are
+ * later words than those that the health vector judges (see presence_step).
  * Opened, all causes are 0.  An image keeps no causes.
  *
  *

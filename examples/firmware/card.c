@@ -220,8 +220,8 @@ static void host_start(void)
                PRESENCE_PAGE_VIEW_CHANGED | PRESENCE_PAGE_CHARGED);
 }
 
-/* Whose word the latest read lacked, and why.  With read places below N this is
-   a later word than the one that the health vector judges. */
+/* Whose word the latest read lacked, and why.  It is a later word than the one
+   that the health vector judges. */
 static void host_print_causes(uint32_t round)
 {
     static const char *const names[] = { "heard", "controller loss",
