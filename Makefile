@@ -43,7 +43,7 @@ harness: rust bench
 	cd harness && CARGO_TARGET_DIR=../target/harness cargo test --release --offline --quiet
 	cd harness && ../$(RUST)/vectors
 	for f in harness/data/*calls.txt; do $(RUST)/vectors --print $$f | diff - $$f || exit 1; done
-	$(RUST)/differential 36500 $(SEED)
+	$(RUST)/differential 39000 $(SEED)
 	$(RUST)/locks harness/data/scanlock/calls.txt harness/data/scanlock/own.txt
 	$(RUST)/locks --random 20000 $(SEED)
 	tools/hex2bin examples/sheet.hex | cmp - harness/data/vectors/001-star-sheet.bin
@@ -57,7 +57,7 @@ tools-test: bench
 	$(TOOLS_TEST)
 
 soak: rust bench
-	$(RUST)/differential 2600000 $(SEED)
+	$(RUST)/differential 2800000 $(SEED)
 	$(RUST)/locks --random 1000000 $(SEED)
 	$(RUST)/scripts 100000 $(SEED) $(BENCH)
 

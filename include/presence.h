@@ -6,13 +6,14 @@
  * learns from it which modules were healthy and which still count as members
  * (the view).
  *
- * Five functions of a module:
+ * Six functions of a module:
  *
  *   presence_check_setup   tests a setup
  *   presence_open          setup and own number  -> image of a fresh module
  *   presence_step          image and one read    -> image after the step
  *   presence_save          image                 -> the same image, tested
  *   presence_outgoing      image                 -> word to put on the bus
+ *   presence_read_cause    N and one bus word    -> why it is not heard
  *
  * Five more for a module whose host reads its presence from a register page:
  *
@@ -23,7 +24,7 @@
  *   presence_page_interrupt  whether the interrupt to the host is on
  *
  * All are in libgirmaut.a (make library); libpresence.a (rt staticlib
- * presence) has the first five alone.
+ * presence) has the first six alone.
  *
  * A module's state is its image, a block of bytes that the caller keeps.
  * Nothing is kept between calls: the result of a call and the bytes it writes
@@ -151,6 +152,16 @@
  * call refused.  Before round 1 all modules count as heard with the word
  * 0x50000000 with the N lowest bits set.
  *
+ * Why a word is not heard is its cause, the first of these that applies:
+ *
+ *   1   controller loss: its controller bit is 0
+ *   2   wrong kind: its top four bits are not 5
+ *   3   stray bits: one of its bits 27..N is 1
+ *
+ * and 0 if it is heard.  For a step, missing is missing: the cause decides
+ * nothing in it.  It is for service, and is told on the page and by
+ * presence_read_cause.
+ *
  *
  * PAGE: 16 words, PRESENCE_PAGE_BYTES
  *
@@ -159,24 +170,35 @@
  *   4       1     the module's view after the latest step or the opening
  *   8       2     flags: bit 0 the view changed, bit 1 somebody was charged
  *   12      3     enable
- *   16..60  4-15  0
+ *   16..28  4-7   causes of the latest read, one byte a module
+ *   32..60  8-15  0
  *
  * A step sets flag 0 if the view that it leaves differs from word 1 of the
  * page that it is lent, and flag 1 if a module that was in the view before the
  * step has health 0 in it.  Flags stay until the host clears them: a write of
  * word 2 clears the flags that are written as ones.  A write of word 3 is
- * stored whole.  A step leaves enable, words 4 to 15 and the other bits of
+ * stored whole.  A step leaves enable, words 8 to 15 and the other bits of
  * word 2 as they are.  The interrupt is on exactly while flags and enable
  * share a set bit.  So a flag is lost only by a write that names it, or when
  * the page is opened anew; and while a flag is set the interrupt is on whenever
  * its bit of enable is set, be it set before the change or later.
+ *
+ * Words 4 to 7 hold four modules each, one byte a module, module 1 topmost:
+ * the cause of module j stands in word 4+(j-1)/4, in bit 31-8*((j-1)%4) and the
+ * seven below it, which is byte 15+j of the page.  Modules above N have 0.
+ * Every accepted step writes all four words, with the causes of the read that
+ * it was given, as it came: the word of module j that this read holds is of
+ * this round for j <= l and of the round before for the others.  So these are
+ * later words than those that the health vector judges (see presence_step).
+ * Opened, all causes are 0.  An image keeps no causes.
  *
  *
  * ANSWERS
  *
  * number is 0 if the call is accepted.  Otherwise the call is refused: it
  * writes nothing, not even a part of the output or of the page, and answers
- * health 0, or word 0.  Of several reasons the lowest number is answered.
+ * health 0, word 0, or cause 0 and row 0.  Of several reasons the lowest number
+ * is answered.
  * index is a word index from 0 in the setup or image that was passed, and
  * names the first word that is wrong for this number.
  *
@@ -186,7 +208,8 @@
  *    1   setup or image empty, or its length is no          0
  *        multiple of 4
  *    2   first word no head: kind not 1, N not 2..16, or    0
- *        another bit set
+ *        another bit set; n of presence_read_cause not
+ *        2..16
  *    3   setup not of N+3 words, image not of 4N+6 words    0
  *    4   limit word wrong: kind, or P or R out of range     1 (P) or 2 (R)
  *    5   module word wrong: kind, number not in turn, l     its word,
@@ -207,7 +230,8 @@
  *    9   read not of N words, output not of 4N+6 words, or  0
  *        page not of 16 (a length that is no multiple of
  *        4 included)
- *   10   controller has a bit at N or above                 0
+ *   10   controller has a bit at N or above; that of        0
+ *        presence_read_cause is not 0 or 1
  *   11   the outgoing word of the step would not be heard   0
  *        by rule; no arguments are known that give this
  *   17   byte offset that is not the start of one of the    0
@@ -231,7 +255,7 @@
  *
  * An accepted call of presence_open, presence_step or presence_save, with a
  * page or without, writes all 4N+6 words of the output.  presence_page_open
- * writes all 16 words of the page, presence_page_step words 0 to 2,
+ * writes all 16 words of the page, presence_page_step words 0 to 2 and 4 to 7,
  * presence_page_write the one word.
  */
 #ifndef PRESENCE_H
@@ -266,6 +290,17 @@ extern "C" {
 #define PRESENCE_PAGE_VIEW_CHANGED 1u
 #define PRESENCE_PAGE_CHARGED 2u
 
+/* The offset of the word with module j's cause, and the cause in that word. */
+#define PRESENCE_PAGE_CAUSES(j) (16u + ((uint32_t)(j) - 1u) / 4u * 4u)
+#define PRESENCE_CAUSE_IN(word, j) \
+    ((uint32_t)(word) >> (24u - 8u * (((uint32_t)(j) - 1u) % 4u)) & 0xFFu)
+
+/* The causes by name. */
+#define PRESENCE_CAUSE_HEARD 0u
+#define PRESENCE_CAUSE_CONTROLLER_LOSS 1u
+#define PRESENCE_CAUSE_WRONG_KIND 2u
+#define PRESENCE_CAUSE_STRAY_BITS 3u
+
 /*
  * The view in an accepted image of n modules, given as a pointer to uint8_t:
  * bits 15..0 of word n+3.  Uses its arguments twice.
@@ -290,7 +325,7 @@ extern "C" {
 #define PRESENCE_WRONG_OFFSET 17u
 #define PRESENCE_WRONG_WRITE 18u
 
-/* Answer of the functions that do not answer a presence_word. */
+/* Answer of the functions that answer no presence_word or presence_cause. */
 typedef struct presence_answer {
     uint32_t number; /* 0 accepted, else the reason for the refusal */
     uint32_t index;  /* word index, see the table; 0 if accepted */
@@ -303,6 +338,15 @@ typedef struct presence_word {
     uint32_t index;  /* word index, see the table; 0 if accepted */
     uint32_t word;   /* the word asked for, 0 if refused */
 } presence_word;
+
+/* Answer of presence_read_cause. */
+typedef struct presence_cause {
+    uint32_t number; /* 0 accepted, else the reason for the refusal */
+    uint32_t index;  /* 0 */
+    uint32_t cause;  /* 0 heard, 1 controller loss, 2 wrong kind, 3 stray bits;
+                        0 if refused */
+    uint32_t row;    /* the row of a word that is heard, else 0 */
+} presence_cause;
 
 /*
  * Tests a setup.
@@ -383,8 +427,25 @@ presence_answer presence_save(const uint8_t *state, size_t state_len,
 presence_word presence_outgoing(const uint8_t *state, size_t state_len);
 
 /*
+ * Whether a word that came in is heard, and if not, why: the first cause that
+ * applies.  Serves to look at a single word, of the latest read or of a log;
+ * words 4 to 7 of a page have the same of a whole read.
+ *   n                  the number of modules, 2..16
+ *   controller         the word's controller bit, 0 or 1
+ *   word               the word, as 32 bits; any is taken
+ * Order of the checks: 2 (n), 10 (controller); index 0.
+ * Accepted: the cause, and the row if it is 0.  The row of a heard word may be
+ * 0 too.
+ * Refused: cause and row are 0, which says nothing of the word; so look at
+ * number first.
+ * Writes nothing.
+ */
+presence_cause presence_read_cause(uint32_t n, uint32_t controller,
+                                   uint32_t word);
+
+/*
  * Opens a module that has a page: presence_open, and the page of a fresh
- * module (health all ones, its view, no flags, enable 0).
+ * module (health all ones, its view, no flags, enable 0, all causes 0).
  *   page, page_len     the page, PRESENCE_PAGE_BYTES; its old bytes are lost
  *   the rest           as for presence_open
  * Order of the checks: 1, 2, 3, 4, 5, 6 (setup), 7 (own, index 0),

@@ -4,8 +4,9 @@
  *
  * The first part is the firmware of one card.  It keeps a register page, by
  * which the host learns of presence.  The second part is the host, which is
- * connected to card 1.  The third part stands for the hardware: it carries the
- * words, lets card 3 fall silent for some rounds and restarts card 2.
+ * connected to card 1 and prints which cards were not heard, and why.  The
+ * third part stands for the hardware: it carries the words, lets card 3 fall
+ * silent for some rounds and restarts card 2.
  *
  * Build, with libgirmaut.a in the folder LIB:
  *   gcc -std=c99 -O2 -Iinclude examples/firmware/card.c -LLIB -lgirmaut -o card
@@ -219,6 +220,23 @@ static void host_start(void)
                PRESENCE_PAGE_VIEW_CHANGED | PRESENCE_PAGE_CHARGED);
 }
 
+/* Whose word the latest read lacked, and why.  It is a later word than the one
+   that the health vector judges. */
+static void host_print_causes(uint32_t round)
+{
+    static const char *const names[] = { "heard", "controller loss",
+                                         "wrong kind", "stray bits" };
+    uint32_t j, cause;
+
+    for (j = 1; j <= N; j++) {
+        cause = PRESENCE_CAUSE_IN(
+            page_read(&cards[0], PRESENCE_PAGE_CAUSES(j)), j);
+        if (cause != PRESENCE_CAUSE_HEARD)
+            printf("round %2u: card %u is missing in the latest read: %s\n",
+                   (unsigned)round, (unsigned)j, names[cause & 3u]);
+    }
+}
+
 /* While the line is on: takes the flags, and clears those that it took. */
 static void host_serve(uint32_t round)
 {
@@ -234,6 +252,7 @@ static void host_serve(uint32_t round)
                flags & PRESENCE_PAGE_CHARGED ? " somebody charged," : "",
                printed(page_read(c, PRESENCE_PAGE_HEALTH)),
                printed(page_read(c, PRESENCE_PAGE_VIEW)));
+        host_print_causes(round);
     }
 }
 

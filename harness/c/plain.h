@@ -40,4 +40,6 @@ presence_word plain_page_write(uint8_t *page, size_t page_len, uint32_t offset,
 
 presence_word plain_page_interrupt(const uint8_t *page, size_t page_len);
 
+presence_cause plain_read_cause(uint32_t n, uint32_t controller, uint32_t word);
+
 #endif

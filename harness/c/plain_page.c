@@ -1,22 +1,23 @@
 /*
- * plain_page.c - the register page of presence.h by hand in plain C99, after
- * E1 of document 02.  Apart from plain.c, whose instructions are counted.
+ * plain_page.c - the register page of presence.h, and why a word was not heard,
+ * by hand in plain C99, after E1 and E5 of document 02.  Apart from plain.c,
+ * whose instructions are counted.
  */
 #include <string.h>
 
 #include "plain.h"
 
-enum word { HEALTH, VIEW, FLAGS, ENABLE };
+enum word { HEALTH, VIEW, FLAGS, ENABLE, CAUSES };
 
-static uint32_t get_word(const uint8_t *page, enum word at)
+static uint32_t get_word(const uint8_t *bytes, uint32_t at)
 {
-    const uint8_t *b = page + 4 * at;
+    const uint8_t *b = bytes + 4 * at;
 
     return (uint32_t)b[0] << 24 | (uint32_t)b[1] << 16 | (uint32_t)b[2] << 8 |
            (uint32_t)b[3];
 }
 
-static void put_word(uint8_t *page, enum word at, uint32_t value)
+static void put_word(uint8_t *page, uint32_t at, uint32_t value)
 {
     uint8_t *b = page + 4 * at;
 
@@ -49,6 +50,47 @@ static presence_word told(uint32_t number, uint32_t word)
 static uint32_t interrupt_of(const uint8_t *page)
 {
     return (get_word(page, FLAGS) & get_word(page, ENABLE)) != 0;
+}
+
+/* The first cause that applies to a word of n modules, 0 if it is heard. */
+static uint32_t cause_of(uint32_t n, uint32_t controller_bit, uint32_t word)
+{
+    if (controller_bit == 0)
+        return PRESENCE_CAUSE_CONTROLLER_LOSS;
+    if (word >> 28 != 5)
+        return PRESENCE_CAUSE_WRONG_KIND;
+    if ((word & 0x0FFFFFFF) >> n != 0)
+        return PRESENCE_CAUSE_STRAY_BITS;
+    return PRESENCE_CAUSE_HEARD;
+}
+
+presence_cause plain_read_cause(uint32_t n, uint32_t controller, uint32_t word)
+{
+    presence_cause c = {0, 0, 0, 0};
+
+    if (n < 2 || n > PRESENCE_MAX_MODULES) {
+        c.number = 2;
+    } else if (controller > 1) {
+        c.number = 10;
+    } else {
+        c.cause = cause_of(n, controller, word);
+        if (c.cause == PRESENCE_CAUSE_HEARD)
+            c.row = word & 0xFFFF;
+    }
+    return c;
+}
+
+/* One byte a module, 0 above N; module 1 comes first. */
+static void put_causes(uint8_t *page, uint32_t n, const uint8_t *read,
+                       uint32_t controller)
+{
+    uint8_t *causes = page + 4 * CAUSES;
+    uint32_t j;
+
+    memset(causes, 0, PRESENCE_MAX_MODULES);
+    for (j = 0; j < n; j++)
+        causes[j] = (uint8_t)cause_of(n, controller >> j & 1,
+                                      get_word(read, j));
 }
 
 presence_answer plain_page_open(const uint8_t *setup, size_t setup_len,
@@ -100,6 +142,7 @@ presence_answer plain_page_step(const uint8_t *state, size_t state_len,
     put_word(page, HEALTH, a.health);
     put_word(page, VIEW, left);
     put_word(page, FLAGS, flags);
+    put_causes(page, n, read, controller);
     return a;
 }
 
@@ -110,7 +153,7 @@ presence_word plain_page_read(const uint8_t *page, size_t page_len,
         return told(9, 0);
     if (offset % 4 != 0 || offset > 60)
         return told(17, 0);
-    return told(0, get_word(page, (enum word)(offset / 4)));
+    return told(0, get_word(page, offset / 4));
 }
 
 presence_word plain_page_write(uint8_t *page, size_t page_len, uint32_t offset,

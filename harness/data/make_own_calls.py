@@ -1,5 +1,5 @@
 #!/usr/bin/env python3
-"""Writes own-calls.txt: calls with the answers that document 01 gives, and E1 of document 02 for pages.
+"""Writes own-calls.txt: calls with the answers that document 01 gives, and E1, E4 and E5 of document 02.
 
     python3 make_own_calls.py > own-calls.txt
 
@@ -192,9 +192,18 @@ def buses(*syndromes):
 # ---- lines of pages ----
 
 
-def page_words(health, view, flags=0, enable=0, rest=0):
-    """rest: words 4 to 15, each that number and its place; 0 for zeros."""
-    return [health, view, flags, enable] + [rest + at if rest else 0 for at in range(4, 16)]
+def page_words(health, view, flags=0, enable=0, rest=0, causes=None):
+    """rest: words 4 to 15, each that number and its place; 0 for zeros. causes: words 4 to 7 as a step writes
+    them, the causes by module, those not named heard."""
+    words = [health, view, flags, enable] + [rest + at if rest else 0 for at in range(4, 16)]
+    if causes is not None:
+        words[4:8] = [four_causes(causes, first) for first in (1, 5, 9, 13)]
+    return words
+
+
+def four_causes(causes, first):
+    """A word with the causes of four modules, the first topmost."""
+    return sum(causes.get(first + i, HEARD) << 24 - 8 * i for i in range(4))
 
 
 def page_opened(words, own, page):
@@ -242,6 +251,23 @@ def interrupt(page, on):
 
 def interrupt_refused(page):
     print(f"interrupt {text(page)} = 9 0 -")
+
+
+# ---- lines of causes ----
+
+HEARD, LOSS, KIND, STRAY = range(4)
+
+
+def heard(n, word, row):
+    print(f"cause 1 {word:08X} {n} = {HEARD} {row:04X}")
+
+
+def not_heard(n, bit, word, cause):
+    print(f"cause {bit} {word:08X} {n} = {cause} -")
+
+
+def cause_refused(n, bit, word, number):
+    print(f"cause {bit} {word:08X} {n} = refused {number} at 0")
 
 
 # ---- setup ----
@@ -649,11 +675,12 @@ def steps_of_empty_votes():
 def steps_of_other_votes():
     note("Votes 0, missing, 0 on 1: rows 2 and 4 lack 1, 3 is unheard. Health 0111, 1 is charged.")
     stepped(SHEET_1, buses(0xF, 0xE, 0xF, 0xE), 0xB, 0xE, [0xF, 0xE, None, 0xE], 0xB, penalty={1: 1})
-    also("4 is out of the view and does not vote: on 1 row 2 votes 0 and row 3 votes 1, which is 1. Health 1111,")
-    also("nobody charged. Row 2 is accused; row 4, which says the same, is not, and 4 is in the syndrome. The")
-    also("counters of 4 stay, a reward below R too.")
-    without_4 = SHEET_1.but(view=0x7, penalty={4: 2}, reward={4: 1})
+    also("On 1 rows 2 and 4 vote 0, row 3 votes 1. Health 0111, 1 is charged, row 3 accused.")
     rows = [0xF, 0xE, 0xF, 0xE]
+    stepped(SHEET_1, buses(*rows), 0xF, 0xE, rows, 0xB, penalty={1: 1})
+    also("The same with 4 out of the view, which does not vote: on 1 row 2 votes 0, row 3 votes 1. Health 1111,")
+    also("row 2 is accused; row 4 is not, though it lacks 1 too. The counters of 4 stay, a reward below R too.")
+    without_4 = SHEET_1.but(view=0x7, penalty={4: 2}, reward={4: 1})
     stepped(without_4, buses(*rows), 0xF, 0xF, rows, 0xD)
     also("The others vote on it: all their rows lack 4. Health 1110; 4 is out of the view and not charged.")
     stepped(without_4, buses(0x7, 0x7, 0x7, 0xF), 0xF, 0x7, [0x7, 0x7, 0x7, 0xF], 0xF)
@@ -788,13 +815,14 @@ def page_openings():
 
 def page_steps():
     seen = buses(0xD, 0xD, 0xD, 0xD)
-    note("The sheet with a page, both flags enabled. Round 1, 2 is unheard: nobody charged, no flag.")
+    note("The sheet with a page, both flags enabled. Round 1, 2 is unheard: nobody charged, no flag; its cause.")
     quiet = page_words(0xF, 0xF, 0, 3)
-    one = page_stepped(SHEET_1, quiet, quiet, ALL_ONES, 0xD, 0xF, [0xF, None, 0xF, 0xF], 0xD)
+    missed = page_words(0xF, 0xF, 0, 3, causes={2: LOSS})
+    one = page_stepped(SHEET_1, quiet, missed, ALL_ONES, 0xD, 0xF, [0xF, None, 0xF, 0xF], 0xD)
     also("Round 2: health 1011, 2 is charged and stays in the view: bit 1. Round 3: a second charge, 2")
-    also("leaves: bits 0 and 1. Rule 8 found it in the view.")
+    also("leaves: bits 0 and 1. Rule 8 found it in the view. All are heard.")
     charged = page_words(0xD, 0xF, 2, 3)
-    two = page_stepped(one, quiet, charged, seen, 0xF, 0xD, [0xD] * 4, 0xF, penalty={2: 1})
+    two = page_stepped(one, missed, charged, seen, 0xF, 0xD, [0xD] * 4, 0xF, penalty={2: 1})
     left = page_words(0xD, 0xD, 3, 3)
     out = page_stepped(two, charged, left, seen, 0xF, 0xD, [0xD] * 4, 0xF, penalty={2: 2}, view=0xD)
     also("2 is out of the view, health 0 charges nobody: flags stay as they are, set or cleared.")
@@ -806,9 +834,10 @@ def page_steps():
 
 
 def page_steps_on_any_page():
-    note("Any bytes in the page: word 1 changes, so bit 0; the other flags, enable and the rest stay.")
+    note("Any bytes in the page: word 1 changes, so bit 0; the other flags, enable and words 8 to 15 stay. Words 4",
+         "to 7 are those of the read, in which all are heard; 0 for modules above N.")
     ones = [0xF] * 4
-    page_stepped(SHEET_1, ANY_PAGE, page_words(0xF, 0xF, 0xFEDCBA99, 0x76543210, 0xC0DE0000),
+    page_stepped(SHEET_1, ANY_PAGE, page_words(0xF, 0xF, 0xFEDCBA99, 0x76543210, 0xC0DE0000, causes={}),
                  ALL_ONES, 0xF, 0xF, ones, 0xF)
     also("Only bits above the view differ in word 1: it changed. Word 1 is the view already: it did not,")
     also("whatever the view in the image was.")
@@ -818,16 +847,54 @@ def page_steps_on_any_page():
                  0xD, [0xD] * 4, 0xF, penalty={2: 2}, view=0xD)
     also("Nobody heard, latest syndrome 0000, only 2 in the view: all have health 0, 2 is charged.")
     alone = SHEET_1.but(latest=0x0, view=0x2, penalty={1: 2, 3: 2, 4: 2})
-    page_stepped(alone, page_words(0xF, 0x2, 4, 0), page_words(0x0, 0x2, 6, 0), ALL_ONES, 0x0, 0x0,
+    lost = {1: LOSS, 2: LOSS, 3: LOSS, 4: LOSS}
+    page_stepped(alone, page_words(0xF, 0x2, 4, 0), page_words(0x0, 0x2, 6, 0, causes=lost), ALL_ONES, 0x0, 0x0,
                  [None] * 4, 0x0, penalty={2: 1})
     also("Nobody is in the view: nobody is charged.")
     nobody = SHEET_1.but(latest=0x0, view=0x0, penalty={1: 2, 2: 2, 3: 2, 4: 2})
-    page_stepped(nobody, page_words(0xF, 0x0, 4, 0), page_words(0x0, 0x0, 4, 0), ALL_ONES, 0x0, 0x0,
+    page_stepped(nobody, page_words(0xF, 0x0, 4, 0), page_words(0x0, 0x0, 4, 0, causes=lost), ALL_ONES, 0x0, 0x0,
                  [None] * 4, 0x0)
     also("N = 16, 16 leaves.")
     lack = 0x7FFF
     page_stepped(State(SIXTEEN, 5).but(penalty={16: 1}), page_words(0xFFFF, 0xFFFF), page_words(lack, lack, 3),
                  buses(*[lack] * 16), 0xFFFF, lack, [lack] * 16, 0xFFFF, penalty={16: 2}, view=lack)
+
+
+def page_steps_with_causes():
+    fresh = page_words(0xF, 0xF)
+    image, rows = SHEET_1.but(latest=0xE), [0xF, None, None, None]
+    note("Only 1 is heard: health 0111, 1 is charged. 5000001F and 5001000F have stray bits, 4000000F is of kind 4.")
+    words = [bus(0xF), bus(0x1F), kind(bus(0xF), 4), bus(0x1000F)]
+    page_stepped(image, fresh, page_words(0xE, 0xF, 2, causes={2: STRAY, 3: KIND, 4: STRAY}), words, 0xF, 0xE, rows,
+                 0x1, penalty={1: 1})
+    also("The same words without controller bits: loss comes first.")
+    page_stepped(image, fresh, page_words(0xE, 0xF, 2, causes={2: LOSS, 3: LOSS, 4: LOSS}), words, 0x1, 0xE, rows,
+                 0x1, penalty={1: 1})
+    page_stepped(image, fresh, page_words(0xE, 0xF, 2, causes={2: STRAY, 3: LOSS, 4: STRAY}), words, 0xB, 0xE, rows,
+                 0x1, penalty={1: 1})
+    also("The kind comes before stray bits: 4000001F, F001000F, 00000000.")
+    words = [bus(0xF), kind(bus(0x1F), 4), kind(bus(0x1000F), 15), 0]
+    page_stepped(image, fresh, page_words(0xE, 0xF, 2, causes={2: KIND, 3: KIND, 4: KIND}), words, 0xF, 0xE, rows,
+                 0x1, penalty={1: 1})
+    also("On a page with other causes: all four words are written anew.")
+    page_stepped(image, page_words(0xF, 0xF, causes={j: STRAY for j in range(1, 17)}),
+                 page_words(0xE, 0xF, 2, causes={2: KIND, 3: KIND, 4: KIND}), words, 0xF, 0xE, rows, 0x1, penalty={1: 1})
+
+    note("N = 16, causes 0123 3001 2200 1330 of the modules in turn: 1, 6, 7, 11, 12 and 16 are heard, all of them with",
+         "all ones, so health is all ones. The syndrome holds those six.")
+    codes = [0, 1, 2, 3, 3, 0, 0, 1, 2, 2, 0, 0, 1, 3, 3, 0]
+    words = [{KIND: kind(bus(0xFFFF), 12), STRAY: bus(0x1FFFF)}.get(code, bus(0xFFFF)) for code in codes]
+    page_stepped(State(SIXTEEN, 3), page_words(0xFFFF, 0xFFFF), page_words(0xFFFF, 0xFFFF, causes=dict(enumerate(codes, 1))),
+                 words, full(16) & ~(1 << 1 | 1 << 7 | 1 << 12), 0xFFFF,
+                 [None if code else 0xFFFF for code in codes], 1 << 0 | 1 << 5 | 1 << 6 | 1 << 10 | 1 << 11 | 1 << 15)
+
+    note("u = 1, module 4 with l = 2: the rows of 1 and 2 that vote are those of the read before. In this read 1 is lost",
+         "and 4 is of kind 4: its causes, though 1 is heard after alignment. The syndrome lacks 4.")
+    words = [bus(0xF), bus(0xF), bus(0xF), kind(bus(0xF), 4)]
+    next_page = page_words(0xF, 0xF, causes={1: LOSS, 4: KIND})
+    after = page_stepped(State(MARKED, 4), fresh, next_page, words, 0xE, 0xF, [None, 0xF, 0xF, None], 0x7)
+    also("In the next read all are heard: no cause, though 1 is missing after alignment. The syndrome lacks 1.")
+    page_stepped(after, next_page, fresh, ALL_ONES, 0xF, 0xF, [0xF] * 4, 0xE)
 
 
 def page_steps_refused():
@@ -908,7 +975,35 @@ def page_interrupts():
         interrupt_refused((raw(ANY_PAGE) + bytes(4))[:length])
 
 
-print("# Calls and their answers after document 01 and E1 of document 02, in the format of calls.txt and e01-calls.txt.")
+def causes_told():
+    note("A word that is heard, with its row: none, all and some of the bits below N; N = 2, 4 and 16.")
+    for n, row in ((2, 0x0), (2, 0x3), (4, 0x0), (4, 0x5), (4, 0xF), (16, 0x8001), (16, 0xFFFF)):
+        heard(n, bus(row), row)
+    note("Cause 3: a bit at N, at 27, at 16 where N is 16; with bits of a row too.")
+    for n, word in ((2, bus(0x4)), (4, bus(0x10)), (4, bus(0x1F)), (4, bus(1 << 27)), (16, bus(1 << 16)), (16, bus(0x1FFFF))):
+        not_heard(n, 1, word, STRAY)
+    also("What is heard of 16 modules has stray bits for 15.")
+    heard(16, bus(0x8000), 0x8000)
+    not_heard(15, 1, bus(0x8000), STRAY)
+    note("Cause 2: every other kind, with stray bits and without; the kind comes first.")
+    for other in (0, 1, 4, 6, 7, 10, 13, 15):
+        not_heard(4, 1, kind(bus(0xF), other), KIND)
+        not_heard(4, 1, kind(bus(0x1F), other), KIND)
+    not_heard(16, 1, 0xFFFFFFFF, KIND)
+    note("Cause 1: no controller bit comes first, whatever the word is.")
+    for word in (bus(0xF), bus(0x1F), kind(bus(0xF), 4), kind(bus(0x1F), 10), 0, 0xFFFFFFFF):
+        not_heard(4, 0, word, LOSS)
+    note("2: N out of range. 10: what is no bit. 2 before 10.")
+    for n in (0, 1, 17, 32, (1 << 32) - 1):
+        cause_refused(n, 1, bus(0), 2)
+        cause_refused(n, 2, bus(0), 2)
+    for bit in (2, 3, 256, (1 << 32) - 1):
+        cause_refused(2, bit, bus(0), 10)
+        cause_refused(16, bit, bus(0), 10)
+
+
+print("# Calls and their answers after document 01 and E1, E4 and E5 of document 02, in the format of e05-calls.txt;")
+print("# a cause that is refused is written cause CTLBIT WORD N = refused NUMBER at INDEX.")
 print("# A number before a colon or a comma at the start of a comment is the answer's number.")
 print("# Vectors in the comments are as printed: module 1 stands leftmost.")
 setups_accepted()
@@ -940,7 +1035,9 @@ steps_with_u_1()
 page_openings()
 page_steps()
 page_steps_on_any_page()
+page_steps_with_causes()
 page_steps_refused()
 page_reads()
 page_writes()
 page_interrupts()
+causes_told()

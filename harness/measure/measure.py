@@ -181,7 +181,7 @@ def print_code_sizes(both, archive):
         own = one.name + ".o"
         linked = sum(text_bytes(one.compile(["use.c"], one.link)).values())
         rest = sum(text_bytes(one.compile(["use.c", "none.c"], [])).values())
-        print("  %-8s %7d in %s, %d of it linked when all five functions are used"
+        print("  %-8s %7d in %s, %d of it linked when setup check, opening, step, saving and outgoing word are used"
               % (one.name, text_bytes(one.link[0])[own], own, linked - rest))
     objects = ["%s %d" % (name, size) for name, size in sorted(text_bytes(archive).items())]
     print("  %s: %s" % (os.path.basename(archive), ", ".join(objects)))

@@ -1,4 +1,5 @@
-/* use.c - calls each function once, to see how much code gets linked. */
+/* use.c - calls each function of plain.c once, or the same of the library, to
+   see how much code gets linked. */
 #include "which.h"
 
 static uint8_t in[PRESENCE_MAX_IMAGE_BYTES], read[PRESENCE_MAX_READ_BYTES];

@@ -1,7 +1,7 @@
 //! One call with all its arguments, made on the model or on the library.
 
 use crate::hex::to_hex;
-use crate::model::calls::{Answer, Functions, WordAnswer};
+use crate::model::calls::{Answer, CauseAnswer, Functions, WordAnswer};
 
 #[derive(Clone, PartialEq, Eq, Debug)]
 pub enum Call {
@@ -15,14 +15,17 @@ pub enum Call {
     PageRead { page: Vec<u8>, offset: u32 },
     PageWrite { page: Vec<u8>, offset: u32, value: u32 },
     Interrupt { page: Vec<u8> },
+    ReadCause { n: u32, controller: u32, word: u32 },
 }
 
-/// What a call answers: number, index, and health, the outgoing word, a word of the page or the interrupt.
+/// What a call answers: number, index, and health, the outgoing word, a word of the page, the interrupt or a cause.
 #[derive(Clone, Copy, PartialEq, Eq, Debug)]
 pub struct Reply {
     pub number: u32,
     pub index: u32,
     pub value: u32,
+    /// The row of a word that is heard, where a cause is asked for; else 0.
+    pub row: u32,
 }
 
 /// A lent buffer inside a larger one, all filled with a pattern.
@@ -120,6 +123,7 @@ impl Call {
             Call::PageRead { page, offset } => on.page_read(page, *offset).into(),
             Call::PageWrite { offset, value, .. } => on.page_write(page_lent, *offset, *value).into(),
             Call::Interrupt { page } => on.page_interrupt(page).into(),
+            Call::ReadCause { n, controller, word } => on.read_cause(*n, *controller, *word).into(),
         }
     }
 
@@ -145,18 +149,25 @@ impl Call {
                 format!("pagewrite {} {offset} {value:X}", to_hex(page))
             }
             Call::Interrupt { page } => format!("interrupt {}", to_hex(page)),
+            Call::ReadCause { n, controller, word } => format!("cause {controller} {word:08X} {n}"),
         }
     }
 }
 
 impl From<Answer> for Reply {
     fn from(answer: Answer) -> Reply {
-        Reply { number: answer.number, index: answer.index, value: answer.health }
+        Reply { number: answer.number, index: answer.index, value: answer.health, row: 0 }
     }
 }
 
 impl From<WordAnswer> for Reply {
     fn from(answer: WordAnswer) -> Reply {
-        Reply { number: answer.number, index: answer.index, value: answer.word }
+        Reply { number: answer.number, index: answer.index, value: answer.word, row: 0 }
+    }
+}
+
+impl From<CauseAnswer> for Reply {
+    fn from(answer: CauseAnswer) -> Reply {
+        Reply { number: answer.number, index: answer.index, value: answer.cause, row: answer.row }
     }
 }

@@ -1,5 +1,6 @@
 //! The calls file: one call a line with the answer it must give. Besides the calls named at the
-//! top of that file, `outgoing STATE = NUMBER INDEX WORD` is understood.
+//! top of that file, `outgoing STATE = NUMBER INDEX WORD` is understood, and a cause that is refused,
+//! `cause CTLBIT WORD N = refused NUMBER at INDEX`.
 
 use crate::call::{Buffers, Call, Reply};
 use crate::hex::{from_hex, to_hex};
@@ -21,8 +22,10 @@ pub struct Case {
     pub call: Call,
     pub number: u32,
     pub index: u32,
-    /// Health, a word or the interrupt; `None` if the line does not say it.
+    /// Health, a word, the interrupt or a cause; `None` if the line does not say it.
     pub value: Option<u32>,
+    /// The row of a heard word, where a cause is asked for.
+    pub row: u32,
     /// The output after the call; `None` if it stays as given.
     pub output: Option<Vec<u8>>,
     /// The page after the call; `None` if it stays as given.
@@ -70,7 +73,21 @@ fn cases(call: &[&str], answer: &[&str]) -> Result<Vec<Case>, String> {
             let call = Call::Save { state: bytes(state)?, out_len: decimal(out_len)? as usize };
             Ok(vec![case(call, number, index, Some(health), output)?])
         }
+        (["cause", controller, word, n], answer) => {
+            let call = Call::ReadCause { n: decimal(n)?, controller: decimal(controller)?, word: hexadecimal(word)? };
+            Ok(vec![cause_case(call, answer)?])
+        }
         _ => Ok(vec![page_case(call, answer)?]),
+    }
+}
+
+/// The case of a line that asks for a cause: code and row, `-` for the row of a word that is not heard.
+fn cause_case(call: Call, answer: &[&str]) -> Result<Case, String> {
+    match answer {
+        ["refused", number, "at", index] => case(call, number, index, Some("0"), "-"),
+        [code @ "0", row] => Ok(Case { row: hexadecimal(row)?, ..case(call, "0", "0", Some(code), "-")? }),
+        [code, "-"] => case(call, "0", "0", Some(code), "-"),
+        _ => Err("unknown answer of a cause".to_string()),
     }
 }
 
@@ -149,7 +166,7 @@ fn case(call: Call, number: &str, index: &str, value: Option<&str>, output: &str
     if output.as_ref().is_some_and(|output| output.len() != call.out_len()) {
         return Err("the image after = is not of the output's length".to_string());
     }
-    Ok(Case { call, number: decimal(number)?, index: decimal(index)?, value, output, page: None })
+    Ok(Case { call, number: decimal(number)?, index: decimal(index)?, value, row: 0, output, page: None })
 }
 
 fn bytes(text: &str) -> Result<Vec<u8>, String> {
@@ -186,7 +203,7 @@ pub fn answered(text: &str, on: &dyn Functions) -> Result<String, String> {
     };
     let given = Buffers::of(&case.call, PATTERNS[0]);
     let mut lent = given.clone();
-    let Reply { number, index, value } = case.call.make(on, &mut lent);
+    let Reply { number, index, value, row } = case.call.make(on, &mut lent);
     let output = written(&lent, &given);
     let accepted = number == 0;
     let page = if accepted { to_hex(lent.page.written()) } else { "-".to_string() };
@@ -204,6 +221,9 @@ pub fn answered(text: &str, on: &dyn Functions) -> Result<String, String> {
         Call::PageRead { .. } | Call::PageWrite { .. } | Call::Interrupt { .. } => {
             format!("{text} = {number} {index} -")
         }
+        Call::ReadCause { .. } if !accepted => format!("{text} = refused {number} at {index}"),
+        Call::ReadCause { .. } if value == 0 => format!("{text} = {value} {row:04X}"),
+        Call::ReadCause { .. } => format!("{text} = {value} -"),
         _ => format!("{text} = {number} {index} {value:04X} {output}"),
     };
     match compare_all(&parse(&line)?, on) {
@@ -221,7 +241,7 @@ fn written(lent: &Buffers, given: &Buffers) -> String {
     }
 }
 
-/// Makes the call and compares number, index, health or word, and the whole lent buffers.
+/// Makes the call and compares number, index, health or word, row, and the whole lent buffers.
 /// The error says what came out instead.
 pub fn compare(case: &Case, on: &dyn Functions, pattern: u32) -> Result<(), String> {
     let given = Buffers::of(&case.call, pattern);
@@ -234,12 +254,13 @@ pub fn compare(case: &Case, on: &dyn Functions, pattern: u32) -> Result<(), Stri
     }
     let mut lent = given.clone();
     let reply = case.call.make(on, &mut lent);
-    let value_right = case.value.is_none_or(|value| value == reply.value);
+    let value_right = case.value.is_none_or(|value| value == reply.value) && reply.row == case.row;
     if reply.number == case.number && reply.index == case.index && value_right && lent == wanted {
         return Ok(());
     }
     let output = written(&lent, &given);
     let page = to_hex(lent.page.written());
     let outside = if lent.same_margins(&given) { "" } else { ", and wrote outside what was lent" };
-    Err(format!("{} {} {:04X} {output} page {page}{outside}", reply.number, reply.index, reply.value))
+    let Reply { number, index, value, row } = reply;
+    Err(format!("{number} {index} {value:04X} row {row:04X} {output} page {page}{outside}"))
 }

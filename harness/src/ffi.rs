@@ -1,6 +1,6 @@
 //! The library's functions as C sees them, and safe wrappers on slices.
 
-use crate::model::calls::{Answer, Functions, WordAnswer};
+use crate::model::calls::{Answer, CauseAnswer, Functions, WordAnswer};
 
 #[repr(C)]
 #[derive(Clone, Copy)]
@@ -16,6 +16,15 @@ struct PresenceWord {
     number: u32,
     index: u32,
     word: u32,
+}
+
+#[repr(C)]
+#[derive(Clone, Copy)]
+struct PresenceCause {
+    number: u32,
+    index: u32,
+    cause: u32,
+    row: u32,
 }
 
 extern "C" {
@@ -61,6 +70,7 @@ extern "C" {
     fn presence_page_read(page: *const u8, page_len: usize, offset: u32) -> PresenceWord;
     fn presence_page_write(page: *mut u8, page_len: usize, offset: u32, value: u32) -> PresenceWord;
     fn presence_page_interrupt(page: *const u8, page_len: usize) -> PresenceWord;
+    fn presence_read_cause(n: u32, controller: u32, word: u32) -> PresenceCause;
 }
 
 /// The linked library.
@@ -129,6 +139,10 @@ impl Functions for Library {
     }
     fn page_interrupt(&self, page: &[u8]) -> WordAnswer {
         word_from_c(unsafe { presence_page_interrupt(page.as_ptr(), page.len()) })
+    }
+    fn read_cause(&self, n: u32, controller: u32, word: u32) -> CauseAnswer {
+        let answer = unsafe { presence_read_cause(n, controller, word) };
+        CauseAnswer { number: answer.number, index: answer.index, cause: answer.cause, row: answer.row }
     }
 }
 

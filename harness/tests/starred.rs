@@ -4,7 +4,7 @@ mod common;
 
 use common::*;
 use harness::model::state::{fresh, Entry};
-use harness::model::step::{hear, heard_word, step, vote};
+use harness::model::step::{heard_word, read_word, step, vote, Reading};
 use harness::model::words::MAX;
 use harness::script::backplane::{add_event, Backplane, Event, NO_EVENTS};
 
@@ -116,7 +116,7 @@ fn heard_words() {
     assert_eq!(heard_word(4, 0x5000000F), Some(15));
     assert_eq!(heard_word(4, 0x5000001F), None);
     assert_eq!(heard_word(4, 0x4000000F), None);
-    assert!(!hear(4, false, 0x5000000F).heard);
+    assert_eq!(read_word(4, false, 0x5000000F), Reading::ControllerLoss);
 
     // In a step: the syndrome holds whom it heard.
     let setup = setup(&SHEET);

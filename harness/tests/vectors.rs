@@ -14,7 +14,7 @@ fn data(name: &str) -> PathBuf {
 
 fn all_calls() -> Vec<String> {
     let files = calls_files(data("").to_str().unwrap());
-    assert_eq!(files.len(), 4);
+    assert_eq!(files.len(), 5);
     files
 }
 
@@ -59,10 +59,16 @@ fn wrong_calls_written_anew() {
         ("pageread 0000 64 = 17 0 -", "pageread 0000 64 = 9 0 -"),
         ("pagewrite 0000 8 3 = 0 0 0000 1", "pagewrite 0000 8 3 = 9 0 -"),
         ("interrupt - = 0 0 1", "interrupt - = 9 0 -"),
+        ("cause 1 5000000F 4 = 3 -", "cause 1 5000000F 4 = 0 000F"),
+        ("cause 1 5000001F 4 = 0 001F", "cause 1 5000001F 4 = 3 -"),
+        ("cause 0 5000000F 4 = refused 10 at 0", "cause 0 5000000F 4 = 1 -"),
+        ("cause 1 5000000F 17 = 0 000F", "cause 1 5000000F 17 = refused 2 at 0"),
     ] {
         assert_eq!(answered(wrong, &Model).as_deref(), Ok(right));
     }
-    assert!(answered("setup - 0 0", &Model).is_err());
+    for wrong in ["setup - 0 0", "cause 1 5000000F 4 = 0 -", "cause 1 5000000F 4 = 3 000F", "cause 1 5000000F = 0 000F"] {
+        assert!(answered(wrong, &Model).is_err());
+    }
 }
 
 /// Own calls hold every answer number that the calls can give, but 11.

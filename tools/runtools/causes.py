@@ -1,4 +1,4 @@
-"""Why a module was charged, as far as the script shows it, after rules 3 to 6 of document 01 and E4 of document 02.
+"""Why a module was charged, as far as the script shows it, after rules 3 to 6 of document 01 and E4 and E5 of document 02.
 
 A charge in round k judges the module's word of round r = k − 2u − 1, by the votes that were sent in round k − u. A vote against it
 has one of three reasons: its word of round r did not reach the voter as sent; or it did, and reported otherwise than the vote on
@@ -8,7 +8,8 @@ what was heard in round r − u − 1, so that the voter accused it; or the vote
 from collections import namedtuple
 
 from .hearing import Hearing, differing
-from .words import modules_of
+from .script import Events
+from .words import STRAY_BITS, WRONG_KIND, modules_of
 
 # It names no rounds, so that equal causes of neighbouring rounds are equal.
 #   early       whether the round judged lies before round 1, where every word counts as heard
@@ -20,8 +21,9 @@ from .words import modules_of
 #   explained   whether any of these explains a vote against it
 Cause = namedtuple("Cause", "early own differed senders lied_about liars explained")
 
-# receivers that did not hear a word, and receivers that heard a told one instead
-Outcome = namedtuple("Outcome", "losses lies")
+# what became of a word at its receivers, where it did not arrive as sent: lost, replaced by a told word that was heard, or replaced by
+# one that was not, because of its kind or its stray bits
+Outcome = namedtuple("Outcome", "losses lies wrong_kind stray_bits")
 Sender = namedtuple("Sender", "module half_heard outcome")
 
 
@@ -116,15 +118,15 @@ def deciders(hearing, judge, module, voted, decided):
 
 def own_outcome(script, module, number):
     """What becomes of a module's word in a round on the way to the others; None if it arrives."""
-    losses, lies = outcome(script, module, number)
-    own = Outcome(tuple(i for i in losses if i != module), tuple(i for i in lies if i != module))
+    own = Outcome(*(tuple(i for i in receivers if i != module) for receivers in outcome(script, module, number)))
     return own if any(own) else None
 
 
 def outcome(script, sender, number):
     """What the script does to a sender's word in a round."""
-    events = script.events.get(number, {}).get(sender)
-    return Outcome(tuple(events.losses), tuple(receiver for receiver, _ in events.lies)) if events else Outcome((), ())
+    events = script.events.get(number, {}).get(sender, Events([], []))
+    told = (tuple(events.told(why, script.n)) for why in (None, WRONG_KIND, STRAY_BITS))
+    return Outcome(tuple(events.losses), *told)
 
 
 def has(vector, module):

@@ -1,6 +1,7 @@
 """The causes of charges in words."""
 
 from .account import plural, rounds_text
+from .words import STRAY_BITS, WRONG_KIND
 
 MOST_CAUSES = 8      # lines below a line of charges
 MOST_SENDERS = 2     # of whom a line says what became of their words
@@ -59,8 +60,15 @@ def sender_text(script, sender, reported):
 
 
 def outcome_text(script, sender, outcome):
-    parts = [("lost", outcome.losses), ("replaced by a lie" if len(outcome.lies) == 1 else "replaced by lies", outcome.lies)]
-    return " and ".join(f"{what} to {to_whom(script, sender, receivers)}" for what, receivers in parts if receivers)
+    found = [("lost", outcome.losses), (replaced("a lie", "lies", outcome.lies), outcome.lies)]
+    for cause, receivers in ((WRONG_KIND, outcome.wrong_kind), (STRAY_BITS, outcome.stray_bits)):
+        found.append((f"{replaced('an unheard lie', 'unheard lies', receivers)} ({cause})", receivers))
+    parts = [f"{what} to {to_whom(script, sender, receivers)}" for what, receivers in found if receivers]
+    return " and ".join([", ".join(parts[:-1]), parts[-1]] if len(parts) > 1 else parts)
+
+
+def replaced(one, several, receivers):
+    return "replaced by " + (one if len(receivers) == 1 else several)
 
 
 def to_whom(script, sender, receivers):

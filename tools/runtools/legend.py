@@ -22,6 +22,13 @@ EVENTS = [
     ("lie to all", "lie: all modules hear a told word"),
     ("lie to some", "lie: some modules hear a told word"),
 ]
+# only where there are such lies
+UNHEARD = [
+    ("wrong kind to all", "lie of wrong kind: no module hears it"),
+    ("wrong kind to some", "lie of wrong kind: some modules do not hear it"),
+    ("stray bits to all", "lie with stray bits: no module hears it"),
+    ("stray bits to some", "lie with stray bits: some modules do not hear it"),
+]
 
 
 def legend(account, found, width, y):
@@ -49,7 +56,8 @@ def entries(account, found):
     listed += [(agreement(False, 0, WIDE, 1), f"row agreement: all {who} agree"),
                (agreement(True, 0, WIDE, 1), f"row agreement: {who} differ")]
     if account.script:
-        listed += [(event_sample(name), words) for name, words in EVENTS]
+        drawn = {name for column in found for events in column.events.values() for name in marks.event_names(events, account.n)}
+        listed += [(event_sample(name), words) for name, words in EVENTS + [entry for entry in UNHEARD if entry[0] in drawn]]
     if any(column.first != column.last for column in found):
         listed.append((folded_sample(), "a range of rounds without change; a mark in it stands for every round of it"))
     if account.first_out is not None:

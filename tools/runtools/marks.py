@@ -1,6 +1,7 @@
 """The marks in a picture's cells. Each differs from the others by shape or hatch, and not by colour alone."""
 
 from . import svg
+from .words import STRAY_BITS, WRONG_KIND
 
 CHARGE = "#D55E00"
 EVENT = "#0072B2"
@@ -60,23 +61,30 @@ def differing(x, y, width, hatched):
 
 
 def events(found, n, x, y, width):
-    """Triangles for losses, diamonds for lies; filled if to all modules."""
+    """The marks side by side, smaller where they are more than fit."""
     names = event_names(found, n)
-    start = x + width / 2 - 5 * (len(names) - 1)
-    return "".join(event(name, start + 10 * i, y + BAND / 2) for i, name in enumerate(names))
+    size = min(1, width / (10 * len(names)))
+    start = x + width / 2 - 5 * size * (len(names) - 1)
+    return "".join(event(name, start + 10 * size * i, y + BAND / 2, size) for i, name in enumerate(names))
 
 
 def event_names(found, n):
-    names = []
-    if found.losses:
-        names.append("loss to all" if len(found.losses) == n else "loss to some")
-    if found.lies:
-        names.append("lie to all" if len(found.lies) == n else "lie to some")
-    return names
+    receivers = {"loss": found.losses, "lie": found.told(None, n), WRONG_KIND: found.told(WRONG_KIND, n), STRAY_BITS: found.told(STRAY_BITS, n)}
+    return [f"{what} to all" if len(to) == n else f"{what} to some" for what, to in receivers.items() if to]
 
 
-def event(name, x, y):
-    filled = name.endswith("all")
-    if name.startswith("loss"):
-        return svg.polygon([(x - 4.5, y - 4), (x + 4.5, y - 4), (x, y + 4.5)], fill=EVENT if filled else "#fff", stroke=EVENT, stroke_width=1.5)
-    return svg.polygon([(x, y - 5), (x + 4.5, y), (x, y + 5), (x - 4.5, y)], fill=LIE if filled else "#fff", stroke=LIE, stroke_width=1.5)
+# corners of the marks of events, around their middle
+SHAPES = {
+    "loss": [(-4.5, -4), (4.5, -4), (0, 4.5)],
+    "lie": [(0, -5), (4.5, 0), (0, 5), (-4.5, 0)],
+    WRONG_KIND: [(-4, -4), (4, -4), (4, 4), (-4, 4)],
+    STRAY_BITS: [(-4.5, -2), (-2, -2), (-2, -4.5), (2, -4.5), (2, -2), (4.5, -2), (4.5, 2), (2, 2), (2, 4.5), (-2, 4.5), (-2, 2), (-4.5, 2)],
+}
+
+
+def event(name, x, y, size=1):
+    """A triangle for a loss, a diamond for a lie that is heard, a square and a cross for those that are not; filled if to all modules."""
+    what, to = name.split(" to ")
+    colour = EVENT if what == "loss" else LIE
+    corners = [(x + size * across, y + size * down) for across, down in SHAPES[what]]
+    return svg.polygon(corners, fill=colour if to == "all" else "#fff", stroke=colour, stroke_width=1.5)

@@ -4,7 +4,7 @@ from . import marks, svg
 from .columns import label
 from .disassemble import modules_text, told_text
 from .layout import MARGIN, ROW, STRIP, module_label, width_of
-from .words import mask_of
+from .words import mask_of, why_unheard
 
 
 def panel_height(account, row):
@@ -114,5 +114,6 @@ def cell_title(account, column, module, cell):
             said.append(f"loss to {modules_text(mask_of(found.losses), account.n)}")
         for word in sorted({told for _, told in found.lies}):
             receivers = mask_of(receiver for receiver, told in found.lies if told == word)
-            said.append(f"lie to {modules_text(receivers, account.n)} {told_text(word, account.n)}")
+            why = why_unheard(word, account.n)
+            said.append(f"lie to {modules_text(receivers, account.n)} {told_text(word, account.n)}" + (f", not heard: {why}" if why else ""))
     return "\n".join(said)

@@ -6,8 +6,12 @@ from . import check
 from . import words as w
 from .assemble import ScriptError, assemble
 
-# receivers that hear nothing from a sender in a round, and receivers that hear a told word instead
-Events = namedtuple("Events", "losses lies")
+class Events(namedtuple("Events", "losses lies")):
+    """What happens to a sender's word in a round: receivers that it is lost to, and receivers that get a told word instead, each with it."""
+
+    def told(self, why, n):
+        """Receivers of a told word that is not heard for this cause, or that is heard where the cause is None."""
+        return [receiver for receiver, word in self.lies if w.why_unheard(word, n) == why]
 
 
 class Script:

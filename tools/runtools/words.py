@@ -81,9 +81,19 @@ def vector_mask(text):
     return int(text[::-1], 2)
 
 
+# why a word that arrives is not heard
+WRONG_KIND, STRAY_BITS = "wrong kind", "stray bits"
+
+
+def why_unheard(word, n):
+    """Rule 2, with the cause as document 02's E5 has it: None for a word of kind 5 without bits at N or above, which is heard."""
+    if kind(word) != BUS:
+        return WRONG_KIND
+    return STRAY_BITS if value(word) >> n else None
+
+
 def is_heard(word, n):
-    """Rule 2: kind 5 and no bits at N or above."""
-    return kind(word) == BUS and value(word) >> n == 0
+    return why_unheard(word, n) is None
 
 
 def to_words(data):

@@ -148,8 +148,32 @@ class Sentences(unittest.TestCase):
   module 2: 1 charge in round 3
     round 3: its word of round 2 was replaced by lies to everybody
 """)
-        self.assertIn("round 2: its word of round 1 was lost to module 1 and replaced by lies to modules 3, 4\n",
-                      charged("cast 2\nloss 2 to 1\nlie 2 to 3 4 word 0x00000000\nplay 4"))
+        self.assertIn("round 3: its word of round 2 was lost to module 1 and replaced by lies to modules 3, 4\n",
+                      charged("cast 2\nplay 1\nloss 2 to 1\nlie 2 to 3 4 says 1010\nplay 4"))
+
+    def test_lies_that_are_not_heard(self):
+        def first(run):
+            return charged("cast 2\n" + run + "play 4").splitlines()[1]
+
+        self.assertEqual(first("lie 2 to all word 0x00000000\n"),
+                         "    round 2: its word of round 1 was replaced by unheard lies (wrong kind) to everybody")
+        self.assertEqual(first("lie 2 to all word 0x5000001F\n"),
+                         "    round 2: its word of round 1 was replaced by unheard lies (stray bits) to everybody")
+        # the kind comes first
+        self.assertEqual(first("lie 2 to all word 0x6000001F\n"),
+                         "    round 2: its word of round 1 was replaced by unheard lies (wrong kind) to everybody")
+        self.assertEqual(first("loss 2 to 1\nlie 2 to 3 4 word 0x00000000\n"),
+                         "    round 2: its word of round 1 was lost to module 1 and replaced by unheard lies (wrong kind) to modules 3, 4")
+        self.assertEqual(first("loss 2 to 1\nlie 2 to 3 word 0x00000000\nlie 2 to 4 word 0x5FFFFFFF\n"),
+                         "    round 2: its word of round 1 was lost to module 1, replaced by an unheard lie (wrong kind) to module 3"
+                         " and replaced by an unheard lie (stray bits) to module 4")
+
+    def test_a_sender_whose_lie_one_alone_did_not_hear(self):
+        self.assertEqual(charged("cast 1\nlie 1 to 3 word 0x5000001F\nplay 4"), """\
+  module 3: 1 charge in round 3
+    round 3: its word of round 2 arrived, but reported otherwise than the vote: module 1 was half heard in round 1 \
+(replaced by an unheard lie (stray bits) to module 3)
+""")
 
     def test_lies_about_a_module(self):
         lies = "lie 2 to all says 0111\nlie 3 to all says 0111\n"

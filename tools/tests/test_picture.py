@@ -8,7 +8,7 @@ from common import SHEET, printed, read, root, stored, tool
 from runtools import check, marks, script, svg
 from runtools.account import Account, Cell
 from runtools.columns import columns, label
-from runtools.layout import MOST_HEIGHT, wrapped
+from runtools.layout import MOST_HEIGHT, NARROW, WIDE, wrapped
 from runtools.lines import read_run
 from runtools.picture import picture
 
@@ -57,6 +57,31 @@ class Marks(unittest.TestCase):
                  ("charged", "leaves", "outside", "outside, judged 0", "healths differ", "views differ")]
         self.assertEqual(len(set(drawn)), len(drawn))
 
+    def test_why_a_lie_is_not_heard(self):
+        def names(run):
+            return marks.event_names(script.load((SETUP + "cast 2\n" + run + "play 1").encode(), "text").events[1][2], 4)
+
+        self.assertEqual(names("loss 2 to all\n"), ["loss to all"])
+        self.assertEqual(names("lie 2 to all says 0000\n"), ["lie to all"])
+        self.assertEqual(names("lie 2 to all word 0x4000001F\n"), ["wrong kind to all"])
+        self.assertEqual(names("lie 2 to all word 0x5000001F\n"), ["stray bits to all"])
+        self.assertEqual(names("loss 2 to 1\nlie 2 to 2 says 0000\nlie 2 to 3 word 0x00000000\nlie 2 to 4 word 0x58000000\n"),
+                         ["loss to some", "lie to some", "wrong kind to some", "stray bits to some"])
+        self.assertEqual(names("lie 2 to all says 0000\nlie 2 to 1 word 0x00000000\n"), ["lie to some", "wrong kind to some"])
+
+    def test_every_event_has_its_own_shape(self):
+        drawn = {re.sub(r"#[0-9A-Fa-f]{3,6}", "colour", marks.event(f"{what} to all", 0, 0)) for what in ("loss", "lie", "wrong kind", "stray bits")}
+        self.assertEqual(len(drawn), 4)
+
+    def test_marks_stay_in_their_cell(self):
+        found = script.load((SETUP + "cast 2\nloss 2 to 1\nlie 2 to 2 says 0000\nlie 2 to 3 word 0x00000000\n"
+                                     "lie 2 to 4 word 0x58000000\nplay 1").encode(), "text").events[1][2]
+        for width in (WIDE, NARROW):
+            corners = re.findall(r"(-?[0-9.]+),(-?[0-9.]+)", marks.events(found, 4, 100, 50, width))
+            self.assertEqual(len(corners), 3 + 4 + 4 + 12)
+            for x, y in corners:
+                self.assertTrue(100 <= float(x) <= 100 + width and 50 <= float(y) <= 50 + marks.BAND, (width, x, y))
+
 
 class Picture(unittest.TestCase):
     def check_drawing(self, drawn):
@@ -89,6 +114,17 @@ class Picture(unittest.TestCase):
         self.assertIn("<title>round 1, module 2: healthy\nloss to all</title>", drawn)
         self.assertIn("<title>round 2, module 2: charged</title>", drawn)
         self.assertIn("Left the view: nobody.", drawn)
+
+    def test_a_lie_that_is_not_heard_says_why(self):
+        text = SETUP + "cast 2\nlie 2 to all but 1 word 0x4000000F\nlie 2 to 1 word 0x5000001F\nplay 1"
+        drawn = picture(account(printed(("in", *[ALL] * 4)), text), "lies")
+        self.check_drawing(drawn)
+        self.assertIn("<title>round 1, module 2: healthy\nlie to all but 1 word 0x4000000F, not heard: wrong kind\n"
+                      "lie to 1 word 0x5000001F, not heard: stray bits</title>", drawn)
+        words = " ".join(" ".join(xml.fromstring(drawn).itertext()).split())
+        self.assertIn("lie of wrong kind: some modules do not hear it", words)
+        self.assertIn("lie with stray bits: some modules do not hear it", words)
+        self.assertNotIn("lie of wrong kind: no module hears it", words)
 
     def test_long_names_and_signs_are_safe(self):
         text = SETUP.replace("module 3", "module 3 a-very-long-name-of-a-card-in-the-rack") + "cast 3\nplay 1"

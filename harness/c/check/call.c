@@ -22,79 +22,81 @@ struct functions {
     presence_word (*page_read)(const uint8_t *, size_t, uint32_t);
     presence_word (*page_write)(uint8_t *, size_t, uint32_t, uint32_t);
     presence_word (*page_interrupt)(const uint8_t *, size_t);
+    presence_cause (*read_cause)(uint32_t, uint32_t, uint32_t);
 };
 
 static const struct functions of_library = {
     presence_check_setup, presence_open, presence_step, presence_save,
     presence_outgoing, presence_page_open, presence_page_step,
-    presence_page_read, presence_page_write, presence_page_interrupt
+    presence_page_read, presence_page_write, presence_page_interrupt,
+    presence_read_cause
 };
 
 static const struct functions of_plain = {
     plain_check_setup, plain_open, plain_step, plain_save, plain_outgoing,
     plain_page_open, plain_page_step, plain_page_read, plain_page_write,
-    plain_page_interrupt
+    plain_page_interrupt, plain_read_cause
 };
 
-/* The word in the place of health. */
-static presence_answer of_word(presence_word w)
+static struct reply of_answer(presence_answer a)
 {
-    presence_answer a;
+    return (struct reply){a.number, a.index, a.health, 0};
+}
 
-    a.number = w.number;
-    a.index = w.index;
-    a.health = w.word;
-    return a;
+static struct reply of_word(presence_word w)
+{
+    return (struct reply){w.number, w.index, w.word, 0};
+}
+
+static struct reply of_cause(presence_cause c)
+{
+    return (struct reply){c.number, c.index, c.cause, c.row};
 }
 
 /* Makes the call, on the output and the page lent. */
-static presence_answer make(const struct functions *f, const struct call *c,
-                            uint8_t *out, uint8_t *page)
+static struct reply make(const struct functions *f, const struct call *c,
+                         uint8_t *out, uint8_t *page)
 {
     switch (c->op) {
     case SETUP:
-        return f->check_setup(c->in, c->in_len);
+        return of_answer(f->check_setup(c->in, c->in_len));
     case OPEN:
-        return f->open(c->in, c->in_len, c->argument, out, c->out_len);
+        return of_answer(f->open(c->in, c->in_len, c->argument, out,
+                                 c->out_len));
     case STEP:
-        return f->step(c->in, c->in_len, c->read, c->read_len, c->argument, out,
-                       c->out_len);
+        return of_answer(f->step(c->in, c->in_len, c->read, c->read_len,
+                                 c->argument, out, c->out_len));
     case SAVE:
-        return f->save(c->in, c->in_len, out, c->out_len);
+        return of_answer(f->save(c->in, c->in_len, out, c->out_len));
     case OUTGOING:
         return of_word(f->outgoing(c->in, c->in_len));
     case PAGE_OPEN:
-        return f->page_open(c->in, c->in_len, c->argument, out, c->out_len,
-                            page, c->page_len);
+        return of_answer(f->page_open(c->in, c->in_len, c->argument, out,
+                                      c->out_len, page, c->page_len));
     case PAGE_STEP:
-        return f->page_step(c->in, c->in_len, c->read, c->read_len, c->argument,
-                            out, c->out_len, page, c->page_len);
+        return of_answer(f->page_step(c->in, c->in_len, c->read, c->read_len,
+                                      c->argument, out, c->out_len, page,
+                                      c->page_len));
     case PAGE_READ:
         return of_word(f->page_read(page, c->page_len, c->argument));
     case PAGE_WRITE:
         return of_word(f->page_write(page, c->page_len, c->argument, c->value));
     case INTERRUPT:
+        return of_word(f->page_interrupt(page, c->page_len));
+    case READ_CAUSE:
         break;
     }
-    return of_word(f->page_interrupt(page, c->page_len));
+    return of_cause(f->read_cause(c->n, c->argument, c->value));
 }
 
-presence_answer make_on_library(const struct call *c, uint8_t *out,
-                                uint8_t *page)
+struct reply make_on_library(const struct call *c, uint8_t *out, uint8_t *page)
 {
     return make(&of_library, c, out, page);
-}
-
-void set_answer(struct result *r, presence_answer a)
-{
-    r->number = a.number;
-    r->index = a.index;
-    r->value = a.health;
 }
 
 void call_plain(const struct call *c, struct result *r)
 {
     if (c->page_len > 0)
         memcpy(r->page, c->page, c->page_len);
-    set_answer(r, make(&of_plain, c, r->out, r->page));
+    r->reply = make(&of_plain, c, r->out, r->page);
 }

@@ -11,7 +11,8 @@
 
 enum op {
     SETUP, OPEN, STEP, SAVE, OUTGOING,
-    PAGE_OPEN, PAGE_STEP, PAGE_READ, PAGE_WRITE, INTERRUPT
+    PAGE_OPEN, PAGE_STEP, PAGE_READ, PAGE_WRITE, INTERRUPT,
+    READ_CAUSE
 };
 
 struct call {
@@ -20,29 +21,31 @@ struct call {
     size_t in_len;
     const uint8_t *read;
     size_t read_len;
-    uint32_t argument; /* own number, controller bits or offset */
+    uint32_t argument; /* own number, controller bits or bit, or offset */
     size_t out_len;
     const uint8_t *page; /* what the lent page holds */
     size_t page_len;
-    uint32_t value; /* what the host writes */
+    uint32_t value; /* what the host writes, or a bus word */
+    uint32_t n;     /* number of modules that a bus word is read for */
+};
+
+/* The answer of any call. */
+struct reply {
+    uint32_t number, index;
+    uint32_t value; /* health, word or cause */
+    uint32_t row;   /* of a bus word that is heard, else 0 */
 };
 
 struct result {
-    uint32_t number, index;
-    uint32_t value; /* health or word */
+    struct reply reply;
     uint8_t out[OUT_MAX];
     uint8_t page[OUT_MAX];
 };
 
-/* Makes the call on the library, with the output and the page lent.  A word is
-   answered in the place of health. */
-presence_answer make_on_library(const struct call *c, uint8_t *out,
-                                uint8_t *page);
+/* Makes the call on the library, with the output and the page lent. */
+struct reply make_on_library(const struct call *c, uint8_t *out, uint8_t *page);
 
 /* Makes the call on plain.c. */
 void call_plain(const struct call *c, struct result *r);
-
-/* Number, index, and health or word. */
-void set_answer(struct result *r, presence_answer a);
 
 #endif

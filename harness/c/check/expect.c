@@ -12,10 +12,12 @@ void both(const struct call *c, struct result *r)
 
     call_library(c, r);
     call_plain(c, &p);
-    same("number, against plain.c", r->number, p.number);
-    same("index, against plain.c", r->index, p.index);
-    same("health or word, against plain.c", r->value, p.value);
-    if (r->number == 0 && p.number == 0 &&
+    same("number, against plain.c", r->reply.number, p.reply.number);
+    same("index, against plain.c", r->reply.index, p.reply.index);
+    same("health, word or cause, against plain.c", r->reply.value,
+         p.reply.value);
+    same("row, against plain.c", r->reply.row, p.reply.row);
+    if (r->reply.number == 0 && p.reply.number == 0 &&
         memcmp(r->out, p.out, c->out_len) != 0)
         differ("image, against plain.c", 1, 0);
     if (memcmp(r->page, p.page, c->page_len) != 0)
@@ -26,8 +28,8 @@ void expect(const struct call *c, uint32_t number, uint32_t index,
             struct result *r)
 {
     both(c, r);
-    same("number", r->number, number);
-    same("index", r->index, index);
+    same("number", r->reply.number, number);
+    same("index", r->reply.index, index);
 }
 
 void check_setup(const uint8_t *in, size_t in_len, uint32_t number,
@@ -37,7 +39,7 @@ void check_setup(const uint8_t *in, size_t in_len, uint32_t number,
     struct result r;
 
     expect(&c, number, index, &r);
-    same("health of a setup check", r.value, 0);
+    same("health of a setup check", r.reply.value, 0);
 }
 
 void open_module(const uint8_t *in, size_t in_len, uint32_t own, size_t out_len,
@@ -48,8 +50,8 @@ void open_module(const uint8_t *in, size_t in_len, uint32_t own, size_t out_len,
     struct result r;
 
     expect(&c, number, index, &r);
-    same("health of an opening", r.value, 0);
-    if (r.number == 0 && image != NULL)
+    same("health of an opening", r.reply.value, 0);
+    if (r.reply.number == 0 && image != NULL)
         memcpy(image, r.out, out_len);
 }
 
@@ -63,9 +65,9 @@ uint32_t step(const uint8_t *in, size_t in_len, const uint8_t *read,
     struct result r;
 
     expect(&c, number, index, &r);
-    if (r.number == 0 && image != NULL)
+    if (r.reply.number == 0 && image != NULL)
         memcpy(image, r.out, out_len);
-    return r.value;
+    return r.reply.value;
 }
 
 void save(const uint8_t *in, size_t in_len, size_t out_len, uint32_t number,
@@ -76,8 +78,8 @@ void save(const uint8_t *in, size_t in_len, size_t out_len, uint32_t number,
     struct result r;
 
     expect(&c, number, index, &r);
-    same("health of a saving", r.value, 0);
-    if (r.number == 0 && memcmp(r.out, in, in_len) != 0)
+    same("health of a saving", r.reply.value, 0);
+    if (r.reply.number == 0 && memcmp(r.out, in, in_len) != 0)
         differ("saved image is not the image", 1, 0);
 }
 
@@ -88,5 +90,5 @@ uint32_t outgoing(const uint8_t *in, size_t in_len, uint32_t number,
     struct result r;
 
     expect(&c, number, index, &r);
-    return r.value;
+    return r.reply.value;
 }

@@ -33,7 +33,8 @@ static void (*const groups[])(void) = {
     group_addresses,
     group_pages_opened,
     group_page_lives,
-    group_page_words
+    group_page_words,
+    group_causes
 };
 
 int main(int argc, char **argv)

@@ -90,7 +90,7 @@ void place_call(const struct call *c, size_t in_off, size_t read_off,
     struct block read = block(c->read, c->read_len, read_off);
     struct block out, page;
     struct call placed = *c;
-    presence_answer a;
+    struct reply a;
 
     pattern = (uint8_t)(pattern * 5 + 1);
     out = lent_block(c->out_len, out_off, pattern);
@@ -104,10 +104,12 @@ void place_call(const struct call *c, size_t in_off, size_t read_off,
     same_inputs(c, &placed);
     same_outside(out.bytes, c->out_len, pattern, a.number == 0);
     same_outside_page(page.bytes, c, pattern, a.number == 0);
-    if (a.number != 0)
-        same("health or word of a refused call", a.health, 0);
+    if (a.number != 0) {
+        same("health, word or cause of a refused call", a.value, 0);
+        same("row of a refused call", a.row, 0);
+    }
 
-    set_answer(r, a);
+    r->reply = a;
     memcpy(r->out, out.bytes + GUARD, c->out_len);
     memcpy(r->page, page.bytes + GUARD, c->page_len);
     free(in.memory);

@@ -22,6 +22,7 @@
          BYTES(image), BYTES(read), in.controller, BYTES(out)) \
     CALL(presence_save, UP_TO(9), BYTES(image), BYTES(out)) \
     CALL(presence_outgoing, UP_TO(8), BYTES(image)) \
+    CALL(presence_read_cause, UP_TO(0) AND(2) AND(10), in.n, in.bit, in.word) \
     CALL(presence_page_open, UP_TO(7) AND(9), \
          BYTES(setup), in.own, BYTES(out), BYTES(page)) \
     CALL(presence_page_step, UP_TO(10), \

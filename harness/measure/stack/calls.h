@@ -13,6 +13,7 @@ struct block {
 struct inputs {
     struct block setup, image, read, out, page; /* a module and its page */
     uint32_t own, controller, offset, value;
+    uint32_t bit, word; /* a bus word and its controller bit */
     struct block lock, lock_out; /* a scan lock */
     uint32_t n, view, module, axis;
 };

@@ -35,6 +35,8 @@ int give_opened(char **argument)
     given.page.len = PRESENCE_PAGE_BYTES;
     given.offset = PRESENCE_PAGE_FLAGS;
     given.value = PRESENCE_PAGE_CHARGED;
+    given.bit = 1;
+    given.word = 0x50000001;
     return OPEN(given.setup.bytes, given.setup.len, given.own,
                 given.image.bytes, given.image.len).number == 0;
 }

@@ -73,8 +73,9 @@ static void try_wrong_inputs(void)
     struct block *const blocks[] = {&given.setup, &given.image, &given.read,
                                     &given.page, &given.lock};
     uint32_t *const words[] = {&given.own, &given.controller, &given.offset,
-                               &given.value, &given.n, &given.view,
-                               &given.module, &given.axis};
+                               &given.value, &given.bit, &given.word,
+                               &given.n, &given.view, &given.module,
+                               &given.axis};
     size_t i;
 
     for (i = 0; i < COUNT(blocks); i++) {

@@ -2,10 +2,10 @@
 //! Usage: differential ROUNDS SEED
 //!
 //! A round is one of: a setup with openings, a state with its calls, a damaged state, any bytes,
-//! a page with the host's calls, or a life of many steps in which each output image is the next
-//! input. Openings and steps are made with a page too; in a life the page goes on as the image does,
-//! and the host reads and writes it between steps. All calls follow from the seed. The first
-//! difference is shown with all arguments and ends the run.
+//! a page with the host's calls, words with the causes why they are not heard, or a life of many
+//! steps in which each output image is the next input. Openings and steps are made with a page too;
+//! in a life the page goes on as the image does, and the host reads and writes it between steps. All
+//! calls follow from the seed. The first difference is shown with all arguments and ends the run.
 
 use harness::call::{Buffers, Call, Reply};
 use harness::ffi::Library;
@@ -16,7 +16,7 @@ use harness::model::state::{image_length, image_words, State};
 use harness::model::words::{bytes_of, words_of};
 use harness::random::damage::{any_bytes, damaged};
 use harness::random::pages::{offset, page, page_length, value};
-use harness::random::reads::{read, spoiled_controller};
+use harness::random::reads::{read, spoiled_controller, word};
 use harness::random::scripts::{script, script_bytes, WAYS};
 use harness::random::setups::{lively_setup, setup};
 use harness::random::states::{reached_state, state};
@@ -56,7 +56,7 @@ fn main() -> ExitCode {
 
 impl Comparison {
     fn round(&mut self) {
-        match self.random.below(11) {
+        match self.random.below(12) {
             0 => self.setups(),
             1 => self.damaged_setups(),
             2 => self.states(),
@@ -64,6 +64,7 @@ impl Comparison {
             5 => self.any_bytes(),
             6 => self.wrong_lengths(),
             7 => self.pages(),
+            8 => self.causes(),
             _ => self.life(),
         }
     }
@@ -234,6 +235,22 @@ impl Comparison {
         written.map_or(page, |lent| lent.page.written().to_vec())
     }
 
+    /// The causes of words as a module may get them; at times with an N out of range or with what is no controller bit.
+    fn causes(&mut self) {
+        for _ in 0..24 {
+            let n = self.random.between(2, 16) as usize;
+            let common = self.random.vector(n);
+            let word = word(&mut self.random, n, common, 3);
+            let n = if self.random.chance(1, 8) { self.random.pick(&[0, 1, 17, 18, 32, 258, u32::MAX]) } else { n as u32 };
+            let controller = match self.random.below(12) {
+                0 => self.random.pick(&[2, 3, 255, 256, 257, 1 << 31, u32::MAX]),
+                1..=3 => 0,
+                _ => 1,
+            };
+            self.compare(Call::ReadCause { n, controller, word });
+        }
+    }
+
     /// Opening and many steps; each output image is the next input, with the page beside it in half
     /// of the lives. Refused calls and calls of the host lie between.
     fn life(&mut self) {
@@ -392,5 +409,5 @@ fn answer_text((reply, lent): (Reply, &Buffers), given: &Buffers) -> String {
         to_hex(lent.out.written())
     };
     let page = to_hex(lent.page.written());
-    format!("{} {} {:08X} {output} page {page}", reply.number, reply.index, reply.value)
+    format!("{} {} {:08X} row {:04X} {output} page {page}", reply.number, reply.index, reply.value, reply.row)
 }

@@ -3,7 +3,7 @@
 use super::page::Page;
 use super::setup::{read_setup, Holds};
 use super::state::{fresh, handed_out, image_length, image_words, read_image};
-use super::step::step;
+use super::step::{read_word, step, Outcome, Reading};
 use super::words::{bytes_of, words_of};
 use super::{refusal, Refusal};
 
@@ -24,6 +24,15 @@ pub struct WordAnswer {
     pub word: u32,
 }
 
+/// Number, index, the code of the cause, and the row of a word that is heard, else 0.
+#[derive(Clone, Copy, PartialEq, Eq, Debug)]
+pub struct CauseAnswer {
+    pub number: u32,
+    pub index: u32,
+    pub cause: u32,
+    pub row: u32,
+}
+
 /// The functions of the library; the model and the linked library both provide them.
 pub trait Functions {
     fn check_setup(&self, setup: &[u8]) -> Answer;
@@ -36,6 +45,7 @@ pub trait Functions {
     fn page_read(&self, page: &[u8], offset: u32) -> WordAnswer;
     fn page_write(&self, page: &mut [u8], offset: u32, value: u32) -> WordAnswer;
     fn page_interrupt(&self, page: &[u8]) -> WordAnswer;
+    fn read_cause(&self, n: u32, controller: u32, word: u32) -> CauseAnswer;
 }
 
 pub struct Model;
@@ -48,7 +58,7 @@ impl Functions for Model {
         answer(try_open(setup, own, out))
     }
     fn step(&self, state: &[u8], read: &[u8], controller: u32, out: &mut [u8]) -> Answer {
-        answer(try_step(state, read, controller, out))
+        answer(try_step(state, read, controller, out).map(|outcome| outcome.health))
     }
     fn save(&self, state: &[u8], out: &mut [u8]) -> Answer {
         answer(try_save(state, out))
@@ -70,6 +80,12 @@ impl Functions for Model {
     }
     fn page_interrupt(&self, page: &[u8]) -> WordAnswer {
         word(Page::read(page).map(|page| u32::from(page.interrupt())))
+    }
+    fn read_cause(&self, n: u32, controller: u32, word: u32) -> CauseAnswer {
+        match try_read_cause(n, controller, word) {
+            Ok(reading) => CauseAnswer { number: 0, index: 0, cause: reading.cause(), row: reading.entry().row },
+            Err(refused) => CauseAnswer { number: refused.number, index: refused.index as u32, cause: 0, row: 0 },
+        }
     }
 }
 
@@ -108,7 +124,7 @@ fn try_open(setup: &[u8], own: u32, out: &mut [u8]) -> Result<u32, Refusal> {
 }
 
 /// Numbers 1 to 8, 9, 10, 11.
-fn try_step(state: &[u8], read: &[u8], controller: u32, out: &mut [u8]) -> Result<u32, Refusal> {
+fn try_step(state: &[u8], read: &[u8], controller: u32, out: &mut [u8]) -> Result<Outcome, Refusal> {
     let (setup, mut state) = read_image(state)?;
     let read = words_of(read).filter(|words| words.len() == setup.n).ok_or(refusal(9, 0))?;
     if out.len() != 4 * image_length(setup.n) {
@@ -116,7 +132,7 @@ fn try_step(state: &[u8], read: &[u8], controller: u32, out: &mut [u8]) -> Resul
     }
     let outcome = step(&setup, &mut state, &read, controller)?;
     out.copy_from_slice(&bytes_of(&image_words(&setup, &state)));
-    Ok(outcome.health)
+    Ok(outcome)
 }
 
 /// Numbers 1 to 8, 9.
@@ -150,11 +166,11 @@ fn try_page_step(
 ) -> Result<u32, Refusal> {
     let (setup, before) = read_image(state)?;
     let mut after = Page::read(page)?;
-    let health = try_step(state, read, controller, out)?;
+    let outcome = try_step(state, read, controller, out)?;
     let (_, left) = read_image(out)?;
-    after.step(setup.n, before.view, health, left.view);
+    after.step(setup.n, before.view, &outcome, left.view);
     page.copy_from_slice(&after.bytes());
-    Ok(health)
+    Ok(outcome.health)
 }
 
 /// Numbers 9, 17, 18; the interrupt after the write.
@@ -163,4 +179,15 @@ fn try_page_write(page: &mut [u8], offset: u32, value: u32) -> Result<u32, Refus
     after.write(offset, value)?;
     page.copy_from_slice(&after.bytes());
     Ok(u32::from(after.interrupt()))
+}
+
+/// Number 2 for an N that no head has, 10 for what is no controller bit.
+fn try_read_cause(n: u32, controller: u32, word: u32) -> Result<Reading, Refusal> {
+    if !(2..=16).contains(&n) {
+        return Err(refusal(2, 0));
+    }
+    if controller > 1 {
+        return Err(refusal(10, 0));
+    }
+    Ok(read_word(n as usize, controller == 1, word))
 }

@@ -1,5 +1,6 @@
-//! The register page of a module, after document 02, E1. Numbers 9, 17 and 18.
+//! The register page of a module, after document 02, E1 and E5. Numbers 9, 17 and 18.
 
+use super::step::Outcome;
 use super::words::{bytes_of, full, has, words_of};
 use super::{refusal, Refusal};
 
@@ -7,6 +8,8 @@ const HEALTH: usize = 0;
 const VIEW: usize = 1;
 const FLAGS: usize = 2;
 const ENABLE: usize = 3;
+/// The first of four words with the causes of the last read.
+const CAUSES: usize = 4;
 
 /// Flags: the view changed, somebody was charged.
 const VIEW_CHANGED: u32 = 1;
@@ -25,7 +28,7 @@ impl Page {
         words.map(|words| Page { words }).ok_or(refusal(9, 0))
     }
 
-    /// Health all ones, the module's view, no flags, enable 0.
+    /// Health all ones, the module's view, no flags, enable 0, all heard.
     pub fn opened(n: usize, view: u32) -> Page {
         let mut words = [0; 16];
         words[HEALTH] = full(n);
@@ -37,8 +40,9 @@ impl Page {
         bytes_of(&self.words)
     }
 
-    /// A step of n modules that found the view `before`, answered `health` and left the view `after`.
-    pub fn step(&mut self, n: usize, before: u32, health: u32, after: u32) {
+    /// A step of n modules that found the view `before` and left the view `after`.
+    pub fn step(&mut self, n: usize, before: u32, outcome: &Outcome, after: u32) {
+        let health = outcome.health;
         if self.words[VIEW] != after {
             self.words[FLAGS] |= VIEW_CHANGED;
         }
@@ -47,6 +51,10 @@ impl Page {
         }
         self.words[HEALTH] = health;
         self.words[VIEW] = after;
+        // Four modules a word, one byte each, module 1 topmost.
+        for (word, four) in outcome.causes.chunks(4).enumerate() {
+            self.words[CAUSES + word] = four[0] << 24 | four[1] << 16 | four[2] << 8 | four[3];
+        }
     }
 
     /// Number 17 for an offset that starts no word.

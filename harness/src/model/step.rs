@@ -1,13 +1,44 @@
-//! One step of one module, rules 1 to 9. Numbers 10 and 11.
+//! One step of one module, rules 1 to 9, and why a word was not heard (document 02, E5). Numbers 10 and 11.
 
 use super::setup::Setup;
 use super::state::{Entry, State};
-use super::words::{full, has, only, Vector, MAX};
+use super::words::{bits, full, has, kind, only, Vector, MAX};
 use super::{refusal, Refusal};
+
+/// Document 02, E5: what reading a bus word answers.
+#[derive(Clone, Copy, PartialEq, Eq, Debug)]
+pub enum Reading {
+    Heard { row: u32 },
+    ControllerLoss,
+    WrongKind,
+    StrayBits,
+}
+
+impl Reading {
+    /// The code of the cause, as the register page and the calls from C have it.
+    pub fn cause(self) -> u32 {
+        match self {
+            Reading::Heard { .. } => 0,
+            Reading::ControllerLoss => 1,
+            Reading::WrongKind => 2,
+            Reading::StrayBits => 3,
+        }
+    }
+
+    /// The entry that a step goes on with: causes differ, missing is missing.
+    pub fn entry(self) -> Entry {
+        match self {
+            Reading::Heard { row } => Entry { heard: true, row },
+            _ => Entry { heard: false, row: 0 },
+        }
+    }
+}
 
 /// What a step answers besides the new state.
 #[derive(Clone, Copy, PartialEq, Eq, Debug)]
 pub struct Outcome {
+    /// The causes of the read as it came, one code for each module, 0 above N.
+    pub causes: [u32; MAX],
     pub health: u32,
     /// For each module the lowest h at which its row differs from the health vector, or 0.
     pub accused: [u32; MAX],
@@ -17,29 +48,37 @@ pub struct Outcome {
     pub word: u32,
 }
 
-/// Rule 2: the syndrome of a word that is heard, `None` if the word is not.
-pub fn heard_word(n: usize, word: u32) -> Option<u32> {
-    let bus = Vector::split(5, word)?;
-    (bus.bits <= full(n)).then_some(bus.bits)
+/// Rule 2 for one word, with the first cause that applies: its controller bit, its kind, its bits at N or above.
+pub fn read_word(n: usize, controller_bit: bool, word: u32) -> Reading {
+    if !controller_bit {
+        Reading::ControllerLoss
+    } else if kind(word) != 5 {
+        Reading::WrongKind
+    } else if bits(word, 27, n as u32) != 0 {
+        Reading::StrayBits
+    } else {
+        Reading::Heard { row: bits(word, 15, 0) }
+    }
 }
 
-/// Rule 2 with the controller bit, for one sender.
-pub fn hear(n: usize, controller_bit: bool, word: u32) -> Entry {
-    if controller_bit {
-        if let Some(row) = heard_word(n, word) {
-            return Entry { heard: true, row };
-        }
+/// The syndrome of a word that is heard where its controller bit is 1, `None` if it is not.
+pub fn heard_word(n: usize, word: u32) -> Option<u32> {
+    match read_word(n, true, word) {
+        Reading::Heard { row } => Some(row),
+        _ => None,
     }
-    Entry { heard: false, row: 0 }
 }
 
 /// Rule 2 for all senders of a read.
-fn hear_all(n: usize, controller: u32, read: &[u32]) -> [Entry; MAX] {
+fn read_all(n: usize, controller: u32, read: &[u32]) -> ([Entry; MAX], [u32; MAX]) {
     let mut this = [Entry::default(); MAX];
+    let mut causes = [0; MAX];
     for j in 1..=n {
-        this[j - 1] = hear(n, has(controller, j), read[j - 1]);
+        let reading = read_word(n, has(controller, j), read[j - 1]);
+        this[j - 1] = reading.entry();
+        causes[j - 1] = reading.cause();
     }
-    this
+    (this, causes)
 }
 
 /// Rule 3: entries j <= l come from the previous read if u = 1, all others from this read.
@@ -159,7 +198,7 @@ pub fn step(setup: &Setup, state: &mut State, read: &[u32], controller: u32) -> 
     }
 
     // Rules 2 and 3.
-    let this = hear_all(n, controller, read);
+    let (this, causes) = read_all(n, controller, read);
     let aligned = align(n, u, own.place as usize, &state.previous, &this);
 
     // Rule 4. The state holds the syndromes of rounds k-1 (latest) and k-2 (before).
@@ -181,5 +220,5 @@ pub fn step(setup: &Setup, state: &mut State, read: &[u32], controller: u32) -> 
     state.previous = this;
     state.before = state.latest;
     state.latest = syndrome;
-    Ok(Outcome { health, accused, syndrome, word })
+    Ok(Outcome { causes, health, accused, syndrome, word })
 }

@@ -32,7 +32,7 @@ pub fn read(random: &mut Random, setup: &Setup, state: &State) -> (Vec<u32>, u32
 }
 
 /// One word; `noise` 0 gives the common row to all, 3 gives many other words.
-fn word(random: &mut Random, n: usize, common: u32, noise: usize) -> u32 {
+pub fn word(random: &mut Random, n: usize, common: u32, noise: usize) -> u32 {
     let bus = 5 << 28;
     if random.below(4) >= noise {
         return bus | common;

@@ -1,7 +1,7 @@
 //! The fault limit.
 
 use super::backplane::Arrivals;
-use crate::model::step::hear;
+use crate::model::step::read_word;
 use crate::model::words::{has, only};
 
 /// How the rule-followers heard the senders of one round.
@@ -25,7 +25,7 @@ impl Hearing {
                     continue;
                 }
                 let arrival = arrivals[sender - 1][receiver - 1];
-                let entry = hear(n, arrival.controller_bit, arrival.word);
+                let entry = read_word(n, arrival.controller_bit, arrival.word).entry();
                 heard = heard || entry.heard;
                 match first {
                     None => first = Some(entry),

@@ -35,8 +35,8 @@ static void call_at_all_addresses(const struct call *c)
         for (read_off = 0; read_off < 8; read_off++)
             for (out_off = 0; out_off < 8; out_off++) {
                 place_call(c, in_off, read_off, out_off, &r);
-                same("number", r.number, 0);
-                same("health or word", r.value, wanted.value);
+                same("number", r.reply.number, 0);
+                same("health or word", r.reply.value, wanted.reply.value);
                 if (memcmp(r.out, wanted.out, c->out_len) != 0)
                     differ("image", 1, 0);
             }

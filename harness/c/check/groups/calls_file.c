@@ -10,13 +10,14 @@
 #include "check/report.h"
 
 /* Compares with what a line says; names are those of number, index, health,
-   image and page in a report. */
+   image, page and row in a report. */
 static void same_answer(const struct result *r, const struct answer *a,
-                        const char *const names[5])
+                        const char *const names[6])
 {
-    same(names[0], r->number, a->number);
-    same(names[1], r->index, a->index);
-    same(names[2], r->value, a->health);
+    same(names[0], r->reply.number, a->number);
+    same(names[1], r->reply.index, a->index);
+    same(names[2], r->reply.value, a->health);
+    same(names[5], r->reply.row, a->row);
     if (a->image_len > 0 && memcmp(r->out, a->image, (size_t)a->image_len) != 0)
         differ(names[3], 1, 0);
     if (a->page_len > 0 && memcmp(r->page, a->page, (size_t)a->page_len) != 0)
@@ -28,11 +29,11 @@ static void do_call(const struct call *c, const struct answer *a)
 {
     static const char *const library_names[] = {
         "number, library", "index, library", "health, library",
-        "image, library", "page, library"
+        "image, library", "page, library", "row, library"
     };
     static const char *const plain_names[] = {
         "number, plain.c", "index, plain.c", "health, plain.c",
-        "image, plain.c", "page, plain_page.c"
+        "image, plain.c", "page, plain_page.c", "row, plain_page.c"
     };
     struct result r, r_plain;
 

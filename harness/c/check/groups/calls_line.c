@@ -55,7 +55,9 @@ static const struct form forms[] = {
     {"pageread", PAGE_READ, 2, 3},
     {"pagewrite", PAGE_WRITE, 3, 4},
     {"pagewrite", PAGE_WRITE, 3, 3}, /* refused */
-    {"interrupt", INTERRUPT, 1, 3}
+    {"interrupt", INTERRUPT, 1, 3},
+    {"cause", READ_CAUSE, 3, 2},
+    {"cause", READ_CAUSE, 3, 4} /* refused NUMBER at INDEX */
 };
 
 /* The form of a line that is split into its fields, NULL if it has none. */
@@ -100,7 +102,8 @@ static int parse_page(const char *text, struct call *c)
     return parse_block(text, &c->page, &c->page_len) && c->page_len <= OUT_MAX;
 }
 
-/* The arguments of a call on a page.  Returns 0 if malformed. */
+/* The arguments of a call on a page, or of a bus word.  Returns 0 if
+   malformed. */
 static int parse_page_call(char **field, struct call *c)
 {
     static uint8_t any[OUT_MAX]; /* what a page holds before it is opened */
@@ -126,6 +129,10 @@ static int parse_page_call(char **field, struct call *c)
     case PAGE_READ:
         return parse_page(field[1], c) &&
                parse_number(field[2], 10, &c->argument);
+    case READ_CAUSE:
+        return parse_number(field[1], 10, &c->argument) &&
+               parse_number(field[2], 16, &c->value) &&
+               parse_number(field[3], 10, &c->n);
     default:
         return parse_page(field[1], c);
     }
@@ -187,6 +194,19 @@ static int parse_results(char **field, const struct form *form,
     return parse_told(field[0], refused, &a->health);
 }
 
+/* Code and row, or a refusal.  Returns 0 if malformed. */
+static int parse_cause(char **field, const struct form *form, struct answer *a)
+{
+    if (form->answers == 4)
+        return strcmp(field[0], "refused") == 0 &&
+               parse_number(field[1], 10, &a->number) && a->number != 0 &&
+               strcmp(field[2], "at") == 0 &&
+               parse_number(field[3], 10, &a->index);
+    return parse_number(field[0], 10, &a->health) &&
+           (a->health == 0 ? parse_number(field[1], 16, &a->row)
+                           : strcmp(field[1], "-") == 0);
+}
+
 /* The fields after "=".  Returns 0 if malformed. */
 static int parse_answer(char **field, const struct form *form,
                         const struct call *c, struct answer *a)
@@ -194,9 +214,14 @@ static int parse_answer(char **field, const struct form *form,
     int writes_page = form->op == PAGE_OPEN || form->op == PAGE_STEP ||
                       form->op == PAGE_WRITE;
 
+    a->number = 0;
+    a->index = 0;
     a->health = 0;
+    a->row = 0;
     a->image_len = 0;
     a->page_len = 0;
+    if (form->op == READ_CAUSE)
+        return parse_cause(field, form, a);
     if (!parse_number(field[0], 10, &a->number) ||
         !parse_number(field[1], 10, &a->index) ||
         !parse_results(field + 2, form, a))

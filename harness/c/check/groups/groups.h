@@ -20,6 +20,7 @@ void group_addresses(void);
 void group_pages_opened(void);
 void group_page_lives(void);
 void group_page_words(void);
+void group_causes(void);
 
 /* The calls of the file of this name. */
 void group_calls_file(const char *name);

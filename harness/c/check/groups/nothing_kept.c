@@ -22,8 +22,8 @@ static void step_twice(const struct call *c, const struct call *between,
     if (between != NULL)
         both(between, &other);
     both(c, &second);
-    same("number, second time", second.number, first.number);
-    same("health, second time", second.value, first.value);
+    same("number, second time", second.reply.number, first.reply.number);
+    same("health, second time", second.reply.value, first.reply.value);
     if (memcmp(first.out, second.out, c->out_len) != 0)
         differ("image, second time", 1, 0);
     memcpy(image, first.out, c->out_len);

@@ -18,7 +18,7 @@ uint32_t host(enum op op, uint8_t *page, size_t page_len, uint32_t offset,
     expect(&c, number, 0, &r);
     if (page_len > 0)
         memcpy(page, r.page, page_len);
-    return r.value;
+    return r.reply.value;
 }
 
 void open_paged(const uint8_t *setup, uint32_t n, uint32_t own,
@@ -32,8 +32,8 @@ void open_paged(const uint8_t *setup, uint32_t n, uint32_t own,
     struct result r;
 
     expect(&c, number, 0, &r);
-    same("health of an opening", r.value, 0);
-    if (r.number == 0) {
+    same("health of an opening", r.reply.value, 0);
+    if (r.reply.number == 0) {
         memcpy(image, r.out, c.out_len);
         memcpy(page, r.page, page_len);
     }
@@ -52,11 +52,11 @@ uint32_t step_paged(uint32_t n, uint8_t *image, const uint8_t *read,
     struct result r;
 
     expect(&c, number, 0, &r);
-    if (r.number == 0) {
+    if (r.reply.number == 0) {
         memcpy(image, r.out, c.out_len);
         memcpy(page, r.page, page_len);
     }
-    return r.value;
+    return r.reply.value;
 }
 
 void random_page(uint8_t *page, size_t len)
@@ -71,8 +71,8 @@ void page_is(const uint8_t *page, const uint32_t *words, const uint8_t *rest)
 {
     uint32_t at;
 
-    for (at = 0; at < 4; at++)
+    for (at = 0; at < 8; at++)
         same("word of the page", get(page, at), words[at]);
-    if (memcmp(page + 16, rest + 16, PRESENCE_PAGE_BYTES - 16) != 0)
+    if (memcmp(page + 32, rest + 32, PRESENCE_PAGE_BYTES - 32) != 0)
         differ("rest of the page", 1, 0);
 }

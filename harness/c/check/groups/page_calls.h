@@ -22,7 +22,7 @@ uint32_t step_paged(uint32_t n, uint8_t *image, const uint8_t *read,
 
 void random_page(uint8_t *page, size_t len);
 
-/* Words 0 to 3 of the page must be those given, the others as in rest. */
+/* Words 0 to 7 of the page must be those given, the others as in rest. */
 void page_is(const uint8_t *page, const uint32_t *words, const uint8_t *rest);
 
 #endif

@@ -10,12 +10,26 @@
 #include "check/sizes.h"
 #include "check/words.h"
 
+/* The cause of module j + 1 in a read by what the header says of it. */
+static uint32_t cause(uint32_t n, const uint8_t *read, uint32_t controller,
+                      uint32_t j)
+{
+    uint32_t word = get(read, j);
+
+    if ((controller >> j & 1) == 0)
+        return PRESENCE_CAUSE_CONTROLLER_LOSS;
+    if ((word & 0xF0000000) != 0x50000000)
+        return PRESENCE_CAUSE_WRONG_KIND;
+    return (word & 0x0FFFFFFF & ~ones(n)) != 0 ? PRESENCE_CAUSE_STRAY_BITS
+                                               : PRESENCE_CAUSE_HEARD;
+}
+
 /* A step with a page by what the header says of it. */
 static void page_follows(uint32_t n, uint8_t *image, const uint8_t *read,
                          uint32_t controller, uint8_t *page)
 {
     uint8_t old[PRESENCE_PAGE_BYTES];
-    uint32_t found = PRESENCE_VIEW(image, n), words[4], j;
+    uint32_t found = PRESENCE_VIEW(image, n), words[8] = {0}, j;
 
     memcpy(old, page, sizeof old);
     words[0] = step_paged(n, image, read, controller, page, sizeof old, 0);
@@ -25,7 +39,13 @@ static void page_follows(uint32_t n, uint8_t *image, const uint8_t *read,
         if ((found >> j & 1) == 1 && (words[0] >> j & 1) == 0)
             words[2] |= 2;
     words[3] = get(old, 3);
+    for (j = 0; j < n; j++)
+        words[4 + j / 4] |= cause(n, read, controller, j) << 8 * (3 - j % 4);
     page_is(page, words, old);
+    for (j = 1; j <= n; j++)
+        same("cause by the header's macros",
+             PRESENCE_CAUSE_IN(get(page, PRESENCE_PAGE_CAUSES(j) / 4), j),
+             cause(n, read, controller, j - 1));
 }
 
 static void page_life(uint32_t n, uint32_t u, uint32_t steps)

@@ -19,7 +19,7 @@ void group_pages_opened(void)
 
     begin_group("pages opened");
     for (n = 2; n <= MAX_N; n++) {
-        uint32_t words[4] = {ones(n), ones(n), 0, 0};
+        uint32_t words[8] = {ones(n), ones(n)}; /* the others 0 */
 
         random_setup(s, n, n % 2, 5, 3);
         for (own = 1; own <= n; own++) {
