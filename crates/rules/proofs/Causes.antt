@@ -151,6 +151,13 @@ module _ (n : ℕ) (read : List ℕ) (controller j : ℕ) where
       let z = zero-heard (receptionOf n (bit controller j) (wordAt read j)) in
       ((λ c. g ∙ z .0 (sym e ∙ c)), (λ c. e ∙ z .1 (sym g ∙ c)))
 
+-- every entry is a code
+pub codes-small : (n : ℕ) (read : List ℕ) (controller k : ℕ) → n ≤ 16 → k < 16 → getD (causesOf n read controller) k 0 ≤ 3
+codes-small n read controller k small h =
+    ⊎-elim (λ (t : ltb k n ≡ true). omega (arith, of-read n read controller k (ltb-true k n t) small, codes n (bit controller k) (wordAt read k)))
+    (λ (f : ltb k n ≡ false). omega (arith, above n read controller k (ltb-false k n f) h))
+    (which (ltb k n))
+
 pub causes : Causes
 causes = record {
   loss = loss;
