@@ -12,8 +12,8 @@ use borrow.Author.Tests.{leb-true, ltb-true, le-leb, lt-ltb, eqb-true, eq-eqb, n
 use Rattle.words.specs.Word.{wordAt}
 use Rattle.words.specs.Bits.{bit}
 use Rattle.words.proofs.Truth.{and-l, and-r, and-true, or-l, or-r, or-cases, beq-eq, beq-refl, clash, not-both}
-use Rattle.rules.specs.Hearing.{wordHeard, entryOf, readingOf}
-use Rattle.rules.proofs.HearingLaws.{heard-is, reading-heard, reading-row}
+use Rattle.rules.specs.Hearing.{entryOf, readingOf}
+use Rattle.rules.proofs.HearingLaws.{entry-small, reading-heard, reading-row}
 use Rattle.rules.proofs.AccountLaws.{AccountFits}
 use Rattle.image.specs.Fits.{rowFits, penaltyFits, rewardFits}
 
@@ -48,12 +48,8 @@ reward-of p r k present penalty reward f =
 -- ---- a row, as a round reads it
 
 entry-fits : (n : ℕ) (on : Bool) (w : ℕ) → rowFits n (entryOf n on w .heard) (entryOf n on w .row) ≡ true
-unfolding entryOf rowFits
-entry-fits n on w = go (on && wordHeard n w) refl
-  where
-    go : (b : Bool) → on && wordHeard n w ≡ b → ltb (cond b (w % 2 ^ 28) 0) (cond b (2 ^ n) 1) ≡ true
-    go true t = lt-ltb _ _ (heard-is n w (and-r on (wordHeard n w) t) .1)
-    go false f = lt-ltb 0 1 (omega arith)
+unfolding rowFits
+entry-fits n on w = lt-ltb _ _ (entry-small n on w)
 
 pub reading-fits : (n : ℕ) (read : List ℕ) (controller j : ℕ) → j < n → n ≤ 16
     → rowFits n (bit (readingOf n read controller .heard) j) (getD (readingOf n read controller .rows) j 0) ≡ true

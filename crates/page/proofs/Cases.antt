@@ -8,7 +8,7 @@ use Rattle.setup.specs.Verdict.{check, checkEach}
 use Rattle.setup.specs.Setup.{setupOf, setupBytes, blankSetup}
 use Rattle.setup.specs.Check.{moduleFits, markFits, whole, headOk, limitOk, moduleOk, markOk, checkHead, checkWords, checkSetup, setupTidy, checkFields}
 use Rattle.rules.specs.Lag.{skewed}
-use Rattle.rules.specs.Hearing.{busWord, wordHeard, entryOf, readingOf}
+use Rattle.rules.specs.Hearing.{busWord, receptionOf, isHeard, rowIn, causeIn, entryOf, readingOf, causesOf}
 use Rattle.rules.specs.Alignment.{alignedOf}
 use Rattle.rules.specs.Vote.{decision, tally, voteOf, healthOf}
 use Rattle.rules.specs.Accusation.{differsAt, accusationOf, accusationsOf}
@@ -22,11 +22,11 @@ use Rattle.presence.specs.Step.{placeOf, markOf, ownSyndrome, alignedFor, judge
 use Rattle.presence.specs.Image.{imageOf, stateOf, roomFor}
 use Rattle.presence.specs.Calls.{refusedCall, wrote, openCall, stepCall}
 use Rattle.page.specs.Flags.{joined, cleared, shared}
-use Rattle.page.specs.Page.{openedWord, pageOpened, somebodyCharged, raised, pageStepped, pageWritten, interruptOn}
+use Rattle.page.specs.Page.{openedWord, pageOpened, causeWord, putCauses, somebodyCharged, raised, pageStepped, pageWritten, interruptOn}
 use Rattle.page.specs.Host as host
 use Rattle.page.specs.Calls.{withPage, pageOpenCall, pageStepCall}
 use Rattle.page.specs.Cases.{CasesRight}
 
 pub cases-right : CasesRight
-unfolding wordAt putWord bytesOf bit pack count any all lowest array clearFrom check checkEach setupOf setupBytes blankSetup moduleFits markFits whole headOk limitOk moduleOk markOk checkHead checkWords checkSetup setupTidy checkFields skewed busWord wordHeard entryOf readingOf alignedOf decision tally voteOf healthOf differsAt accusationOf accusationsOf syndromeOf votersOf judgementOf outgoingOf charged rewarded accounted accountAt accountedAt countersOf rowFits penaltyFits rewardFits ownNumberOk ownOk rowOk syndromeOk penaltyOk rewardOk checkTail checkImage stateTidy checkState stateVerdict fresh blank checkOpening openOf placeOf markOf ownSyndrome alignedFor judgementFor outgoingFor afterRound refusedStep acceptedStep testedStep readStep stepOf imageOf stateOf roomFor refusedCall wrote openCall stepCall joined cleared shared openedWord pageOpened somebodyCharged raised pageStepped pageWritten interruptOn host.readCall host.wrote host.writeCall host.interruptCall withPage pageOpenCall pageStepCall
+unfolding wordAt putWord bytesOf bit pack count any all lowest array clearFrom check checkEach setupOf setupBytes blankSetup moduleFits markFits whole headOk limitOk moduleOk markOk checkHead checkWords checkSetup setupTidy checkFields skewed busWord receptionOf isHeard rowIn causeIn entryOf readingOf causesOf alignedOf decision tally voteOf healthOf differsAt accusationOf accusationsOf syndromeOf votersOf judgementOf outgoingOf charged rewarded accounted accountAt accountedAt countersOf rowFits penaltyFits rewardFits ownNumberOk ownOk rowOk syndromeOk penaltyOk rewardOk checkTail checkImage stateTidy checkState stateVerdict fresh blank checkOpening openOf placeOf markOf ownSyndrome alignedFor judgementFor outgoingFor afterRound refusedStep acceptedStep testedStep readStep stepOf imageOf stateOf roomFor refusedCall wrote openCall stepCall joined cleared shared openedWord pageOpened causeWord putCauses somebodyCharged raised pageStepped pageWritten interruptOn host.readCall host.wrote host.writeCall host.interruptCall withPage pageOpenCall pageStepCall
 cases-right = refl

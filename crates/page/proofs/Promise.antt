@@ -1,11 +1,11 @@
 -- What a page promises beside the equations of its calls.
 use mathlib.Core.Path.{_≡_, ap, ap₂, _∙_, sym, subst}
-use mathlib.Core.Logic.{_≢_, ⊎-elim}
+use mathlib.Core.Logic.{_≢_, _↔_, ⊎-elim}
 use mathlib.Core.Bool.{Bool, true, false, not, _&&_, _||_}
 use mathlib.Core.List.{List}
 use Prim.Native.Nat.{ℕ, _+_, _≤_, _<_}
 use native.Mathlib.Omega.{arith}
-use lib.ListN.{length}
+use lib.ListN.{length, getD}
 use lib.Dec.{eqb}
 use borrow.Author.Tests.{eq-eqb, ne-eqb}
 use Rattle.words.specs.Word.{wordAt}
@@ -14,29 +14,33 @@ use Rattle.words.proofs.Truth.{which, cond-true, cond-false, or-r}
 use Rattle.words.proofs.WordLaws.{read-put, read-put-other}
 use Rattle.setup.specs.Verdict.{isAccepted}
 use Rattle.setup.specs.Setup.{setupOf}
+use Rattle.rules.specs.Hearing.{readingOf, causesOf}
+use Rattle.rules.specs.Causes.{causeOf}
+use Rattle.rules.proofs.Causes.{of-read, hears, above as no-module}
 use Rattle.image.specs.Words.{viewIn}
 use Rattle.image.specs.Check.{checkImage}
 use Rattle.presence.specs.Valid.{Valid}
 use Rattle.presence.specs.Opening.{openOf}
-use Rattle.presence.specs.Step.{stepOf}
+use Rattle.presence.specs.Step.{acceptedStep, stepOf}
 use Rattle.presence.specs.Image.{imageOf, stateOf}
 use Rattle.presence.specs.Calls.{openCall, stepCall, saveCall}
 use Rattle.presence.specs.declared.State.{State}
 use Rattle.presence.specs.declared.Stepped.{Stepped}
 use Rattle.presence.proofs.ValidLaws.{valid-fits}
-use Rattle.presence.proofs.StepLaws.{step-valid, open-valid}
+use Rattle.presence.proofs.StepLaws.{step-accepted, step-valid, open-valid}
 use Rattle.presence.proofs.ImageLaws.{load-valid}
 use Rattle.presence.proofs.CallAnswers.{open-writes, open-passed, step-writes, step-passed, save-writes, save-passed}
 use Rattle.page.specs.Flags.{cleared}
-use Rattle.page.specs.Page.{isPage, pageOpened, somebodyCharged, raised, pageStepped, pageWritten, interruptOn}
+use Rattle.page.specs.Page.{isPage, pageOpened, causeAt, somebodyCharged, raised, pageStepped, pageWritten, interruptOn}
 use Rattle.page.specs.Host.{writeCall}
 use Rattle.page.specs.Calls.{PageCalled, pageCalled, pageOpenCall, pageStepCall}
 use Rattle.page.specs.Refusals.{page-of-opening}
 use Rattle.page.specs.Promise.{Paged, opens, steps, saves, refused-image, refused-page, writes, Unnamed, here, stepped, not-opened, written, Promise}
 use Rattle.page.proofs.CallLaws.{image-view, image-size}
 use Rattle.page.proofs.RaisedLaws.{raised-kept, raised-0, raised-1, raised-above, cleared-kept, cleared-bit, turns-on, on-by}
-use Rattle.page.proofs.PageWords.{opened-1, written-1, word-0, word-1, word-2, word-above}
+use Rattle.page.proofs.PageWords.{opened-1, written-1, opened-cause, word-0, word-1, word-2, word-other, cause-of}
 use Rattle.page.proofs.HostLaws.{write-either, write-8, write-12, write-none}
+use Rattle.page.proofs.StepLaws.{codes-of}
 use Rattle.page.proofs.WithPageLaws.{lent, goes-on, with-zero, with-either}
 use Rattle.page.proofs.Refusals.{refusals}
 use Rattle.page.proofs.ChargeLaws.{charged-grows}
@@ -57,7 +61,7 @@ module _ (image read : List ℕ) (controller : ℕ) (out : List ℕ) where
   s = stepOf st read controller
 
   abbrev next : List ℕ → List ℕ
-  next page = pageStepped (st .setup .n) (st .counters .view) (s .health) (s .state .counters .view) page
+  next page = pageStepped (st .setup .n) (st .counters .view) (s .health) (s .state .counters .view) (s .causes) page
 
   passes : stepCall image read controller out .answer .number ≡ 0 → isAccepted (checkImage image) ≡ true
   passes z = eq-eqb (checkImage image .number) 0 (step-passed image read controller out z .0)
@@ -100,20 +104,58 @@ module _ (image read : List ℕ) (controller : ℕ) (out : List ℕ) where
         ∙ view-read (s .state) (step-valid st read controller (step-passed image read controller out (zero .1) .1))
 
     health-word : wordAt (after .page) 0 ≡ after .call .answer .health
-    health-word = ap (λ (x : List ℕ). wordAt x 0) page-is ∙ word-0 _ _ _ _ page long ∙ sym health-is
+    health-word = ap (λ (x : List ℕ). wordAt x 0) page-is ∙ word-0 _ _ _ _ _ page long ∙ sym health-is
 
     view-word : wordAt (after .page) 1 ≡ stateOf (after .call .out) .counters .view
-    view-word = ap (λ (x : List ℕ). wordAt x 1) page-is ∙ word-1 _ _ _ _ page long ∙ sym view-is
+    view-word = ap (λ (x : List ℕ). wordAt x 1) page-is ∙ word-1 _ _ _ _ _ page long ∙ sym view-is
 
-    above-stays : (i : ℕ) → 3 ≤ i → wordAt (after .page) i ≡ wordAt page i
-    above-stays i h = ap (λ (x : List ℕ). wordAt x i) page-is ∙ word-above _ _ _ _ page long i h
+    enable-stays : wordAt (after .page) 3 ≡ wordAt page 3
+    enable-stays =
+        ap (λ (x : List ℕ). wordAt x 3) page-is
+        ∙ word-other _ _ _ _ _ page long 3 (omega arith) (λ e. omega arith) (λ e. omega arith) (λ e. omega arith) (λ e. omega arith)
+
+    above-stays : (i : ℕ) → 8 ≤ i → wordAt (after .page) i ≡ wordAt page i
+    above-stays i h =
+        ap (λ (x : List ℕ). wordAt x i) page-is
+        ∙ word-other _ _ _ _ _ page long i (omega arith) (λ e. omega arith) (λ e. omega arith) (λ e. omega arith) (λ e. omega arith)
+
+    -- the causes are those of the read
+    accepted : s .number ≡ 0
+    accepted = step-passed image read controller out (zero .1) .1
+
+    causes-are : s .causes ≡ causesOf (st .setup .n) read controller
+    unfolding acceptedStep
+    causes-are = ap (λ (x : Stepped). x .causes) (step-accepted st read controller accepted .1)
+
+    at-most : st .setup .n ≤ 16
+    at-most = valid-fits st (step-accepted st read controller accepted .0) .setup .most
+
+    cause-is : (j : ℕ) → j < 16 → causeAt (after .page) j ≡ getD (causesOf (st .setup .n) read controller) j 0
+    cause-is j h =
+        ap (λ (x : List ℕ). causeAt x j) page-is
+        ∙ cause-of _ _ _ _ (s .causes) page long
+        (codes-of (st .setup .n) read controller at-most causes-are) j h
+        ∙ ap (λ (x : List ℕ). getD x j 0) causes-are
+
+    cause-read : (j : ℕ) → j < st .setup .n → causeAt (after .page) j ≡ causeOf (st .setup .n) (bit controller j) (wordAt read j)
+    cause-read j h = let m = at-most in cause-is j (omega arith) ∙ of-read (st .setup .n) read controller j h m
+
+    cause-above : (j : ℕ) → st .setup .n ≤ j → j < 16 → causeAt (after .page) j ≡ 0
+    cause-above j h l = cause-is j l ∙ no-module (st .setup .n) read controller j h l
+
+    cause-heard : (j : ℕ) → j < st .setup .n → (causeAt (after .page) j ≡ 0) ↔ (bit (readingOf (st .setup .n) read controller .heard) j ≡ true)
+    cause-heard j h =
+        let m = at-most in
+        let e = cause-is j (omega arith) in
+        let z = hears (st .setup .n) read controller j h m in
+        (λ c. z .0 (sym e ∙ c), λ c. e ∙ z .1 c)
 
     flags-are : wordAt (after .page) 2 ≡ raised (wordAt page 2) (not (eqb (wordAt page 1) (s .state .counters .view)))
         (somebodyCharged (st .setup .n) (st .counters .view) (s .health))
-    flags-are = ap (λ (x : List ℕ). wordAt x 2) page-is ∙ word-2 _ _ _ _ page long
+    flags-are = ap (λ (x : List ℕ). wordAt x 2) page-is ∙ word-2 _ _ _ _ _ page long
 
     enabled : (j : ℕ) → j < 32 → bit (wordAt (after .page) 2) j ≡ true → bit (wordAt page 3) j ≡ true → interruptOn (after .page) ≡ true
-    enabled j h t u = turns-on (after .page) j h t (ap (λ (x : ℕ). bit x j) (above-stays 3 (omega arith)) ∙ u)
+    enabled j h t u = turns-on (after .page) j h t (ap (λ (x : ℕ). bit x j) enable-stays ∙ u)
 
     -- whether the view differs from word 1, and whether somebody was charged
     abbrev changes : Bool
@@ -195,7 +237,7 @@ module _ (j : ℕ) (h : j < 32) where
   step-kept : (image read : List ℕ) (controller : ℕ) (out page : List ℕ) → Set page → Set (pageStepCall image read controller out page .page)
   step-kept image read controller out page t =
       step-either image read controller out Set page t
-      (λ l. ap (λ (x : ℕ). bit x j) (word-2 _ _ _ _ page l) ∙ raised-kept (wordAt page 2) j _ _ h t)
+      (λ l. ap (λ (x : ℕ). bit x j) (word-2 _ _ _ _ _ page l) ∙ raised-kept (wordAt page 2) j _ _ h t)
 
   written-kept : (offset value : ℕ) (page : List ℕ) → length page ≡ 64 → eqb offset 8 && bit value j ≡ false → Set page → Set (pageWritten offset value page)
   unfolding pageWritten
@@ -229,7 +271,12 @@ promise = record {
   change-flag = change-is;
   charge-flag = charge-is;
   other-flags = others-are;
+  enable-stays = enable-stays;
   other-words = above-stays;
+  causes = cause-read;
+  causes-above = cause-above;
+  heard-exactly = cause-heard;
+  no-causes = λ setup own out page z j h. ap (λ (x : PageCalled). causeAt (x .page) j) (opens-made setup own out page z) ∙ opened-cause _ _ j h;
   clears = λ page value l j h.
       ap (λ (x : List ℕ). bit (wordAt x 2) j) (write-8 page value l)
       ∙ ap (λ (x : ℕ). bit x j) (read-put page 2 (cleared (wordAt page 2) value) (omega arith)) ∙ cleared-bit (wordAt page 2) value j h;

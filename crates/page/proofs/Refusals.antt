@@ -14,7 +14,7 @@ use Rattle.setup.specs.Setup.{setupOf}
 use Rattle.setup.specs.Check.{checkSetup}
 use Rattle.setup.specs.declared.Verdict.{Verdict}
 use Rattle.setup.proofs.VerdictLaws.{check-ok, between-of}
-use Rattle.rules.specs.Hearing.{readingOf}
+use Rattle.rules.specs.Hearing.{readingOf, causesOf}
 use Rattle.image.specs.Words.{imageLength}
 use Rattle.image.specs.Check.{checkImage}
 use Rattle.presence.specs.Opening.{fresh, openOf}
@@ -142,7 +142,7 @@ module _ (image read : List ℕ) (controller : ℕ) (out page : List ℕ) where
   this = readingOf (sizeOf image) read controller
 
   abbrev next : Stepped → List ℕ
-  next t = pageStepped (st .setup .n) (st .counters .view) (t .health) (t .state .counters .view) page
+  next t = pageStepped (st .setup .n) (st .counters .view) (t .health) (t .state .counters .view) (t .causes) page
 
   abbrev v : Verdict
   v = stepVerdict image read controller out page
@@ -159,7 +159,7 @@ module _ (image read : List ℕ) (controller : ℕ) (out page : List ℕ) where
       (hasRoom (sizeOf image) out) (eqb (length read) (sizeOf image * 4)) (isPage page) (ltb controller (2 ^ sizeOf image)) refl
 
   -- the step is an accepted one of the struct
-  stepped-so : v .number ≡ 0 → stepOf st read controller ≡ acceptedStep st this
+  stepped-so : v .number ≡ 0 → stepOf st read controller ≡ acceptedStep st this (causesOf (sizeOf image) read controller)
   unfolding pageStepCall stateOf setupOf
   stepped-so z =
       let c : pageStepCall image read controller out page .call .answer .number ≡ 0 =
@@ -170,7 +170,8 @@ module _ (image read : List ℕ) (controller : ℕ) (out page : List ℕ) where
 
   step-is : pageStepCall image read controller out page
       ≡ answering v (judgementFor st this .health) (afterRound st this) out
-      (pageStepped (sizeOf image) (st .counters .view) (judgementFor st this .health) (afterRound st this .counters .view) page) page
+      (pageStepped (sizeOf image) (st .counters .view) (judgementFor st this .health) (afterRound st this .counters .view)
+      (causesOf (sizeOf image) read controller) page) page
   unfolding acceptedStep stateOf setupOf
   step-is =
       steps ∙ next-by v (judgementFor st this .health) (afterRound st this) out _ _ page (λ z. ap next (stepped-so z))

@@ -5,12 +5,14 @@ use mathlib.Core.Logic.{⊎-elim}
 use mathlib.Core.List.{List, [], _++_}
 use Prim.Native.Nat.{ℕ, _+_, _*_, _^_, _<_, _≤_}
 use native.Mathlib.Omega.{arith}
-use lib.ListN.{length}
+use lib.ListN.{length, getD}
 use borrow.Author.Tests.{eqb-false}
 use Rattle.words.specs.Word.{wordAt}
 use Rattle.words.proofs.Truth.{which, cond-true, cond-false}
 use Rattle.setup.specs.Verdict.{isAccepted}
 use Rattle.setup.specs.Setup.{sizeIn, setupOf}
+use Rattle.rules.specs.Hearing.{causesOf}
+use Rattle.rules.proofs.Causes.{codes-small}
 use Rattle.image.specs.Words.{viewIn, imageLength}
 use Rattle.image.specs.Check.{checkImage}
 use Rattle.image.proofs.CheckLaws.{ImageFits, image-pass}
@@ -22,13 +24,18 @@ use Rattle.presence.specs.declared.Answer.{Answer}
 use Rattle.presence.specs.declared.State.{State}
 use Rattle.presence.specs.declared.Stepped.{Stepped}
 use Rattle.presence.proofs.ValidLaws.{valid-fits}
-use Rattle.presence.proofs.StepLaws.{step-accepted, step-valid}
+use Rattle.presence.proofs.StepLaws.{step-accepted, step-whole, step-valid}
 use Rattle.presence.proofs.ImageLaws.{load-valid}
 use Rattle.presence.proofs.CallAnswers.{step-writes, step-passed}
 use Rattle.page.specs.Page.{pageStepped}
 use Rattle.page.specs.Calls.{pageCalled, pageStepCall}
 use Rattle.page.proofs.WithPageLaws.{with-accepted, with-refused, with-before, with-nine}
 use Rattle.page.proofs.CallLaws.{moved, refused-by, no-room, image-view, image-length}
+
+-- the causes of a read are codes
+pub codes-of : (n : ℕ) (read : List ℕ) (controller : ℕ) {causes : List ℕ} → n ≤ 16 → causes ≡ causesOf n read controller
+    → (k : ℕ) → k < 16 → getD causes k 0 ≤ 3
+codes-of n read controller small e k h = subst (λ (x : List ℕ). getD x k 0 ≤ 3) (sym e) (codes-small n read controller k small h)
 
 module _ (image read : List ℕ) (controller : ℕ) where
   bad-image : (out : List ℕ) → isAccepted (checkImage image) ≡ false
@@ -79,6 +86,10 @@ module _ (image read : List ℕ) (controller : ℕ) where
       unfolding acceptedStep afterRound
       same-size = ap (λ (x : Stepped). x .state .setup .n) (step-accepted st read controller accepted .1)
 
+      causes-are : s .causes ≡ causesOf (st .setup .n) read controller
+      unfolding acceptedStep
+      causes-are = ap (λ (x : Stepped). x .causes) (step-accepted st read controller accepted .1)
+
       wrote-image : b ≡ imageOf (s .state)
       wrote-image = ap (λ (c : Called). c .out) e ∙ step-writes image read controller out answered .0
 
@@ -99,6 +110,10 @@ module _ (image read : List ℕ) (controller : ℕ) where
             let l = fits .size in
             (omega arith, omega arith)
 
+        -- the read has N words
+        pub in-read : (n ≤ 16) × (length read ≡ n * 4)
+        in-read = (in-image .0, step-whole st read controller accepted ∙ ap (λ (k : ℕ). k * 4) (sym size-is))
+
         pub in-output : (n ≤ 16) × ((n + 3) * 4 + 4 ≤ length b)
         in-output =
             let l : length b ≡ imageLength n = ap length wrote-image ∙ image-length (s .state) next-valid ∙ ap imageLength (same-size ∙ sym size-is) in
@@ -114,16 +129,19 @@ module _ (image read : List ℕ) (controller : ℕ) where
               subst (λ (k : ℕ). v < 2 ^ k) (sym size-is)
               (subst (λ (x : ℕ). x < 2 ^ st .setup .n) (sym before-is) (valid-fits st (load-valid image (step-passed image read controller out answered .0)) .view))
 
-          pub step-paged : (page : List ℕ) {w : ℕ} {p : List ℕ} → length page ≡ 64 → w ≡ viewIn (wordAt b (n + 3)) → p ≡ pageStepped n v (r .health) w page
+          pub step-paged : (page : List ℕ) {w : ℕ} {p q : List ℕ} → length page ≡ 64 → w ≡ viewIn (wordAt b (n + 3)) → q ≡ causesOf n read controller
+              → p ≡ pageStepped n v (r .health) w q page
               → pageCalled (called r b) p ≡ pageStepCall image read controller out page
           unfolding pageStepCall
-          step-paged page {w} {p} l after h =
+          step-paged page {w} {p} {q} l after cs h =
               let a : w ≡ s .state .counters .view =
               after ∙ ap₂ (λ (x : List ℕ) (k : ℕ). viewIn (wordAt x (k + 3))) wrote-image (size-is ∙ sym same-size) ∙ image-view (s .state) next-valid
               in
               let k : r .health ≡ s .health = ap (λ (c : Called). c .answer .health) e ∙ step-writes image read controller out answered .1 in
-              let g : p ≡ pageStepped (st .setup .n) (st .counters .view) (s .health) (s .state .counters .view) page =
-              h ∙ ap₂ (λ (x y : ℕ). pageStepped x y (r .health) w page) size-is before-is
-              ∙ ap₂ (λ (x y : ℕ). pageStepped (st .setup .n) (st .counters .view) x y page) k a
+              let d : q ≡ s .causes = cs ∙ ap (λ (m : ℕ). causesOf m read controller) size-is ∙ sym causes-are in
+              let g : p ≡ pageStepped (st .setup .n) (st .counters .view) (s .health) (s .state .counters .view) (s .causes) page =
+              h ∙ ap₂ (λ (x y : ℕ). pageStepped x y (r .health) w q page) size-is before-is
+              ∙ ap₂ (λ (x y : ℕ). pageStepped (st .setup .n) (st .counters .view) x y q page) k a
+              ∙ ap (λ (x : List ℕ). pageStepped (st .setup .n) (st .counters .view) (s .health) (s .state .counters .view) x page) d
               in
               ap₂ pageCalled e g ∙ with-accepted _ (stepCall image read controller out) out page _ l answered

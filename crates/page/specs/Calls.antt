@@ -1,4 +1,4 @@
--- Opening and step with a page: what `presence` promises of the same calls without one, and the page beside it. (document 02, E1)
+-- Opening and step with a page: what `presence` promises of the same calls without one, and the page beside it. (document 02, E1 and E5)
 use Prim.Native.Nat.{ℕ}
 use mathlib.Core.Bool.{Bool, cond, not, _&&_}
 use mathlib.Core.List.{List}
@@ -42,4 +42,4 @@ pageStepCall image read controller out page =
     let st = stateOf image in
     let s = stepOf st read controller in
     withPage (isAccepted (checkImage image)) c out page
-    (pageStepped (st .setup .n) (st .counters .view) (s .health) (s .state .counters .view) page)
+    (pageStepped (st .setup .n) (st .counters .view) (s .health) (s .state .counters .view) (s .causes) page)

@@ -1,9 +1,9 @@
--- The register page: 16 words, 0 health, 1 view, 2 flags (bit 0 view changed, bit 1 somebody charged), 3 enable, the rest 0.
--- (document 02, E1)
-use Prim.Native.Nat.{ℕ, _+_, _*_, _%_}
+-- The register page: 16 words, 0 health, 1 view, 2 flags (bit 0 view changed, bit 1 somebody charged), 3 enable, 4 to 7 the causes of the last
+-- read, the rest 0. (document 02, E1 and E5)
+use Prim.Native.Nat.{ℕ, _+_, _-_, _*_, _/_, _%_, _^_}
 use mathlib.Core.Bool.{Bool, cond, not, _&&_}
 use mathlib.Core.List.{List}
-use lib.ListN.{length}
+use lib.ListN.{length, getD}
 use lib.Dec.{eqb, ltb}
 use Rattle.words.specs.Word.{wordAt, putWord, bytesOf}
 use Rattle.words.specs.Bits.{bit, b2n, full}
@@ -18,7 +18,7 @@ isPage page = eqb (length page) 64
 abbrev pub startsWord : ℕ → Bool
 startsWord offset = eqb (offset % 4) 0 && ltb offset 64
 
--- ---- opened: health all ones, the module's view, no flags, enable 0
+-- ---- opened: health all ones, the module's view, no flags, enable 0, no causes
 
 -- word i of such a page, for n modules
 unfoldable pub openedWord : ℕ → ℕ → ℕ → ℕ
@@ -28,7 +28,27 @@ openedWord n view i = cond (eqb i 0) (full n) (cond (eqb i 1) view 0)
 unfoldable pub pageOpened : ℕ → ℕ → List ℕ
 pageOpened n view = bytesOf 16 (openedWord n view)
 
--- ---- a step of n modules, by the view that rule 8 found, the health vector and the view after it
+-- ---- causes: four modules a word, one byte each, the first of them topmost
+
+-- four codes in a word
+abbrev pub fourCodes : ℕ → ℕ → ℕ → ℕ → ℕ
+fourCodes a b c d = a * 2 ^ 24 + b * 2 ^ 16 + c * 2 ^ 8 + d
+
+-- word 4 + i, by the codes of all modules
+unfoldable pub causeWord : List ℕ → ℕ → ℕ
+causeWord causes i =
+    fourCodes (getD causes (4 * i) 0) (getD causes (4 * i + 1) 0) (getD causes (4 * i + 2) 0) (getD causes (4 * i + 3) 0)
+
+-- words 4 to 7 are written
+unfoldable pub putCauses : List ℕ → List ℕ → List ℕ
+putCauses causes page =
+    putWord (putWord (putWord (putWord page 4 (causeWord causes 0)) 5 (causeWord causes 1)) 6 (causeWord causes 2)) 7 (causeWord causes 3)
+
+-- the code of module j + 1 on a page: bits 31..24 of its word for the first of four modules, 7..0 for the last
+unfoldable pub causeAt : List ℕ → ℕ → ℕ
+causeAt page j = wordAt page (4 + j / 4) / 2 ^ (24 - 8 * (j % 4)) % 2 ^ 8
+
+-- ---- a step of n modules, by the view that rule 8 found, the health vector, the view after it and the causes of its read
 
 -- a module that rule 8 found in the view had health 0
 unfoldable pub somebodyCharged : ℕ → ℕ → ℕ → Bool
@@ -38,11 +58,11 @@ somebodyCharged n view health = any n (λ j. bit view j && not (bit health j))
 unfoldable pub raised : ℕ → Bool → Bool → ℕ
 raised flags changed charged = joined flags (b2n changed + b2n charged * 2)
 
--- words 0 to 2 after the step, the others as they were; the view has changed where word 1 of the lent page differs from `after`
-unfoldable pub pageStepped : ℕ → ℕ → ℕ → ℕ → List ℕ → List ℕ
-pageStepped n before health after page =
+-- words 0 to 2 and 4 to 7 after the step, the others as they were; the view has changed where word 1 of the lent page differs from `after`
+unfoldable pub pageStepped : ℕ → ℕ → ℕ → ℕ → List ℕ → List ℕ → List ℕ
+pageStepped n before health after causes page =
     let changed = not (eqb (wordAt page 1) after) in
-    putWord (putWord (putWord page 0 health) 1 after) 2 (raised (wordAt page 2) changed (somebodyCharged n before health))
+    putCauses causes (putWord (putWord (putWord page 0 health) 1 after) 2 (raised (wordAt page 2) changed (somebodyCharged n before health)))
 
 -- ---- the host
 

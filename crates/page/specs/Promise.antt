@@ -1,4 +1,4 @@
--- What a page promises beside the equations of its calls. Proved in proofs/Promise.antt. (document 02, E1)
+-- What a page promises beside the equations of its calls. Proved in proofs/Promise.antt. (document 02, E1 and E5)
 use Prim.Native.Nat.{ℕ, _≤_, _<_}
 use mathlib.Core.Path.{_≡_}
 use mathlib.Core.Logic.{_≢_, _↔_}
@@ -9,11 +9,13 @@ use lib.Dec.{eqb, ltb}
 use Rattle.words.specs.Word.{wordAt}
 use Rattle.words.specs.Bits.{bit}
 use Rattle.words.specs.Count.{any}
+use Rattle.rules.specs.Hearing.{readingOf}
+use Rattle.rules.specs.Causes.{causeOf}
 use Rattle.rules.specs.Account.{countersOf}
 use Rattle.image.specs.Check.{checkImage}
 use Rattle.presence.specs.Image.{stateOf}
 use Rattle.presence.specs.Calls.{openCall, stepCall, saveCall}
-use Rattle.page.specs.Page.{somebodyCharged, interruptOn}
+use Rattle.page.specs.Page.{causeAt, somebodyCharged, interruptOn}
 use Rattle.page.specs.Host.{writeCall}
 use Rattle.page.specs.Calls.{pageOpenCall, pageStepCall}
 use Rattle.page.specs.Refusals.{Refused}
@@ -72,9 +74,25 @@ pub record Promise : Type 0 where
       || somebodyCharged (stateOf image .setup .n) (stateOf image .counters .view) (pageStepCall image read controller out page .call .answer .health)
   pub other-flags : (image read : List ℕ) (controller : ℕ) (out page : List ℕ) → pageStepCall image read controller out page .call .answer .number ≡ 0
       → (j : ℕ) → 2 ≤ j → j < 32 → bit (wordAt (pageStepCall image read controller out page .page) 2) j ≡ bit (wordAt page 2) j
-  -- A step leaves enable and every word after it as they were.
+  -- A step leaves enable and every word from 8 on as they were.
+  pub enable-stays : (image read : List ℕ) (controller : ℕ) (out page : List ℕ) → pageStepCall image read controller out page .call .answer .number ≡ 0
+      → wordAt (pageStepCall image read controller out page .page) 3 ≡ wordAt page 3
   pub other-words : (image read : List ℕ) (controller : ℕ) (out page : List ℕ) → pageStepCall image read controller out page .call .answer .number ≡ 0
-      → (i : ℕ) → 3 ≤ i → wordAt (pageStepCall image read controller out page .page) i ≡ wordAt page i
+      → (i : ℕ) → 8 ≤ i → wordAt (pageStepCall image read controller out page .page) i ≡ wordAt page i
+  -- Words 4 to 7 are the causes of the read that the step was lent: for each of the N modules that of its word and its controller bit in this read,
+  -- as it came, and 0 for modules above N.
+  pub causes : (image read : List ℕ) (controller : ℕ) (out page : List ℕ) → pageStepCall image read controller out page .call .answer .number ≡ 0
+      → (j : ℕ) → j < stateOf image .setup .n
+      → causeAt (pageStepCall image read controller out page .page) j ≡ causeOf (stateOf image .setup .n) (bit controller j) (wordAt read j)
+  pub causes-above : (image read : List ℕ) (controller : ℕ) (out page : List ℕ) → pageStepCall image read controller out page .call .answer .number ≡ 0
+      → (j : ℕ) → stateOf image .setup .n ≤ j → j < 16 → causeAt (pageStepCall image read controller out page .page) j ≡ 0
+  -- So a cause is 0 exactly for the modules that rule 2 hears in this read.
+  pub heard-exactly : (image read : List ℕ) (controller : ℕ) (out page : List ℕ) → pageStepCall image read controller out page .call .answer .number ≡ 0
+      → (j : ℕ) → j < stateOf image .setup .n
+      → (causeAt (pageStepCall image read controller out page .page) j ≡ 0) ↔ (bit (readingOf (stateOf image .setup .n) read controller .heard) j ≡ true)
+  -- An opened page has no causes.
+  pub no-causes : (setup : List ℕ) (own : ℕ) (out page : List ℕ) → pageOpenCall setup own out page .call .answer .number ≡ 0
+      → (j : ℕ) → j < 16 → causeAt (pageOpenCall setup own out page .page) j ≡ 0
   -- A write of word 2, at offset 8, clears exactly the flags written as ones, and changes no other word.
   pub clears : (page : List ℕ) (value : ℕ) → length page ≡ 64 → (j : ℕ) → j < 32
       → bit (wordAt (writeCall page 8 value .page) 2) j ≡ bit (wordAt page 2) j && not (bit value j)

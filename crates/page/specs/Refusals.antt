@@ -13,7 +13,7 @@ use Rattle.setup.specs.Verdict.{accepted, isAccepted, andThen, check, between}
 use Rattle.setup.specs.Setup.{setupOf}
 use Rattle.setup.specs.Check.{checkSetup}
 use Rattle.setup.specs.declared.Verdict.{Verdict}
-use Rattle.rules.specs.Hearing.{readingOf}
+use Rattle.rules.specs.Hearing.{readingOf, causesOf}
 use Rattle.image.specs.Check.{checkImage}
 use Rattle.presence.specs.Opening.{fresh}
 use Rattle.presence.specs.Step.{judgementFor, afterRound}
@@ -69,12 +69,13 @@ pub record Refusals : Type 0 where
   pub opening : (setup : List ℕ) (own : ℕ) (out page : List ℕ)
       → pageOpenCall setup own out page
       ≡ answering (openVerdict setup own out page) 0 (fresh (setupOf setup) own) out (pageOpened (sizeOf setup) (full (sizeOf setup))) page
-  -- an accepted step is that of the module, with the page brought up to date
+  -- an accepted step is that of the module, with the page brought up to date, causes by the read as it came
   pub step : (image read : List ℕ) (controller : ℕ) (out page : List ℕ)
       → let st = stateOf image in
       let this = readingOf (sizeOf image) read controller in
       pageStepCall image read controller out page
       ≡ answering (stepVerdict image read controller out page) (judgementFor st this .health) (afterRound st this) out
-      (pageStepped (sizeOf image) (st .counters .view) (judgementFor st this .health) (afterRound st this .counters .view) page) page
+      (pageStepped (sizeOf image) (st .counters .view) (judgementFor st this .health) (afterRound st this .counters .view)
+      (causesOf (sizeOf image) read controller) page) page
   -- nothing lent is altered by a refusal
   pub unaltered : (before after : List ℕ) → Refused before after → after ≡ before

@@ -71,6 +71,7 @@ pub extern "C" fn presence_page_step(
     let n = size_at(image);
     let before = view_at(image, n);
     let after = view_at(out, n);
-    step_page(n, before, answer.health, after, page);
+    let causes = rules::hearing::causes(n, read, controller);
+    step_page(n, before, answer.health, after, causes, page);
     answer
 }

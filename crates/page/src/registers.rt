@@ -8,9 +8,9 @@ use words::bits::pick;
 use words::word::put_word;
 use words::word::word_at;
 ghost use mathlib.Core.Path.{_≡_};
-ghost use Prim.Native.Nat.{_^_, _≤_, _<_};
-ghost use lib.ListN.{length};
-ghost use Rattle.page.specs.Page.{openedWord, pageOpened, somebodyCharged, raised, pageStepped, pageWritten, interruptOn};
+ghost use Prim.Native.Nat.{ℕ, _^_, _≤_, _<_};
+ghost use lib.ListN.{length, getD};
+ghost use Rattle.page.specs.Page.{openedWord, pageOpened, fourCodes, putCauses, somebodyCharged, raised, pageStepped, pageWritten, interruptOn};
 
 // Word i of an opened page.
 fn opened_word(n: usize, view: u32, i: usize) -> u32
@@ -47,10 +47,45 @@ fn raise(flags: u32, changed: bool, charged: bool) -> u32
     joined(flags, flag(changed) + flag(charged) * 2)
 }
 
-// Writes what a step leaves: the view before it, the health vector and the view after it.
-pub fn step_page(n: usize, before: u32, health: u32, after: u32, page: &mut [u8])
-    requires { ⌜ (n ≤ 16) × (before < 2 ^ n) × (length (now page) ≡ 64) ⌝ }
-    ensures { λ _. ⌜ now (page .exit) ≡ pageStepped n before health after (now (page .entry)) ⌝ }
+// Four codes in a word, the first topmost.
+fn cause_word(a: u32, b: u32, c: u32, d: u32) -> u32
+    requires { ⌜ (a ≤ 3) × (b ≤ 3) × (c ≤ 3) × (d ≤ 3) ⌝ }
+    ensures { λ r. ⌜ r ≡ fourCodes a b c d ⌝ }
+{
+    a * 16777216 + b * 65536 + c * 256 + d
+}
+
+// Writes the causes of a read.
+fn put_causes(causes: [u32; 16], page: &mut [u8])
+    requires { ⌜ (length (now page) ≡ 64) × ((k : ℕ) → k < 16 → getD causes k 0 ≤ 3) ⌝ }
+    ensures { λ _. ⌜ now (page .exit) ≡ putCauses causes (now (page .entry)) ⌝ }
+{
+    put_word(
+        page,
+        4,
+        cause_word(causes[0], causes[1], causes[2], causes[3]),
+    );
+    put_word(
+        page,
+        5,
+        cause_word(causes[4], causes[5], causes[6], causes[7]),
+    );
+    put_word(
+        page,
+        6,
+        cause_word(causes[8], causes[9], causes[10], causes[11]),
+    );
+    put_word(
+        page,
+        7,
+        cause_word(causes[12], causes[13], causes[14], causes[15]),
+    );
+}
+
+// Writes what a step leaves: the view before it, the health vector, the view after it and the causes of its read.
+pub fn step_page(n: usize, before: u32, health: u32, after: u32, causes: [u32; 16], page: &mut [u8])
+    requires { ⌜ (n ≤ 16) × (before < 2 ^ n) × (length (now page) ≡ 64) × ((k : ℕ) → k < 16 → getD causes k 0 ≤ 3) ⌝ }
+    ensures { λ _. ⌜ now (page .exit) ≡ pageStepped n before health after causes (now (page .entry)) ⌝ }
 {
     let changed = word_at(page, 1) != after;
     let charged = somebody_charged(n, before, health);
@@ -58,6 +93,7 @@ pub fn step_page(n: usize, before: u32, health: u32, after: u32, page: &mut [u8]
     put_word(page, 0, health);
     put_word(page, 1, after);
     put_word(page, 2, flags);
+    put_causes(causes, page);
 }
 
 // Writes a word of the host: 8 is the offset of the flags, and any other stands for that of enable.

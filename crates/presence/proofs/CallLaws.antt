@@ -1,21 +1,23 @@
 -- What a call from C answers and leaves in its output, put together from the answers of its parts.
 use mathlib.Core.Path.{_≡_, refl, ap, ap₂, _∙_, sym, subst}
-use mathlib.Core.Bool.{Bool, true, false, cond, not}
+use mathlib.Core.Bool.{Bool, true, false, cond, not, _||_}
 use mathlib.Core.List.{List, _++_, append-nil}
 use Prim.Native.Nat.{ℕ, _+_, _-_, _*_, _≤_, _<_}
 use native.Mathlib.Omega.{arith}
-use lib.Dec.{eqb}
+use lib.Dec.{eqb, ltb}
 use lib.ListN.{length, getD, take, drop}
 use lib.Seq.{take-length, drop-length}
-use borrow.Author.Tests.{eq-eqb, ne-eqb, eqb-true, eqb-false, not-true, not-false}
+use borrow.Author.Tests.{eq-eqb, ne-eqb, eqb-true, eqb-false, not-true, not-false, lt-ltb, le-ltb}
 use Rattle.words.specs.Word.{wordAt}
 use Rattle.words.specs.Bits.{bit}
 use Rattle.words.proofs.BitLaws.{bit-pack}
-use Rattle.rules.specs.Hearing.{busWord}
+use Rattle.rules.specs.Hearing.{busWord, receptionOf, rowIn, causeIn}
+use Rattle.rules.specs.declared.Reception.{Reception}
 use Rattle.rules.specs.Syndrome.{outgoingOf}
 use Rattle.words.proofs.Truth.{cond-true, cond-false}
-use Rattle.setup.specs.Verdict.{verdict, accepted, isAccepted}
+use Rattle.setup.specs.Verdict.{verdict, accepted, isAccepted, between}
 use Rattle.setup.specs.Setup.{sizeIn, markIn, setupOf, blankSetup}
+use Rattle.setup.proofs.VerdictLaws.{between-of}
 use Rattle.setup.specs.Check.{checkHead, checkWords, checkSetup, readSetup}
 use Rattle.setup.specs.declared.Setup.{Setup}
 use Rattle.setup.specs.declared.SetupRead.{SetupRead}
@@ -28,14 +30,15 @@ use Rattle.presence.specs.Valid.{Valid}
 use Rattle.presence.specs.Opening.{openOf}
 use Rattle.presence.specs.Step.{markOf, afterRound, acceptedStep, readStep, stepOf}
 use Rattle.presence.specs.Image.{imageOf, stateOf, roomFor}
-use Rattle.presence.specs.Calls.{answer, called, refusedCall, wrote, openCall, stepCall, saveCall, handedOut, outgoingCall}
+use Rattle.presence.specs.Calls.{answer, called, refusedCall, wrote, openCall, stepCall, saveCall, handedOut, outgoingCall, refusedCause, causeCall}
 use Rattle.presence.specs.declared.State.{State}
 use Rattle.presence.specs.declared.Answer.{Answer}
 use Rattle.presence.specs.declared.WordAnswer.{WordAnswer}
+use Rattle.presence.specs.declared.CauseAnswer.{CauseAnswer}
 use Rattle.presence.specs.declared.Opened.{Opened}
 use Rattle.presence.specs.declared.Stepped.{Stepped}
 use Rattle.presence.proofs.StepLaws.{step-accepted, step-valid, open-valid}
-use Rattle.presence.proofs.RoundLaws.{step-goes}
+use Rattle.presence.proofs.RoundLaws.{step-goes, not-between, is-between}
 use Rattle.presence.proofs.ImageLaws.{image-state, load-valid}
 use Rattle.presence.proofs.RoundTrip.{written-read}
 
@@ -286,3 +289,32 @@ module _ (image out : List ℕ) (z : checkImage image .number ≡ 0) where
       w ∙ ap₂ (λ (x y : List ℕ). x ++ y) (take-length image) (ap (λ (k : ℕ). drop k out) (sym l) ∙ drop-length out) ∙ append-nil image
       in
       save-wrote image out e q (ap (λ (x : Verdict). x .number) e ∙ z) (same-room l) (c ∙ sym (written-read image z small))
+
+-- ---- reading one word
+
+module _ (n controller word : ℕ) where
+  pub cause-size : {r : CauseAnswer} → r ≡ refusedCause 2 → ltb n 2 || ltb 16 n ≡ true → r ≡ causeCall n controller word
+  unfolding causeCall
+  cause-size h t = h ∙ sym (cond-false _ _ (not-between 2 16 n t))
+
+  module _ (f : ltb n 2 || ltb 16 n ≡ false) where
+    in-range : between 2 16 n ≡ true
+    in-range =
+        let (h, l) = is-between 2 16 n f in
+        between-of 2 16 n h l
+
+    pub cause-small : n < 32
+    cause-small =
+        let (h, l) = is-between 2 16 n f in
+        omega arith
+
+    pub cause-bit : {r : CauseAnswer} → r ≡ refusedCause 10 → 1 < controller → r ≡ causeCall n controller word
+    unfolding causeCall
+    cause-bit h l = h ∙ sym (cond-true _ _ in-range ∙ cond-false _ _ (le-ltb controller 2 (omega arith)))
+
+    pub cause-told : {r : Reception} {cause row : ℕ} → controller ≤ 1 → r ≡ receptionOf n (eqb controller 1) word → cause ≡ causeIn r → row ≡ rowIn r
+        → _≡_ {A = CauseAnswer} (record { number = 0; index = 0; cause = cause; row = row }) (causeCall n controller word)
+    unfolding causeCall
+    cause-told l e h k =
+        ap₂ (λ (x y : ℕ). record { number = 0; index = 0; cause = x; row = y }) (h ∙ ap causeIn e) (k ∙ ap rowIn e)
+        ∙ sym (cond-true _ _ in-range ∙ cond-true _ _ (lt-ltb controller 2 (omega arith)))

@@ -8,7 +8,7 @@ use lib.ListN.{length}
 use lib.Dec.{eqb, ltb}
 use borrow.Author.Tests.{eq-eqb, eqb-true, lt-ltb}
 use Rattle.words.specs.Count.{lowest}
-use Rattle.words.proofs.Truth.{which, cond-true, cond-false, and-true}
+use Rattle.words.proofs.Truth.{which, cond-true, cond-false, and-true, cond-both}
 use Rattle.setup.specs.Verdict.{verdict, accepted, isAccepted, andThen, check, checkEach, between}
 use Rattle.setup.specs.Setup.{setupOf}
 use Rattle.setup.specs.Check.{checkHead, checkWords, checkSetup}
@@ -18,15 +18,16 @@ use Rattle.setup.proofs.VerdictLaws.{check-ok, between-is, between-of}
 use Rattle.setup.proofs.SetupLaws.{SetupFits, fields-ok}
 use Rattle.setup.proofs.NextLaws.{then-next, check-refused}
 use Rattle.setup.proofs.RoundTrip.{read-fits}
-use Rattle.rules.specs.Hearing.{readingOf}
+use Rattle.rules.specs.Hearing.{readingOf, causesOf}
 use Rattle.image.specs.Words.{imageLength}
 use Rattle.image.specs.Check.{checkTail, checkImage}
 use Rattle.presence.specs.Opening.{fresh, blank, checkOpening, openOf}
 use Rattle.presence.specs.Step.{judgementFor, afterRound, refusedStep, acceptedStep, testedStep, readStep, stepOf}
 use Rattle.presence.specs.Image.{stateOf, roomFor}
-use Rattle.presence.specs.Calls.{Called, refusedCall, wrote, checkCall, openCall, stepCall, saveCall, outgoingCall}
+use Rattle.presence.specs.Calls.{Called, refusedCall, wrote, checkCall, openCall, stepCall, saveCall, outgoingCall, causeCall}
 use Rattle.presence.specs.Refusals.{sizeOf, hasRoom, openVerdict, stepVerdict, savingVerdict, answering, oneOf, Refusals}
 use Rattle.rules.specs.declared.Reading.{Reading}
+use Rattle.presence.specs.declared.CauseAnswer.{CauseAnswer}
 use Rattle.presence.specs.declared.State.{State}
 use Rattle.presence.specs.declared.Opened.{Opened}
 use Rattle.presence.specs.declared.Stepped.{Stepped}
@@ -110,7 +111,9 @@ module _ (setup : List ℕ) (own : ℕ) (out : List ℕ) where
 stepped-by : (st : State) (read : List ℕ) (controller : ℕ) → StateFits st
     → stepOf st read controller
     ≡ cond (eqb (length read) (st .setup .n * 4))
-    (cond (ltb controller (2 ^ st .setup .n)) (acceptedStep st (readingOf (st .setup .n) read controller)) (refusedStep st 10 0))
+    (cond (ltb controller (2 ^ st .setup .n))
+    (acceptedStep st (readingOf (st .setup .n) read controller) (causesOf (st .setup .n) read controller))
+    (refusedStep st 10 0))
     (refusedStep st 9 0)
 unfolding stepOf readStep testedStep
 stepped-by st read controller f =
@@ -144,13 +147,13 @@ module _ (image read : List ℕ) (controller : ℕ) (out : List ℕ) where
   tells : Stepped → Called
   tells t = cond (eqb (t .number) 0) (wrote (t .health) (t .state)) (refusedCall (t .number) (t .index) out)
 
-  tells-by : (c d : Bool)
-      → tells (cond c (cond d (acceptedStep st this) (refusedStep st 10 0)) (refusedStep st 9 0))
+  tells-by : (causes : List ℕ) (c d : Bool)
+      → tells (cond c (cond d (acceptedStep st this causes) (refusedStep st 10 0)) (refusedStep st 9 0))
       ≡ cond c (cond d done (refusedCall 10 0 out)) (refusedCall 9 0 out)
   unfolding tells acceptedStep refusedStep
-  tells-by true true = refl
-  tells-by true false = refl
-  tells-by false d = refl
+  tells-by causes true true = refl
+  tells-by causes true false = refl
+  tells-by causes false d = refl
 
   step : stepCall image read controller out ≡ answering (stepVerdict image read controller out) (judgementFor st this .health) (afterRound st this) out
   unfolding stepCall stepVerdict check tells roomFor stateOf setupOf
@@ -159,7 +162,7 @@ module _ (image read : List ℕ) (controller : ℕ) (out : List ℕ) where
       (λ t.
       let f = valid-fits st (load-valid image (eqb-true (checkImage image .number) 0 t)) in
       ap (λ (c : Called). cond (hasRoom (sizeOf image) out) c (refusedCall 9 0 out))
-      (ap tells (stepped-by st read controller f) ∙ tells-by (eqb (length read) (sizeOf image * 4)) (ltb controller (2 ^ sizeOf image))))
+      (ap tells (stepped-by st read controller f) ∙ tells-by _ (eqb (length read) (sizeOf image * 4)) (ltb controller (2 ^ sizeOf image))))
       ∙ step-chain (checkImage image) (isAccepted (checkImage image)) (hasRoom (sizeOf image) out) (eqb (length read) (sizeOf image * 4))
       (ltb controller (2 ^ sizeOf image)) refl
 
@@ -303,6 +306,12 @@ outgoing-numbers : (image : List ℕ) → oneOf (0 ∷ 1 ∷ 2 ∷ 3 ∷ 4 ∷ 5
 unfolding outgoingCall oneOf
 outgoing-numbers image = among-image (0 ∷ 1 ∷ 2 ∷ 3 ∷ 4 ∷ 5 ∷ 6 ∷ 7 ∷ 8 ∷ []) image refl refl refl refl refl refl refl refl refl
 
+cause-numbers : (n controller word : ℕ) → oneOf (0 ∷ 2 ∷ 10 ∷ []) (causeCall n controller word .number) ≡ true
+unfolding causeCall oneOf
+cause-numbers n controller word =
+    cond-both (λ (a : CauseAnswer). oneOf (0 ∷ 2 ∷ 10 ∷ []) (a .number) ≡ true) (between 2 16 n) _ _
+    (cond-both (λ (a : CauseAnswer). oneOf (0 ∷ 2 ∷ 10 ∷ []) (a .number) ≡ true) (ltb controller 2) _ _ refl refl) refl
+
 pub refusals : Refusals
 refusals = record {
   opening = opening;
@@ -313,4 +322,5 @@ refusals = record {
   step-numbers = step-numbers;
   saving-numbers = saving-numbers;
   outgoing-numbers = outgoing-numbers;
+  cause-numbers = cause-numbers;
 }

@@ -17,7 +17,7 @@ use Rattle.setup.specs.declared.Verdict.{Verdict}
 use Rattle.setup.specs.declared.Setup.{Setup}
 use Rattle.setup.proofs.NextLaws.{then-next, then-stays, fields-then, check-refused}
 use Rattle.setup.proofs.VerdictLaws.{check-ok, between-of}
-use Rattle.rules.specs.Hearing.{wordHeard, readingOf}
+use Rattle.rules.specs.Hearing.{receptionOf, isHeard, wordHeard, readingOf, causesOf}
 use Rattle.rules.specs.Alignment.{alignedOf}
 use Rattle.rules.specs.Syndrome.{judgementOf}
 use Rattle.rules.specs.Account.{accountAt, countersOf}
@@ -76,19 +76,19 @@ in-range st f j h =
 
 -- ---- rules 7 to 9
 
-module _ (st : State) (this : Reading) {j : Judgement} {word : ℕ} (e : j ≡ judgementFor st this) (w : word ≡ outgoingFor st this) where
+module _ (st : State) (this : Reading) (causes : List ℕ) {j : Judgement} {word : ℕ} (e : j ≡ judgementFor st this) (w : word ≡ outgoingFor st this) where
   pub tested-accepted : {next : State} → next ≡ afterRound st this → wordHeard (st .setup .n) word ≡ true
-      → _≡_ {A = Stepped} (record { number = 0; index = 0; health = j .health; accusations = j .accusations; word = word; state = next })
-      (testedStep st this)
+      → _≡_ {A = Stepped} (record { number = 0; index = 0; health = j .health; accusations = j .accusations; word = word; causes = causes; state = next })
+      (testedStep st this causes)
   unfolding testedStep acceptedStep
   tested-accepted {next} n t =
       let made : (k : Judgement) (x : ℕ) (s : State) → Stepped =
-      λ k x s. record { number = 0; index = 0; health = k .health; accusations = k .accusations; word = x; state = s }
+      λ k x s. record { number = 0; index = 0; health = k .health; accusations = k .accusations; word = x; causes = causes; state = s }
       in
       ap (λ (k : Judgement). made k word next) e ∙ ap₂ (made (judgementFor st this)) w n
       ∙ sym (cond-true _ _ (ap (λ (x : ℕ). wordHeard (st .setup .n) x) (sym w) ∙ t))
 
-  pub tested-refused : {r : Stepped} → r ≡ refusedStep st 11 0 → wordHeard (st .setup .n) word ≡ false → r ≡ testedStep st this
+  pub tested-refused : {r : Stepped} → r ≡ refusedStep st 11 0 → wordHeard (st .setup .n) word ≡ false → r ≡ testedStep st this causes
   unfolding testedStep
   tested-refused h f = h ∙ sym (cond-false _ _ (ap (λ (x : ℕ). wordHeard (st .setup .n) x) (sym w) ∙ f))
 
@@ -104,7 +104,7 @@ module _ (st : State) (read : List ℕ) (controller : ℕ) {r : Stepped} where
   read-controller h l c =
       h ∙ sym (cond-true _ _ (eq-eqb (length read) (st .setup .n * 4) l) ∙ cond-false _ _ (le-ltb controller (2 ^ st .setup .n) c))
 
-  pub read-taken : r ≡ testedStep st (readingOf (st .setup .n) read controller) → length read ≡ st .setup .n * 4 → controller < 2 ^ st .setup .n
+  pub read-taken : r ≡ testedStep st (readingOf (st .setup .n) read controller) (causesOf (st .setup .n) read controller) → length read ≡ st .setup .n * 4 → controller < 2 ^ st .setup .n
       → r ≡ readStep st read controller
   unfolding readStep
   read-taken h l c =
@@ -148,15 +148,15 @@ fresh-made s own {v} {rows} e h =
     in
     ap₂ made e (h ∙ ap (λ (x : ℕ). array (s .n) (λ j. x)) e)
 
--- the own number is out of range
-pub not-between : (n own : ℕ) → ltb own 1 || ltb n own ≡ true → between 1 n own ≡ false
-not-between n own t =
-    ⊎-elim (λ a. and-false-l (leb 1 own) _ (lt-leb 1 own (ltb-true own 1 a))) (λ b. and-false-r (leb 1 own) _ (lt-leb own n (ltb-true n own b)))
-    (or-cases (ltb own 1) (ltb n own) t)
+-- a number is out of range
+pub not-between : (low high v : ℕ) → ltb v low || ltb high v ≡ true → between low high v ≡ false
+not-between low high v t =
+    ⊎-elim (λ a. and-false-l (leb low v) _ (lt-leb low v (ltb-true v low a))) (λ b. and-false-r (leb low v) _ (lt-leb v high (ltb-true high v b)))
+    (or-cases (ltb v low) (ltb high v) t)
 
 -- or in range
-pub is-between : (n own : ℕ) → ltb own 1 || ltb n own ≡ false → (1 ≤ own) × (own ≤ n)
-is-between n own f = (ltb-false own 1 (or-false-l (ltb own 1) _ f), ltb-false n own (or-false-r (ltb own 1) _ f))
+pub is-between : (low high v : ℕ) → ltb v low || ltb high v ≡ false → (low ≤ v) × (v ≤ high)
+is-between low high v f = (ltb-false v low (or-false-l (ltb v low) _ f), ltb-false high v (or-false-r (ltb v low) _ f))
 
 module _ (s : Setup) (own : ℕ) {v : Verdict} (e : v ≡ setupVerdict s) where
   then-own : (next : Verdict) → andThen v next ≡ checkFields s next

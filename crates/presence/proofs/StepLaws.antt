@@ -16,7 +16,7 @@ use Rattle.setup.specs.declared.Verdict.{Verdict}
 use Rattle.setup.specs.declared.Setup.{Setup}
 use Rattle.setup.proofs.VerdictLaws.{check-ok, check-pass, between-is, between-of}
 use Rattle.setup.proofs.SetupLaws.{SetupFits, fields-pass, fields-ok}
-use Rattle.rules.specs.Hearing.{wordHeard, readingOf}
+use Rattle.rules.specs.Hearing.{wordHeard, readingOf, causesOf}
 use Rattle.rules.specs.Syndrome.{outgoingOf}
 use Rattle.presence.specs.Valid.{stateVerdict, Valid}
 use Rattle.presence.specs.Opening.{fresh, blank, checkOpening, openOf}
@@ -39,9 +39,9 @@ unfolding ownSyndrome afterRound
 own-after st this = refl
 
 -- The word that a step hands out is told by the state that it leaves: a marked module delays its syndrome once.
-pub handed-out : (st : State) (this : Reading) → acceptedStep st this .word ≡ handedOut (acceptedStep st this .state)
+pub handed-out : (st : State) (this : Reading) (causes : List ℕ) → acceptedStep st this causes .word ≡ handedOut (acceptedStep st this causes .state)
 unfolding acceptedStep outgoingFor outgoingOf handedOut afterRound markOf
-handed-out st this = refl
+handed-out st this causes = refl
 
 -- A valid state hands out no word that fails its test.
 pub outgoing-heard : (st : State) (this : Reading) → StateFits st → wordHeard (st .setup .n) (outgoingFor st this) ≡ true
@@ -54,7 +54,7 @@ outgoing-heard st this f =
 
 -- a valid state, N read words and no controller bit at N or above
 pub step-accepts : (st : State) (read : List ℕ) (controller : ℕ) → StateFits st → length read ≡ st .setup .n * 4 → controller < 2 ^ st .setup .n
-    → stepOf st read controller ≡ acceptedStep st (readingOf (st .setup .n) read controller)
+    → stepOf st read controller ≡ acceptedStep st (readingOf (st .setup .n) read controller) (causesOf (st .setup .n) read controller)
 unfolding stepOf readStep testedStep
 step-accepts st read controller f l h =
     let this = readingOf (st .setup .n) read controller in
@@ -64,9 +64,9 @@ step-accepts st read controller f l h =
     ∙ cond-true _ _ (outgoing-heard st this f)
 
 -- by the tests of its state, its read, its controller bits and its word
-answered : State → Reading → Verdict → Bool → Bool → Bool → Bool → Stepped
-answered st this v a b c d =
-    cond a (cond b (cond c (cond d (acceptedStep st this) (refusedStep st 11 0)) (refusedStep st 10 0)) (refusedStep st 9 0))
+answered : State → Reading → List ℕ → Verdict → Bool → Bool → Bool → Bool → Stepped
+answered st this causes v a b c d =
+    cond a (cond b (cond c (cond d (acceptedStep st this causes) (refusedStep st 11 0)) (refusedStep st 10 0)) (refusedStep st 9 0))
     (refusedStep st (v .number) (v .index))
 
 pub step-refused : (st : State) (read : List ℕ) (controller : ℕ) → stepOf st read controller .number ≢ 0
@@ -82,7 +82,10 @@ step-refused st read controller no-zero =
     this : Reading
     this = readingOf (st .setup .n) read controller
 
-    go : (a b c d : Bool) → answered st this v a b c d .number ≢ 0 → answered st this v a b c d .state ≡ st
+    causes : List ℕ
+    causes = causesOf (st .setup .n) read controller
+
+    go : (a b c d : Bool) → answered st this causes v a b c d .number ≢ 0 → answered st this causes v a b c d .state ≡ st
     go true true true true h = absurd (h refl)
     go true true true false h = refl
     go true true false d h = refl
@@ -91,7 +94,7 @@ step-refused st read controller no-zero =
 
 -- an accepted step is one of a valid state
 pub step-accepted : (st : State) (read : List ℕ) (controller : ℕ) → stepOf st read controller .number ≡ 0
-    → Valid st × (stepOf st read controller ≡ acceptedStep st (readingOf (st .setup .n) read controller))
+    → Valid st × (stepOf st read controller ≡ acceptedStep st (readingOf (st .setup .n) read controller) (causesOf (st .setup .n) read controller))
 unfolding stepOf readStep testedStep acceptedStep refusedStep answered
 step-accepted st read controller zero =
     go (isAccepted v) (eqb (length read) (st .setup .n * 4)) (ltb controller (2 ^ st .setup .n))
@@ -103,13 +106,29 @@ step-accepted st read controller zero =
     this : Reading
     this = readingOf (st .setup .n) read controller
 
-    go : (a b c d : Bool) → isAccepted v ≡ a → answered st this v a b c d .number ≡ 0
-        → (v .number ≡ 0) × (answered st this v a b c d ≡ acceptedStep st this)
+    causes : List ℕ
+    causes = causesOf (st .setup .n) read controller
+
+    go : (a b c d : Bool) → isAccepted v ≡ a → answered st this causes v a b c d .number ≡ 0
+        → (v .number ≡ 0) × (answered st this causes v a b c d ≡ acceptedStep st this causes)
     go true true true true e z = (eqb-true (v .number) 0 e, refl)
     go true true true false e z = absurd (omega arith)
     go true true false d e z = absurd (omega arith)
     go true false c d e z = absurd (omega arith)
     go false b c d e z = absurd (eqb-false (v .number) 0 e z)
+
+-- with N read words
+pub step-whole : (st : State) (read : List ℕ) (controller : ℕ) → stepOf st read controller .number ≡ 0 → length read ≡ st .setup .n * 4
+unfolding stepOf readStep testedStep refusedStep
+step-whole st read controller zero = eqb-true (length read) (st .setup .n * 4) (go _ (isAccepted v) (eqb (length read) (st .setup .n * 4)) refl zero)
+  where
+    v : Verdict
+    v = stateVerdict st
+
+    go : (t : Stepped) (a b : Bool) → isAccepted v ≡ a → cond a (cond b t (refusedStep st 9 0)) (refusedStep st (v .number) (v .index)) .number ≡ 0 → b ≡ true
+    go t true true e z = refl
+    go t true false e z = absurd (omega arith)
+    go t false b e z = absurd (eqb-false (v .number) 0 e z)
 
 -- and gives a valid state
 pub step-valid : (st : State) (read : List ℕ) (controller : ℕ) → stepOf st read controller .number ≡ 0

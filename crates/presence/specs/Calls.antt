@@ -2,17 +2,18 @@
 use Prim.Native.Nat.{ℕ}
 use mathlib.Core.Bool.{cond}
 use mathlib.Core.List.{List}
-use lib.Dec.{eqb}
-use Rattle.setup.specs.Verdict.{isAccepted}
+use lib.Dec.{eqb, ltb}
+use Rattle.setup.specs.Verdict.{isAccepted, between}
 use Rattle.setup.specs.Setup.{setupOf}
 use Rattle.setup.specs.Check.{checkSetup}
-use Rattle.rules.specs.Hearing.{busWord}
+use Rattle.rules.specs.Hearing.{busWord, receptionOf, rowIn, causeIn}
 use Rattle.image.specs.Check.{checkImage}
 use Rattle.presence.specs.Opening.{openOf}
 use Rattle.presence.specs.Step.{markOf, stepOf}
 use Rattle.presence.specs.Image.{imageOf, stateOf, roomFor}
 use Rattle.presence.specs.declared.Answer.{Answer}
 use Rattle.presence.specs.declared.WordAnswer.{WordAnswer}
+use Rattle.presence.specs.declared.CauseAnswer.{CauseAnswer}
 use Rattle.presence.specs.declared.State.{State}
 
 -- the answer and the output at exit
@@ -78,3 +79,15 @@ unfoldable pub outgoingCall : List ℕ → WordAnswer
 outgoingCall image =
     let v = checkImage image in
     record { number = v .number; index = v .index; word = cond (isAccepted v) (handedOut (stateOf image)) 0 }
+
+-- a word of a read is refused: cause and row 0
+abbrev pub refusedCause : ℕ → CauseAnswer
+refusedCause number = record { number = number; index = 0; cause = 0; row = 0 }
+
+-- reading one word of n modules: 2 for n outside 2..16, 10 for a controller bit that is neither 0 nor 1 (document 02, E5)
+unfoldable pub causeCall : ℕ → ℕ → ℕ → CauseAnswer
+causeCall n controller word =
+    let r = receptionOf n (eqb controller 1) word in
+    cond (between 2 16 n)
+    (cond (ltb controller 2) (record { number = 0; index = 0; cause = causeIn r; row = rowIn r }) (refusedCause 10))
+    (refusedCause 2)

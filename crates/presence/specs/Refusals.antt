@@ -19,7 +19,7 @@ use Rattle.image.specs.Check.{checkImage}
 use Rattle.presence.specs.Opening.{fresh}
 use Rattle.presence.specs.Step.{judgementFor, afterRound}
 use Rattle.presence.specs.Image.{stateOf}
-use Rattle.presence.specs.Calls.{Called, refusedCall, wrote, checkCall, openCall, stepCall, saveCall, outgoingCall}
+use Rattle.presence.specs.Calls.{Called, refusedCall, wrote, checkCall, openCall, stepCall, saveCall, outgoingCall, causeCall}
 use Rattle.presence.specs.declared.State.{State}
 
 -- N, by the head of the bytes
@@ -80,3 +80,4 @@ pub record Refusals : Type 0 where
   pub saving-numbers : (image out : List ℕ)
       → oneOf (0 ∷ 1 ∷ 2 ∷ 3 ∷ 4 ∷ 5 ∷ 6 ∷ 7 ∷ 8 ∷ 9 ∷ []) (saveCall image out .answer .number) ≡ true
   pub outgoing-numbers : (image : List ℕ) → oneOf (0 ∷ 1 ∷ 2 ∷ 3 ∷ 4 ∷ 5 ∷ 6 ∷ 7 ∷ 8 ∷ []) (outgoingCall image .number) ≡ true
+  pub cause-numbers : (n controller word : ℕ) → oneOf (0 ∷ 2 ∷ 10 ∷ []) (causeCall n controller word .number) ≡ true

@@ -7,7 +7,7 @@ use lib.Dec.{eqb, ltb}
 use Rattle.words.specs.Bits.{bit}
 use Rattle.setup.specs.Verdict.{isAccepted}
 use Rattle.rules.specs.Lag.{skewed}
-use Rattle.rules.specs.Hearing.{wordHeard, readingOf}
+use Rattle.rules.specs.Hearing.{wordHeard, readingOf, causesOf}
 use Rattle.rules.specs.Alignment.{alignedOf}
 use Rattle.rules.specs.Syndrome.{judgementOf, outgoingOf}
 use Rattle.rules.specs.Account.{countersOf}
@@ -62,31 +62,34 @@ afterRound st this = record {
 
 -- ---- the answer
 
--- a refusal leaves the state as it was; health, accusations and word are 0
+-- a refusal leaves the state as it was; health, accusations, word and causes are 0
 unfoldable pub refusedStep : State → ℕ → ℕ → Stepped
 refusedStep st number index =
-    record { number = number; index = index; health = 0; accusations = replicate 16 0; word = 0; state = st }
+    record { number = number; index = index; health = 0; accusations = replicate 16 0; word = 0; causes = replicate 16 0; state = st }
 
--- number 0, what the rules give, and the state after the round
-unfoldable pub acceptedStep : State → Reading → Stepped
-acceptedStep st this = record {
+-- number 0, what the rules give, the causes of the read as it came, and the state after the round, which keeps no causes
+unfoldable pub acceptedStep : State → Reading → List ℕ → Stepped
+acceptedStep st this causes = record {
   number = 0;
   index = 0;
   health = judgementFor st this .health;
   accusations = judgementFor st this .accusations;
   word = outgoingFor st this;
+  causes = causes;
   state = afterRound st this;
 }
 
 -- rule 9: the outgoing word is tested as in rule 2, else number 11 with index 0
-unfoldable pub testedStep : State → Reading → Stepped
-testedStep st this = cond (wordHeard (st .setup .n) (outgoingFor st this)) (acceptedStep st this) (refusedStep st 11 0)
+unfoldable pub testedStep : State → Reading → List ℕ → Stepped
+testedStep st this causes = cond (wordHeard (st .setup .n) (outgoingFor st this)) (acceptedStep st this causes) (refusedStep st 11 0)
 
 -- 9: a read of other than N words; 10: a controller bit at N or above; both with index 0
 unfoldable pub readStep : State → List ℕ → ℕ → Stepped
 readStep st read controller =
     cond (eqb (length read) (st .setup .n * 4))
-    (cond (ltb controller (2 ^ st .setup .n)) (testedStep st (readingOf (st .setup .n) read controller)) (refusedStep st 10 0))
+    (cond (ltb controller (2 ^ st .setup .n))
+    (testedStep st (readingOf (st .setup .n) read controller) (causesOf (st .setup .n) read controller))
+    (refusedStep st 10 0))
     (refusedStep st 9 0)
 
 -- what a step answers; a state outside the limits is refused first

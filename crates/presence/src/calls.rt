@@ -1,5 +1,6 @@
 // The calls from C: a state is its saved image, read from one slice and written to the output. A refused call writes nothing.
 use crate::Answer;
+use crate::CauseAnswer;
 use crate::State;
 use crate::WordAnswer;
 use crate::load::load;
@@ -14,7 +15,7 @@ use words::word::word_at;
 ghost use mathlib.Core.Path.{_≡_};
 ghost use Rattle.image.specs.Check.{checkImage};
 ghost use Rattle.presence.specs.Image.{stateOf};
-ghost use Rattle.presence.specs.Calls.{answer, called, checkCall, openCall, stepCall, saveCall, handedOut, outgoingCall};
+ghost use Rattle.presence.specs.Calls.{answer, called, checkCall, openCall, stepCall, saveCall, handedOut, outgoingCall, refusedCause, causeCall};
 
 // An answer without health.
 fn refuse(number: u32, index: u32) -> Answer
@@ -151,5 +152,37 @@ pub extern "C" fn presence_outgoing(image: &[u8]) -> WordAnswer
         number: 0,
         index: 0,
         word: word_in(image),
+    }
+}
+
+// A refusal of the call below.
+fn refuse_cause(number: u32) -> CauseAnswer
+    ensures { λ r. ⌜ r ≡ refusedCause number ⌝ }
+{
+    CauseAnswer {
+        number,
+        index: 0,
+        cause: 0,
+        row: 0,
+    }
+}
+
+// Reads one word of n modules, whose controller bit is 0 or 1: 2, 10.
+#[no_mangle]
+pub extern "C" fn presence_read_cause(n: u32, controller: u32, word: u32) -> CauseAnswer
+    ensures { λ r. ⌜ r ≡ causeCall n controller word ⌝ }
+{
+    if (n < 2) | (16 < n) {
+        return refuse_cause(2);
+    }
+    if 1 < controller {
+        return refuse_cause(10);
+    }
+    let r = rules::hearing::receive(n as usize, controller == 1, word);
+    CauseAnswer {
+        number: 0,
+        index: 0,
+        cause: r.cause(),
+        row: r.row(),
     }
 }

@@ -31,13 +31,14 @@ pub struct Opened {
     pub state: State,
 }
 
-// What a step answers: the word is the one handed out for the bus.
+// What a step answers: the word is the one handed out for the bus, the causes are the codes of this read, as it came (0 to 3).
 pub struct Stepped {
     pub number: u32,
     pub index: u32,
     pub health: u32,
     pub accusations: [u32; 16],
     pub word: u32,
+    pub causes: [u32; 16],
     pub state: State,
 }
 
@@ -55,4 +56,13 @@ pub struct WordAnswer {
     pub number: u32,
     pub index: u32,
     pub word: u32,
+}
+
+// What reading one word answers to C: the cause by its code, 0 for heard, and the row of a heard word, else 0; both are 0 where the call is refused.
+#[repr(C)]
+pub struct CauseAnswer {
+    pub number: u32,
+    pub index: u32,
+    pub cause: u32,
+    pub row: u32,
 }

@@ -85,19 +85,21 @@ impl State {
             health: 0,
             accusations: [0u32; 16],
             word: 0,
+            causes: [0u32; 16],
             state: self,
         }
     }
 
-    // A round, and rule 9: the outgoing word is tested.
-    fn tested(self, this: Reading) -> Stepped
+    // A round, and rule 9: the outgoing word is tested. The causes are handed on.
+    fn tested(self, this: Reading, causes: [u32; 16]) -> Stepped
         requires { ⌜ Valid self ⌝ }
-        ensures { λ r. ⌜ r ≡ testedStep self this ⌝ }
+        ensures { λ r. ⌜ r ≡ testedStep self this causes ⌝ }
     {
         let setup = self.setup;
         let j = self.judged(this);
         let word = self.outgoing(this, j);
-        if rules::hearing::word_heard(setup.n, word) {
+        let sent = rules::hearing::receive(setup.n, true, word);
+        if sent.is_heard() {
             let accusations = j.accusations;
             let state = self.after(this, j);
             return Stepped {
@@ -106,6 +108,7 @@ impl State {
                 health: j.health,
                 accusations,
                 word,
+                causes,
                 state,
             };
         }
@@ -125,7 +128,8 @@ impl State {
         if power(n) <= controller {
             return self.refused(10, 0);
         }
-        self.tested(rules::hearing::reading(n, read, controller))
+        let causes = rules::hearing::causes(n, read, controller);
+        self.tested(rules::hearing::reading(n, read, controller), causes)
     }
 
     // One step of any state: one outside the limits is refused first.

@@ -1,4 +1,5 @@
 pub mod HearingLaws
+pub mod Causes
 pub mod AlignmentLaws
 pub mod SpliceLaws
 pub mod MaskLaws

@@ -1,5 +1,6 @@
 pub mod Lag
 pub mod Hearing
+pub mod Causes
 pub mod Alignment
 pub mod Mask
 pub mod Vote

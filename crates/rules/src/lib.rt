@@ -11,6 +11,14 @@ mod mask;
 mod vote;
 mod vote_table;
 
+// What reading a bus word answers: it is heard, with its row, or it is not, and why, the first cause that applies.
+pub enum Reception {
+    Heard(u32),
+    ControllerLoss,
+    WrongKind,
+    StrayBits,
+}
+
 // What became of one module's bus word: whether it is heard, and its row, 0 if it is not.
 pub struct Entry {
     pub heard: bool,

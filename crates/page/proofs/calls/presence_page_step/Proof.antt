@@ -1,5 +1,5 @@
 -- A step as without a page; where it is accepted the page is written after it.
-use Rattle.page.proofs.StepLaws.{step-no-page, step-refused, image-room, in-image, in-output, before-small, step-paged}
+use Rattle.page.proofs.StepLaws.{step-no-page, step-refused, image-room, in-image, in-read, in-output, before-small, codes-of, step-paged}
 use borrow.Author.Needs.{needs}
 use Rattle.page.proofs.calls.presence_page_step.Statement.{statement}
 use Rattle.page.proofs.calls.presence_page_step.Tie as tie
@@ -41,12 +41,18 @@ view-at-requires-2 c κs =
     let i = c .before .before .before in
     in-output _ _ _ _ (i .before .before .before .before .presence-step2 .ensures) (i .if2 .left) (c .before .before .size-at .ensures)
 
+causes-requires : tie.Need-causes-requires
+causes-requires c κs =
+    let i = c .before .before .before .before in
+    in-read _ _ _ _ (i .before .before .before .before .presence-step2 .ensures) (i .if2 .left) (c .before .before .before .size-at .ensures)
+
 step-page-requires : tie.Need-step-page-requires
 step-page-requires c κs =
-    let i = c .before .before .before .before .before in
+    let i = c .before .before .before .before .before .before in
     let p = i .before .before .before .before in
-    let size = c .before .before .before .before .size-at .ensures in
-    (in-image _ _ _ _ (p .presence-step2 .ensures) (i .if2 .left) size .0, before-small _ _ _ _ (p .presence-step2 .ensures) (i .if2 .left) size (c .before .before .before .view-at .ensures), p .before .before .if1 .left)
+    let size = c .before .before .before .before .before .size-at .ensures in
+    let small = in-image _ _ _ _ (p .presence-step2 .ensures) (i .if2 .left) size .0 in
+    (small, before-small _ _ _ _ (p .presence-step2 .ensures) (i .if2 .left) size (c .before .before .before .before .view-at .ensures), p .before .before .if1 .left, codes-of _ _ _ small (c .before .causes .ensures))
 
 same-length-3 : tie.Need-same-length-3
 same-length-3 c = search needs
@@ -56,11 +62,11 @@ same-length-4 c = search needs
 
 returns-3 : tie.Need-returns-3
 returns-3 c =
-    let a = c .before .before .before .before in
+    let a = c .before .before .before .before .before in
     let i = a .before .before .before .before in
     let p = i .before .before .before .before in
     step-paged _ _ _ _ (p .presence-step2 .ensures) (i .if2 .left) (a .before .before .before .size-at .ensures) (a .before .before .view-at .ensures) _ (p .before .before .if1 .left)
-    (a .view-at2 .ensures) (c .before .before .step-page .ensures)
+    (a .view-at2 .ensures) (c .before .before .before .before .causes .ensures) (c .before .before .step-page .ensures)
 
 pub presence-page-step-spec : {M : Type 1} → statement M
 presence-page-step-spec =
@@ -77,6 +83,7 @@ presence-page-step-spec =
     size-at-requires
     view-at-requires
     view-at-requires-2
+    causes-requires
     step-page-requires
     same-length-3
     same-length-4

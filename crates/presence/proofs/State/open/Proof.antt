@@ -21,7 +21,7 @@ returns-2 : tie.Need-returns-2
 returns-2 c =
     let v = c .before .before .before .before .before in
     let a = v .before .args in
-    open-other _ _ (v .verdict .ensures) (c .blank2 .ensures) (c .before .before .before .if1 .left) (not-between (a .setup .n) (a .own) (c .before .if2 .taken))
+    open-other _ _ (v .verdict .ensures) (c .blank2 .ensures) (c .before .before .before .if1 .left) (not-between 1 (a .setup .n) (a .own) (c .before .if2 .taken))
 
 fresh-requires : tie.Need-fresh-requires
 fresh-requires c κs = struct-fits _ (c .before .before .before .before .verdict .ensures) (c .before .before .if1 .left) .most
@@ -30,7 +30,7 @@ returns-3 : tie.Need-returns-3
 returns-3 c =
     let v = c .before .before .before .before .before in
     let a = v .before .args in
-    let (h, l) = is-between (a .setup .n) (a .own) (c .before .if2 .left) in
+    let (h, l) = is-between 1 (a .setup .n) (a .own) (c .before .if2 .left) in
     open-done _ _ (v .verdict .ensures) (c .fresh .ensures) (c .before .before .before .if1 .left) h l
 
 pub open-spec : {M : Type 1} → statement M

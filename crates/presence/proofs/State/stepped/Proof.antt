@@ -1,9 +1,8 @@
 -- Each test refuses by its number; what passes is the round.
 use native.Mathlib.Omega.{arith}
 use borrow.Author.Needs.{needs}
-use mathlib.Core.Path.{ap, _∙_, subst}
+use mathlib.Core.Path.{ap₂, _∙_, subst}
 use Prim.Native.Nat.{ℕ, _≤_, _<_}
-use Rattle.rules.specs.declared.Reading.{Reading}
 use Rattle.presence.specs.Step.{testedStep}
 use Rattle.presence.proofs.ValidLaws.{valid-fits}
 use Rattle.presence.proofs.RoundLaws.{read-length, read-controller, read-taken}
@@ -34,17 +33,23 @@ refused-requires-2 c κs = search needs
 returns-2 : tie.Need-returns-2
 returns-2 c = read-controller _ _ _ (c .refused2 .ensures) (c .before .before .before .if1 .left) (subst (λ (x : ℕ). x ≤ c .before .before .before .before .before .before .args .controller) (c .before .before .power .ensures) (c .before .if2 .taken))
 
+causes-requires : tie.Need-causes-requires
+causes-requires c κs = (valid-fits _ (c .before .before .before .before .before .pre) .setup .most, c .before .before .if1 .left)
+
 reading-requires : tie.Need-reading-requires
-reading-requires c κs = (valid-fits _ (c .before .before .before .before .before .pre) .setup .most, c .before .before .if1 .left)
+reading-requires c κs = (valid-fits _ (c .before .before .before .before .before .before .pre) .setup .most, c .before .before .before .if1 .left)
 
 tested-requires : tie.Need-tested-requires
 tested-requires c κs = search needs
 
 returns-3 : tie.Need-returns-3
 returns-3 c =
-    let a = c .before .before .before .before .before .before .before .args in
-    read-taken _ _ _ (c .tested .ensures ∙ ap (λ (x : Reading). testedStep (a .self) x) (c .before .reading .ensures)) (c .before .before .before .before .if1 .left)
-    (subst (λ (x : ℕ). a .controller < x) (c .before .before .before .power .ensures) (c .before .before .if2 .left))
+    let i = c .before .before .before in
+    let a = i .before .before .before .before .before .args in
+    read-taken _ _ _ (c .tested .ensures ∙ ap₂ (testedStep (a .self)) (c .before .reading .ensures) (c .before .before .causes .ensures)) (i .before .before .if1 .left)
+    (subst (λ (x : ℕ). a .controller < x) (i .before .power .ensures) (i .if2 .left))
 
 pub stepped-spec : {M : Type 1} → statement M
-stepped-spec = tie.close (tie.spec mul-if1 refused-requires returns power-requires refused-requires-2 returns-2 reading-requires tested-requires returns-3)
+stepped-spec =
+    tie.close
+    (tie.spec mul-if1 refused-requires returns power-requires refused-requires-2 returns-2 causes-requires reading-requires tested-requires returns-3)
