@@ -121,7 +121,7 @@ module _ (S : Session) (setup : List ℕ) (set-up : SetUp S setup) where
         ∙ ap busWord (cond-both (λ v. v ≡ full (size S)) (markOf (fresh (S .setup) (i + 1))) (full (size S)) (full (size S)) refl refl)
     handed-is (suc k) =
         let e = taken S ok i below (suc k) (state S i k) (held S ok i below k) in
-        ap (λ (t : Stepped). handedOut (t .state)) e ∙ sym (handed-out (state S i k) (reading S i (suc k))) ∙ ap (λ (t : Stepped). t .word) (sym e)
+        ap (λ (t : Stepped). handedOut (t .state)) e ∙ sym (handed-out (state S i k) (reading S i (suc k)) _) ∙ ap (λ (t : Stepped). t .word) (sym e)
 
     module _ (k h : ℕ) (image : List ℕ) (l : ImageLife S setup i k image h) where
       same : image ≡ imageOf (state S i k)

@@ -1,6 +1,7 @@
 -- The steps of a session: every one is accepted, and gives what rules 1 to 8 make of its read. A module's life is its steps.
 use Prim.Native.Nat.{ℕ, zero, suc, _+_, _*_, _^_, _≤_, _<_}
 use mathlib.Core.Path.{_≡_, refl, sym, ap, _∙_, subst}
+use mathlib.Core.List.{List}
 use native.Mathlib.Omega.{arith}
 use lib.ListN.{length}
 use Rattle.words.proofs.BitLaws.{pack-lt}
@@ -9,7 +10,7 @@ use Rattle.setup.specs.Verdict.{accepted}
 use Rattle.setup.specs.Check.{setupVerdict}
 use Rattle.setup.specs.declared.Setup.{Setup}
 use Rattle.setup.proofs.SetupLaws.{SetupFits, fields-pass}
-use Rattle.rules.specs.Hearing.{readingOf}
+use Rattle.rules.specs.Hearing.{readingOf, causesOf}
 use Rattle.presence.specs.Opening.{fresh, openOf}
 use Rattle.presence.specs.Step.{judgementFor, outgoingFor, afterRound, acceptedStep}
 use Rattle.rules.specs.declared.Reading.{Reading}
@@ -24,6 +25,10 @@ use Rattle.agreement.specs.Life.{Life, opens, steps, refused-step, refus
 -- the read of module i in round k
 abbrev pub reading : Session → ℕ → ℕ → Reading
 reading S i k = readingOf (size S) (readBytes S i k) (readBits S i k)
+
+-- its causes
+abbrev pub causes : Session → ℕ → ℕ → List ℕ
+causes S i k = causesOf (size S) (readBytes S i k) (readBits S i k)
 
 -- what every state of a session is
 pub record Held (S : Session) (i : ℕ) (st : State) : Type 0 where
@@ -44,13 +49,13 @@ module _ (S : Session) (ok : Accepted S) where
     opened = open-accepts (S .setup) (i + 1) setup-fits (omega arith) (omega arith)
 
     -- a step on a read of the session
-    pub taken : (k : ℕ) (st : State) → Held S i st → answer S i k st ≡ acceptedStep st (reading S i k)
+    pub taken : (k : ℕ) (st : State) → Held S i st → answer S i k st ≡ acceptedStep st (reading S i k) (causes S i k)
     taken k st h =
         let e : st .setup .n ≡ size S = ap (λ (s : Setup). s .n) (h .setup) in
         let l : length (readBytes S i k) ≡ st .setup .n * 4 = bytes-length (size S) _ ∙ ap (λ (n : ℕ). n * 4) (sym e) in
         let b : readBits S i k < 2 ^ st .setup .n = subst (λ (n : ℕ). readBits S i k < 2 ^ n) (sym e) (pack-lt (size S) _) in
         step-accepts st (readBytes S i k) (readBits S i k) (h .fits) l b
-        ∙ ap (λ (n : ℕ). acceptedStep st (readingOf n (readBytes S i k) (readBits S i k))) e
+        ∙ ap (λ (n : ℕ). acceptedStep st (readingOf n (readBytes S i k) (readBits S i k)) (causesOf n (readBytes S i k) (readBits S i k))) e
 
     after-held : (k : ℕ) (st : State) → Held S i st → Held S i (afterRound st (reading S i k))
     unfolding afterRound
@@ -77,7 +82,7 @@ module _ (S : Session) (ok : Accepted S) where
         subst (λ (t : Stepped). Held S i (t .state)) (sym (taken (suc k) (state S i k) (held k))) (after-held (suc k) (state S i k) (held k))
 
     module _ (k : ℕ) where
-      step-is : answer S i (suc k) (state S i k) ≡ acceptedStep (state S i k) (reading S i (suc k))
+      step-is : answer S i (suc k) (state S i k) ≡ acceptedStep (state S i k) (reading S i (suc k)) (causes S i (suc k))
       step-is = taken (suc k) (state S i k) (held k)
 
       pub state-suc : state S i (suc k) ≡ afterRound (state S i k) (reading S i (suc k))

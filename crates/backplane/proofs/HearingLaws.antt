@@ -15,8 +15,8 @@ use Rattle.words.proofs.BitLaws.{pack-ext}
 use Rattle.words.proofs.CountLaws.{any-intro, any-witness, any-ext}
 use Rattle.words.proofs.LowestLaws.{lowest-zero, lowest-le, lowest-passes}
 use Rattle.words.proofs.TableLaws.{table-at}
-use Rattle.rules.specs.Hearing.{wordHeard, entryOf}
-use Rattle.rules.proofs.HearingLaws.{entry-heard}
+use Rattle.rules.specs.Hearing.{busWord, entryOf}
+use Rattle.rules.proofs.HearingLaws.{heard-is, entry-heard}
 use Rattle.agreement.specs.Fault.{differ, half, heard}
 use Rattle.backplane.specs.Bus.{bitTo, wordTo, roundOf}
 use Rattle.backplane.specs.Limit.{followsIn, firstFollower}
@@ -26,10 +26,9 @@ use Rattle.backplane.specs.declared.Bus.{Bus}
 -- ---- a heard word is not 0, so the words as heard tell who hears what
 
 not-zero : (n : ℕ) (on : Bool) (w : ℕ) → entryOf n on w .heard ≡ true → w ≢ 0
-unfolding wordHeard
+unfolding busWord
 not-zero n on w t z =
-    let h = and-r on _ (sym (entry-heard n on w) ∙ t) in
-    let k = eqb-true (w / 2 ^ 28) 5 (and-l _ _ h) in
+    let h = heard-is n w (and-r on _ (sym (entry-heard n on w) ∙ t)) .0 in
     omega arith
 
 is-heard : (n : ℕ) (on : Bool) (w : ℕ) → entryOf n on w .heard ≡ not (eqb (heardWord n on w) 0)

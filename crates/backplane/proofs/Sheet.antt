@@ -9,7 +9,7 @@ use Rattle.setup.specs.Verdict.{check, checkEach}
 use Rattle.setup.specs.Setup.{setupOf, blankSetup}
 use Rattle.setup.specs.Check.{moduleFits, markFits, whole, headOk, limitOk, moduleOk, markOk, checkHead, checkWords, checkFront, setupPart, checkSetup, setupTidy, checkFields, readSetup}
 use Rattle.rules.specs.Lag.{skewed}
-use Rattle.rules.specs.Hearing.{busWord, wordHeard, entryOf, readingOf}
+use Rattle.rules.specs.Hearing.{busWord, receptionOf, isHeard, rowIn, causeIn, entryOf, readingOf, causesOf}
 use Rattle.rules.specs.Alignment.{alignedOf}
 use Rattle.rules.specs.Vote.{decision, tally, voteOf, healthOf}
 use Rattle.rules.specs.Accusation.{differsAt, accusationOf, accusationsOf}
@@ -35,5 +35,5 @@ use Rattle.backplane.specs.Output.{linesTo, outputOf}
 use Rattle.backplane.specs.Sheet.{Written}
 
 pub written : Written
-unfolding wordAt bytesOf bit pack count any all lowest array clearFrom updated table check checkEach setupOf blankSetup moduleFits markFits whole headOk limitOk moduleOk markOk checkHead checkWords checkFront setupPart checkSetup setupTidy checkFields readSetup skewed busWord wordHeard entryOf readingOf alignedOf decision tally voteOf healthOf differsAt accusationOf accusationsOf syndromeOf votersOf judgementOf outgoingOf charged rewarded accounted accountAt accountedAt countersOf rowFits penaltyFits rewardFits stateTidy checkState stateVerdict fresh blank checkOpening openOf placeOf markOf ownSyndrome alignedFor judgementFor outgoingFor afterRound refusedStep acceptedStep testedStep readStep stepOf castOk eventOk playOk playRefusal eventRefusal refusal scanned finished scan checkPlay checkScript none concerns withEvent isPlay lieAfter eventsAfter gather start advanced lastScan roundsOf differ half heard within numeral vector lineWith linesOf refusedLine roundOf faultless arrived readWords readBits firstFollower followersView countingView hearingOf isHalf isBreaker isUnheard keptOver openedStates opened sentWords stepAt steppedStates answeredHealth earlier played begun goesOn nextOf later printed linesTo outputOf
+unfolding wordAt bytesOf bit pack count any all lowest array clearFrom updated table check checkEach setupOf blankSetup moduleFits markFits whole headOk limitOk moduleOk markOk checkHead checkWords checkFront setupPart checkSetup setupTidy checkFields readSetup skewed busWord receptionOf isHeard rowIn causeIn entryOf readingOf causesOf alignedOf decision tally voteOf healthOf differsAt accusationOf accusationsOf syndromeOf votersOf judgementOf outgoingOf charged rewarded accounted accountAt accountedAt countersOf rowFits penaltyFits rewardFits stateTidy checkState stateVerdict fresh blank checkOpening openOf placeOf markOf ownSyndrome alignedFor judgementFor outgoingFor afterRound refusedStep acceptedStep testedStep readStep stepOf castOk eventOk playOk playRefusal eventRefusal refusal scanned finished scan checkPlay checkScript none concerns withEvent isPlay lieAfter eventsAfter gather start advanced lastScan roundsOf differ half heard within numeral vector lineWith linesOf refusedLine roundOf faultless arrived readWords readBits firstFollower followersView countingView hearingOf isHalf isBreaker isUnheard keptOver openedStates opened sentWords stepAt steppedStates answeredHealth earlier played begun goesOn nextOf later printed linesTo outputOf
 written = record { sheet = refl; refused = refl; half-heard = refl }

@@ -1,7 +1,7 @@
 // How the rule-followers hear the senders of a round.
 use crate::Bus;
 use crate::Hearing;
-use rules::hearing::word_heard;
+use rules::hearing::receive;
 use words::bits::bit_at;
 use words::bits::pick;
 use words::bits::with_bit;
@@ -17,7 +17,8 @@ fn heard_word(n: usize, on: bool, w: u32) -> u32
     requires { ⌜ n ≤ 16 ⌝ }
     ensures { λ r. ⌜ r ≡ heardWord n on w ⌝ }
 {
-    pick(on & word_heard(n, w), w, 0)
+    let r = receive(n, on, w);
+    pick(r.is_heard(), w, 0)
 }
 
 // The heard words of all receivers.

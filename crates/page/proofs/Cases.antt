@@ -20,7 +20,7 @@ use Rattle.presence.specs.Valid.{stateTidy, checkState, stateVerdict}
 use Rattle.presence.specs.Opening.{fresh, blank, checkOpening, openOf}
 use Rattle.presence.specs.Step.{placeOf, markOf, ownSyndrome, alignedFor, judgementFor, outgoingFor, afterRound, refusedStep, acceptedStep, testedStep, readStep, stepOf}
 use Rattle.presence.specs.Image.{imageOf, stateOf, roomFor}
-use Rattle.presence.specs.Calls.{refusedCall, wrote, openCall, stepCall}
+use Rattle.presence.specs.Calls.{refusedCall, wrote, openCall, stepCall, causeCall}
 use Rattle.page.specs.Flags.{joined, cleared, shared}
 use Rattle.page.specs.Page.{openedWord, pageOpened, causeWord, putCauses, somebodyCharged, raised, pageStepped, pageWritten, interruptOn}
 use Rattle.page.specs.Host as host
@@ -28,5 +28,5 @@ use Rattle.page.specs.Calls.{withPage, pageOpenCall, pageStepCall}
 use Rattle.page.specs.Cases.{CasesRight}
 
 pub cases-right : CasesRight
-unfolding wordAt putWord bytesOf bit pack count any all lowest array clearFrom check checkEach setupOf setupBytes blankSetup moduleFits markFits whole headOk limitOk moduleOk markOk checkHead checkWords checkSetup setupTidy checkFields skewed busWord receptionOf isHeard rowIn causeIn entryOf readingOf causesOf alignedOf decision tally voteOf healthOf differsAt accusationOf accusationsOf syndromeOf votersOf judgementOf outgoingOf charged rewarded accounted accountAt accountedAt countersOf rowFits penaltyFits rewardFits ownNumberOk ownOk rowOk syndromeOk penaltyOk rewardOk checkTail checkImage stateTidy checkState stateVerdict fresh blank checkOpening openOf placeOf markOf ownSyndrome alignedFor judgementFor outgoingFor afterRound refusedStep acceptedStep testedStep readStep stepOf imageOf stateOf roomFor refusedCall wrote openCall stepCall joined cleared shared openedWord pageOpened causeWord putCauses somebodyCharged raised pageStepped pageWritten interruptOn host.readCall host.wrote host.writeCall host.interruptCall withPage pageOpenCall pageStepCall
+unfolding wordAt putWord bytesOf bit pack count any all lowest array clearFrom check checkEach setupOf setupBytes blankSetup moduleFits markFits whole headOk limitOk moduleOk markOk checkHead checkWords checkSetup setupTidy checkFields skewed busWord receptionOf isHeard rowIn causeIn entryOf readingOf causesOf alignedOf decision tally voteOf healthOf differsAt accusationOf accusationsOf syndromeOf votersOf judgementOf outgoingOf charged rewarded accounted accountAt accountedAt countersOf rowFits penaltyFits rewardFits ownNumberOk ownOk rowOk syndromeOk penaltyOk rewardOk checkTail checkImage stateTidy checkState stateVerdict fresh blank checkOpening openOf placeOf markOf ownSyndrome alignedFor judgementFor outgoingFor afterRound refusedStep acceptedStep testedStep readStep stepOf imageOf stateOf roomFor refusedCall wrote openCall stepCall causeCall joined cleared shared openedWord pageOpened causeWord putCauses somebodyCharged raised pageStepped pageWritten interruptOn host.readCall host.wrote host.writeCall host.interruptCall withPage pageOpenCall pageStepCall
 cases-right = refl

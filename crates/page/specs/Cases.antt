@@ -1,4 +1,4 @@
--- The register page, sentence by sentence (document 02, E1), on a module with document 01's sheet as its setup: what the calls give, and what
+-- The register page, sentence by sentence (document 02, E1 and E5), on a module with document 01's sheet as its setup: what the calls give, and what
 -- document 02 says. Computed in proofs/Cases.antt.
 use Prim.Native.Nat.{ℕ}
 use mathlib.Core.Path.{_≡_}
@@ -8,8 +8,11 @@ use lib.Dec.{eqb}
 use lib.ListN.{getD, replicate}
 use Rattle.words.specs.Word.{bytesOf}
 use Rattle.rules.specs.Hearing.{busWord}
+use Rattle.presence.specs.Calls.{causeCall}
 use Rattle.presence.specs.declared.Answer.{Answer}
+use Rattle.presence.specs.declared.CauseAnswer.{CauseAnswer}
 use Rattle.presence.specs.declared.WordAnswer.{WordAnswer}
+use Rattle.page.specs.Page.{putCauses}
 use Rattle.page.specs.Host.{Written, readCall, writeCall, interruptCall}
 use Rattle.page.specs.Calls.{PageCalled, pageOpenCall, pageStepCall}
 
@@ -40,9 +43,17 @@ right (c ∷ cs) = same (c .gives) (c .says) && right cs
 abbrev pub page : ℕ → ℕ → ℕ → ℕ → List ℕ
 page health view flags enable = bytesOf 16 (λ i. getD (health ∷ view ∷ flags ∷ enable ∷ []) i 0)
 
+-- the same with words 4 to 7
+abbrev pub pageWith : ℕ → ℕ → ℕ → ℕ → ℕ → ℕ → ℕ → ℕ → List ℕ
+pageWith health view flags enable a b c d = bytesOf 16 (λ i. getD (health ∷ view ∷ flags ∷ enable ∷ a ∷ b ∷ c ∷ d ∷ []) i 0)
+
 -- number, index and health of an answer
 abbrev pub answered : Answer → List ℕ
 answered a = a .number ∷ a .index ∷ a .health ∷ []
+
+-- number, index, cause and row of an answer
+abbrev pub read : CauseAnswer → List ℕ
+read a = a .number ∷ a .index ∷ a .cause ∷ a .row ∷ []
 
 -- number, index and word of an answer
 abbrev pub told : WordAnswer → List ℕ
@@ -155,9 +166,80 @@ checkCases =
     ++ (refuses (pageStepCall (opened .call .out) (rows 15) 16 out (page 15 15 3 0)) 10 (page 15 15 3 0)
     ++ refuses (pageStepCall [] (rows 15) 15 out short) 1 short))))))))))))))
 
+-- ---- words 4 to 7 hold the causes of the last read, four modules a word, one byte each, module 1 topmost: 0 heard, 1 controller loss, 2 wrong
+-- kind, 3 stray bits, the first that applies
+
+-- a read of these words
+abbrev pub words : ℕ → List ℕ → List ℕ
+words n ws = bytesOf n (λ j. getD ws j 0)
+
+-- module 1 heard; 2 lost, of another kind and with stray bits; 3 of another kind and with stray bits; 4 with stray bits
+abbrev pub mixed : PageCalled
+mixed = pageStepCall (opened .call .out) (words 4 (0x5000_000F ∷ 0x4000_001F ∷ 0x4000_001F ∷ 0x5000_001F ∷ [])) 13 out (opened .page)
+
+-- the same modules missing, all by controller loss
+abbrev pub lost : PageCalled
+lost = pageStepCall (opened .call .out) (rows 15) 1 out (opened .page)
+
+-- N = 5: a setup with l = 5 for all, and an output of 26 words
+abbrev pub fiveSetup : List ℕ
+fiveSetup =
+    words 8 (0x1000_0005 ∷ 0x2000_0001 ∷ 0x3000_0003 ∷ 0x408A_0001 ∷ 0x410A_0001 ∷ 0x418A_0001 ∷ 0x420A_0001 ∷ 0x428A_0001 ∷ [])
+
+abbrev pub fiveOut : List ℕ
+fiveOut = replicate 104 0
+
+abbrev pub fiveOpened : PageCalled
+fiveOpened = pageOpenCall fiveSetup 2 fiveOut lent
+
+-- u = 1: module 1 reads at l = 4, the others at 0; all that module 1 votes on is of the read before
+abbrev pub lateSetup : List ℕ
+lateSetup = words 7 (0x1000_0004 ∷ 0x2000_0001 ∷ 0x3000_0003 ∷ 0x4088_0001 ∷ 0x4100_0001 ∷ 0x4180_0001 ∷ 0x4200_0001 ∷ [])
+
+abbrev pub lateOpened : PageCalled
+lateOpened = pageOpenCall lateSetup 1 out lent
+
+-- module 2 is lost in the read of the first step
+abbrev pub lateLoss : PageCalled
+lateLoss = pageStepCall (lateOpened .call .out) (rows 15) 13 out (lateOpened .page)
+
+abbrev pub causeCases : List Case
+causeCases =
+    case (answered (mixed .call .answer)) (0 ∷ 0 ∷ 15 ∷ []) ∷ case (mixed .page) (pageWith 15 15 0 0 0x0001_0203 0 0 0)
+    -- the image keeps no causes
+    ∷ case (lost .page) (pageWith 15 15 0 0 0x0001_0101 0 0 0) ∷ case (lost .call .out) (mixed .call .out)
+    -- the next step writes all four words; words 8 to 15 stay
+    ∷ case (step mixed 15 (pageWith 15 15 0 7 0xFFFF_FFFF 0xFFFF_FFFF 0xFFFF_FFFF 0xFFFF_FFFF) .page) (page 15 15 0 7)
+    ∷ case (pageStepCall (opened .call .out) (rows 15) 14 out lent .page)
+    (words 4 (15 ∷ 15 ∷ 0xA5A5_A5A5 ∷ 0xA5A5_A5A5 ∷ []) ++ (words 4 (0x0100_0000 ∷ []) ++ replicate 32 0xA5))
+    -- an opening writes none, whatever was lent; a refused step leaves them
+    ∷ case (opened .page) (page 15 15 0 0)
+    ∷ case (pageStepCall (opened .call .out) (rows 15) 16 out (mixed .page) .page) (mixed .page)
+    -- module 5 is the first of word 5; there is none above it
+    ∷ case
+    (pageStepCall (fiveOpened .call .out) (words 5 (0x4000_0000 ∷ 0x5000_0020 ∷ 0x5000_001F ∷ 0x5000_001F ∷ 0x5000_0020 ∷ [])) 27 fiveOut (fiveOpened .page) .page)
+    (pageWith 31 31 0 0 0x0203_0100 0x0300_0000 0 0)
+    -- the last read as it came, and not the aligned one, nor the read before
+    ∷ case (lateLoss .page) (pageWith 15 15 0 0 0x0001_0000 0 0 0) ∷ case (step lateLoss 15 (lateLoss .page) .page) (page 15 15 0 0)
+    -- sixteen modules, four words
+    ∷ case (putCauses (1 ∷ 2 ∷ 3 ∷ 0 ∷ 0 ∷ 1 ∷ 2 ∷ 3 ∷ 3 ∷ 0 ∷ 1 ∷ 2 ∷ 2 ∷ 3 ∷ 0 ∷ 1 ∷ []) (page 15 15 1 2))
+    (pageWith 15 15 1 2 0x0102_0300 0x0001_0203 0x0300_0102 0x0203_0001)
+    -- the host reads them, and may not write them
+    ∷ case (told (readCall (mixed .page) 16)) (0 ∷ 0 ∷ 0x0001_0203 ∷ []) ∷ writes (writeCall (mixed .page) 28 1) 18 0 (mixed .page)
+
+-- ---- one word: cause and row; 2 for N outside 2..16, then 10 for a controller bit other than 0 and 1, both with index 0, cause 0 and row 0
+abbrev pub oneWordCases : List Case
+oneWordCases =
+    case (read (causeCall 4 1 0x5000_000A)) (0 ∷ 0 ∷ 0 ∷ 10 ∷ []) ∷ case (read (causeCall 4 0 0x5000_000A)) (0 ∷ 0 ∷ 1 ∷ 0 ∷ [])
+    ∷ case (read (causeCall 4 1 0x4000_001A)) (0 ∷ 0 ∷ 2 ∷ 0 ∷ []) ∷ case (read (causeCall 4 1 0x5000_001A)) (0 ∷ 0 ∷ 3 ∷ 0 ∷ [])
+    ∷ case (read (causeCall 4 0 0x4000_001A)) (0 ∷ 0 ∷ 1 ∷ 0 ∷ []) ∷ case (read (causeCall 16 1 0x5000_FFFF)) (0 ∷ 0 ∷ 0 ∷ 0xFFFF ∷ [])
+    ∷ case (read (causeCall 2 1 0x5000_0003)) (0 ∷ 0 ∷ 0 ∷ 3 ∷ []) ∷ case (read (causeCall 1 1 0x5000_0001)) (2 ∷ 0 ∷ 0 ∷ 0 ∷ [])
+    ∷ case (read (causeCall 17 2 0x5000_0001)) (2 ∷ 0 ∷ 0 ∷ 0 ∷ []) ∷ case (read (causeCall 0 1 0x5000_0001)) (2 ∷ 0 ∷ 0 ∷ 0 ∷ [])
+    ∷ case (read (causeCall 4 2 0x5000_0001)) (10 ∷ 0 ∷ 0 ∷ 0 ∷ []) ∷ case (read (causeCall 4 0xFFFF_FFFF 0)) (10 ∷ 0 ∷ 0 ∷ 0 ∷ []) ∷ []
+
 -- the whole table
 abbrev pub cases : List Case
-cases = openCases ++ (stepCases ++ (writeCases ++ (interruptCases ++ checkCases)))
+cases = openCases ++ (stepCases ++ (writeCases ++ (interruptCases ++ (checkCases ++ (causeCases ++ oneWordCases)))))
 
 -- what is claimed: every line is right
 abbrev pub CasesRight : Type 0

@@ -9,7 +9,7 @@ use Rattle.setup.specs.Verdict.{check, checkEach}
 use Rattle.setup.specs.Setup.{setupOf, blankSetup}
 use Rattle.setup.specs.Check.{moduleFits, markFits, whole, headOk, limitOk, moduleOk, markOk, checkHead, checkWords, checkSetup, setupTidy, checkFields}
 use Rattle.rules.specs.Lag.{skewed}
-use Rattle.rules.specs.Hearing.{busWord, wordHeard, entryOf, readingOf}
+use Rattle.rules.specs.Hearing.{busWord, receptionOf, isHeard, rowIn, causeIn, entryOf, readingOf, causesOf}
 use Rattle.rules.specs.Alignment.{alignedOf}
 use Rattle.rules.specs.Vote.{decision, tally, voteOf, healthOf}
 use Rattle.rules.specs.Accusation.{differsAt, accusationOf, accusationsOf}
@@ -28,5 +28,5 @@ use Rattle.scanlock.specs.Agreement.{history}
 use Rattle.scanlock.specs.Incident.{incident}
 
 pub incident-right : right incident ≡ true
-unfolding wordAt bytesOf bit pack count any all lowest array clearFrom check checkEach setupOf blankSetup moduleFits markFits whole headOk limitOk moduleOk markOk checkHead checkWords checkSetup setupTidy checkFields skewed busWord wordHeard entryOf readingOf alignedOf decision tally voteOf healthOf differsAt accusationOf accusationsOf syndromeOf votersOf judgementOf outgoingOf charged rewarded accounted accountAt accountedAt countersOf rowFits penaltyFits rewardFits stateTidy checkState stateVerdict fresh blank checkOpening openOf placeOf markOf ownSyndrome alignedFor judgementFor outgoingFor afterRound refusedStep acceptedStep testedStep readStep stepOf differ half heard halfIn breakerIn unheardIn within limit bitIn wordIn readRound state health handed sent keptBy printed bound keptTo present onAxis started aborted stopped motion isUnfinished isHalting left viewIn named taken number accepted live history
+unfolding wordAt bytesOf bit pack count any all lowest array clearFrom check checkEach setupOf blankSetup moduleFits markFits whole headOk limitOk moduleOk markOk checkHead checkWords checkSetup setupTidy checkFields skewed busWord receptionOf isHeard rowIn causeIn entryOf readingOf causesOf alignedOf decision tally voteOf healthOf differsAt accusationOf accusationsOf syndromeOf votersOf judgementOf outgoingOf charged rewarded accounted accountAt accountedAt countersOf rowFits penaltyFits rewardFits stateTidy checkState stateVerdict fresh blank checkOpening openOf placeOf markOf ownSyndrome alignedFor judgementFor outgoingFor afterRound refusedStep acceptedStep testedStep readStep stepOf differ half heard halfIn breakerIn unheardIn within limit bitIn wordIn readRound state health handed sent keptBy printed bound keptTo present onAxis started aborted stopped motion isUnfinished isHalting left viewIn named taken number accepted live history
 incident-right = refl

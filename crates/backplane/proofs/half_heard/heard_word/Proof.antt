@@ -1,12 +1,15 @@
--- A word is heard by its controller bit and its form.
+-- A word is heard where reading it says so.
 use borrow.Author.Needs.{needs}
 use Rattle.rules.specs.Hearing.{entryOf}
 use Rattle.backplane.specs.Heard.{heardWord}
 use Rattle.backplane.proofs.half_heard.heard_word.Statement.{statement}
 use Rattle.backplane.proofs.half_heard.heard_word.Tie as tie
 
-word-heard-requires : tie.Need-word-heard-requires
-word-heard-requires c κs = search needs
+receive-requires : tie.Need-receive-requires
+receive-requires c κs = search needs
+
+is-heard-requires : tie.Need-is-heard-requires
+is-heard-requires c κs = search needs
 
 pick-requires : tie.Need-pick-requires
 pick-requires c κs = search needs
@@ -16,4 +19,4 @@ unfolding heardWord entryOf
 returns c = cc
 
 pub heard-word-spec : {M : Type 1} → statement M
-heard-word-spec = tie.close (tie.spec word-heard-requires pick-requires returns)
+heard-word-spec = tie.close (tie.spec receive-requires is-heard-requires pick-requires returns)
