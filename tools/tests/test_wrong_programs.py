@@ -56,7 +56,7 @@ def reachable(crate):
     files = sources(crate)
     open_files = re.findall(r"^pub mod (\w+)", files["lib"], re.M)
     passed_on = re.findall(r"^pub use (\w+)::(\w+);", files["lib"], re.M)
-    open_structs = re.findall(r"^pub struct (\w+)", "\n".join(files.values()), re.M)
+    open_structs = re.findall(r"^pub (?:struct|enum) (\w+)", "\n".join(files.values()), re.M)
     for module, source in files.items():
         for f in functions(source):
             open_here = f.struct in open_structs if f.struct else module in open_files or (module, f.name) in passed_on
@@ -111,7 +111,7 @@ def name_of(crate, module, struct, name):
     """How the prover names a function: a struct belongs to the file that declares it, which for most is the crate's first."""
     if not struct:
         return name if module == "main" else f"{module}::{name}"
-    declared = re.search(rf"^(pub )?struct {struct}\b", text(CRATES, crate, "src", module + ".rt"), re.M)
+    declared = re.search(rf"^(pub )?(struct|enum) {struct}\b", text(CRATES, crate, "src", module + ".rt"), re.M)
     inside = declared and module not in ("lib", "main")
     return f"{module}::{struct}::{name}" if inside else f"{struct}::{name}"
 
@@ -156,7 +156,7 @@ class WrongPrograms(unittest.TestCase):
 
     def test_what_c_calls_requires_nothing(self):
         exported = [(crate, name, f.requires) for crate in LISTED for name, f in reachable(crate) if f.exported]
-        self.assertEqual(len(exported), 19)
+        self.assertEqual(len(exported), 20)
         self.assertEqual([name for _, name, requires in exported if requires], [])
 
     def test_both_pages_mean_the_same_outsiders(self):
