@@ -8,8 +8,7 @@
 .PHONY: run test harness tools-test soak measure time library bench rust clean
 
 LIB := target/staticlib
-ABOVE := page scanlock
-EXPORTS := presence $(ABOVE)
+EXPORTS := presence page scanlock
 BENCH := target/bin/bench
 RUST := target/harness/release
 SEED ?= 1
@@ -23,14 +22,11 @@ test:
 	.ci/run
 
 # the proved library for C, $(LIB)/libgirmaut.a: the objects of every crate that exports calls; the linker takes those that are called.
-# What all of them build on is proved with the first, so the others can be made at the same time.
-library: library-presence
-	$(MAKE) --no-print-directory -j2 $(ABOVE:%=library-%)
+# One after the other: two runs of rt in one folder take each other's notes of what is proved.
+library:
+	for crate in $(EXPORTS); do rt staticlib $$crate || exit 1; done
 	rm -f $(LIB)/libgirmaut.a
 	(echo create $(LIB)/libgirmaut.a; for crate in $(EXPORTS); do echo addlib $(LIB)/lib$$crate.a; done; echo save; echo end) | ar -M
-
-library-%:
-	rt staticlib $*
 
 # the proved bench, $(BENCH); rt skips what is unchanged
 bench:
