@@ -181,21 +181,24 @@ mixed = pageStepCall (opened .call .out) (words 4 (0x5000_000F ∷ 0x4000_001F �
 abbrev pub lost : PageCalled
 lost = pageStepCall (opened .call .out) (rows 15) 1 out (opened .page)
 
--- N = 5: a setup with l = 5 for all, and an output of 26 words
+-- a setup of N = 5, all l = 5
 abbrev pub fiveSetup : List ℕ
 fiveSetup =
     words 8 (0x1000_0005 ∷ 0x2000_0001 ∷ 0x3000_0003 ∷ 0x408A_0001 ∷ 0x410A_0001 ∷ 0x418A_0001 ∷ 0x420A_0001 ∷ 0x428A_0001 ∷ [])
 
+-- an output for its image
 abbrev pub fiveOut : List ℕ
 fiveOut = replicate 104 0
 
+-- opened as module 2
 abbrev pub fiveOpened : PageCalled
 fiveOpened = pageOpenCall fiveSetup 2 fiveOut lent
 
--- u = 1: module 1 reads at l = 4, the others at 0; all that module 1 votes on is of the read before
+-- a setup with u = 1: module 1 has l = 4, the others l = 0, so that all that module 1 votes on is of the read before
 abbrev pub lateSetup : List ℕ
 lateSetup = words 7 (0x1000_0004 ∷ 0x2000_0001 ∷ 0x3000_0003 ∷ 0x4088_0001 ∷ 0x4100_0001 ∷ 0x4180_0001 ∷ 0x4200_0001 ∷ [])
 
+-- opened as module 1
 abbrev pub lateOpened : PageCalled
 lateOpened = pageOpenCall lateSetup 1 out lent
 
@@ -203,6 +206,7 @@ lateOpened = pageOpenCall lateSetup 1 out lent
 abbrev pub lateLoss : PageCalled
 lateLoss = pageStepCall (lateOpened .call .out) (rows 15) 13 out (lateOpened .page)
 
+-- the lines
 abbrev pub causeCases : List Case
 causeCases =
     case (answered (mixed .call .answer)) (0 ∷ 0 ∷ 15 ∷ []) ∷ case (mixed .page) (pageWith 15 15 0 0 0x0001_0203 0 0 0)

@@ -17,7 +17,7 @@ use Rattle.setup.specs.declared.Verdict.{Verdict}
 use Rattle.setup.specs.declared.Setup.{Setup}
 use Rattle.setup.proofs.NextLaws.{then-next, then-stays, fields-then, check-refused}
 use Rattle.setup.proofs.VerdictLaws.{check-ok, between-of}
-use Rattle.rules.specs.Hearing.{receptionOf, isHeard, wordHeard, readingOf, causesOf}
+use Rattle.rules.specs.Hearing.{wordHeard, readingOf, causesOf}
 use Rattle.rules.specs.Alignment.{alignedOf}
 use Rattle.rules.specs.Syndrome.{judgementOf}
 use Rattle.rules.specs.Account.{accountAt, countersOf}

@@ -80,7 +80,7 @@ outgoingCall image =
     let v = checkImage image in
     record { number = v .number; index = v .index; word = cond (isAccepted v) (handedOut (stateOf image)) 0 }
 
--- a word of a read is refused: cause and row 0
+-- a refusal to read one word: index, cause and row are 0
 abbrev pub refusedCause : ℕ → CauseAnswer
 refusedCause number = record { number = number; index = 0; cause = 0; row = 0 }
 

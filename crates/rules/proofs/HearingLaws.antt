@@ -1,6 +1,5 @@
 -- Rule 2: what a heard word is, and what a read holds for each module.
-use mathlib.Core.Path.{_≡_, refl, sym, ap, ap₂, _∙_}
-use mathlib.Core.Logic.{_⊎_, inl, inr, ⊎-elim}
+use mathlib.Core.Path.{_≡_, refl, sym, ap, _∙_}
 use mathlib.Core.Bool.{Bool, true, false, cond, _&&_, true≢false}
 use mathlib.Core.List.{List}
 use Prim.Native.Nat.{ℕ, _+_, _*_, _/_, _%_, _^_, _≤_, _<_}
@@ -15,7 +14,7 @@ use Rattle.words.specs.Array.{array}
 use Rattle.words.proofs.Truth.{cond-true, cond-false}
 use Rattle.words.proofs.BitLaws.{bit-pack, bit-mod}
 use Rattle.words.proofs.ArrayLaws.{array-at}
-use Rattle.rules.specs.Hearing.{busWord, receptionOf, isHeard, rowIn, causeIn, wordHeard, entryOf, readingOf, causesOf}
+use Rattle.rules.specs.Hearing.{busWord, receptionOf, isHeard, rowIn, wordHeard, entryOf, readingOf}
 use Rattle.rules.specs.declared.Reception.{Reception}
 use Rattle.rules.specs.declared.Reception.the-variants.{Heard, ControllerLoss, WrongKind, StrayBits}
 

@@ -1,6 +1,4 @@
 -- The two fields are those of `entryOf`.
-use mathlib.Core.Path.{ap, _∙_}
-use Rattle.rules.specs.Hearing.{isHeard, rowIn}
 use Rattle.rules.proofs.HearingLaws.{entry-by}
 use borrow.Author.Needs.{needs}
 use Rattle.rules.proofs.hearing.entry.Statement.{statement}
