@@ -29,8 +29,8 @@
  * A module's state is its image, a block of bytes that the caller keeps.
  * Nothing is kept between calls: the result of a call and the bytes it writes
  * follow from its arguments alone.  The functions use no heap, no static
- * variables and no C library calls.  presence_step takes 1,904 bytes of stack
- * (measured, for every N), presence_page_step 2,528; no other call takes more
+ * variables and no C library calls.  presence_step takes 1,888 bytes of stack
+ * (measured, for every N), presence_page_step 2,592; no other call takes more
  * than 1,120.
  *
  * Instructions of an accepted presence_step and presence_page_step (page),
