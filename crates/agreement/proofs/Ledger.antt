@@ -1,10 +1,13 @@
 -- While the limit is kept the health vectors are one at all rule-followers; so is any account that is kept of them alone.
 use Prim.Native.Nat.{ℕ, _+_, _-_, _≤_, _<_}
-use mathlib.Core.Path.{_≡_}
+use mathlib.Core.Path.{_≡_, subst}
+use mathlib.Core.Bool.{true}
 use mathlib.Core.Logic.{inl, inr, ⊎-elim}
 use native.Mathlib.Omega.{arith}
 use native.Mathlib.Nat.{eq-zero-or-pos}
-use Rattle.agreement.specs.Session.{Session, Accepted, u, Bound, keptBy}
+use Rattle.words.specs.Bits.{bit}
+use Rattle.agreement.specs.Fault.{limit}
+use Rattle.agreement.specs.Session.{Session, Accepted, size, u, follows, round, Bound, viewOf, keptBy, firstFollower}
 use Rattle.agreement.specs.Demand.{KeptTo}
 use Rattle.agreement.specs.Ledger.{AnyAccount}
 use Rattle.agreement.proofs.Protocol.{Agree, Kept}
@@ -21,7 +24,9 @@ module _ (S : Session) (ok : Accepted S) (last : ℕ) (bound : Bound S last) whe
       (λ (pos : 0 < m - u S).
       let e : m - u S + u S - 1 ≡ m - 1 = omega arith in
       let le : m - u S ≤ k - u S = omega arith in
-      inr (rw e at (lim (m - u S) pos le)))
+      inr
+      (subst (λ (r : ℕ). limit (size S) (follows S) (bit (viewOf S (firstFollower S) r)) (round S (m - u S)) (round S (m - u S - u S - 1)) ≡ true) e
+      (lim (m - u S) pos le)))
       (eq-zero-or-pos (m - u S))
 
   pub all-agree : (k : ℕ) → k ≤ last → KeptTo S k → (m : ℕ) → m ≤ k → Agree (protocol S) m
