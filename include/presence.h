@@ -35,8 +35,8 @@
  *
  * Instructions of an accepted presence_step and presence_page_step (page),
  * the most that were counted in quiet and loud rounds, with every l at N and
- * with others.  They do not grow steadily with N: modules are taken four at a
- * time, and those left over one by one.
+ * with others.  They do not grow steadily with N: 3 modules take more than 4,
+ * 5 to 7 more than 8, 11 more than 12, 13 to 15 more than 16.
  *
  *    N   step   page        N   step   page        N   step   page
  *    2  1,411  1,619        7  2,479  2,746       12  2,479  2,746
