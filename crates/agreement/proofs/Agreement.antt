@@ -11,8 +11,8 @@ use Rattle.words.specs.Bits.{bit}
 use Rattle.words.specs.Count.{count}
 use Rattle.words.proofs.Truth.{clash, which, and-l, and-r, and-true, or-l, or-r, or-cases, or-false-l, beq-refl}
 use Rattle.words.proofs.CountLaws.{any-ext, any-empty, count-mono, count-or, count-none, count-zero, count-one}
-use Rattle.rules.specs.Vote.{tally}
-use Rattle.rules.proofs.VoteLaws.{same, tally-value, tally-ext}
+use Rattle.vote.specs.Vote.{tally}
+use Rattle.vote.proofs.VoteLaws.{same, tally-value, tally-ext}
 use Rattle.agreement.specs.Fault.{half, heard, halfIn, breakerIn}
 use Rattle.agreement.proofs.FaultLaws.{Follower, limit-cases, reliable, alike, unheard-by, Reliable, reliable-is, fault-of}
 use Rattle.agreement.proofs.Protocol.{Protocol, Agree, now, past, present, says, rowDiffers, Kept, Rules}

@@ -26,7 +26,7 @@ use Rattle.presence.specs.Opening.{fresh}
 use Rattle.presence.specs.Step.{skewOf, placeOf, markOf, ownSyndrome, alignedFor, judgementFor, outgoingFor, afterRound}
 use Rattle.rules.specs.declared.Entry.{Entry}
 use Rattle.presence.specs.declared.State.{State}
-use Rattle.rules.proofs.HearingLaws.{below-kind, row-of-bus, bus-heard, entry-row, reading-heard, reading-row}
+use Rattle.rules.proofs.ReceptionLaws.{below-kind, row-of-bus, bus-heard, entry-row, reading-heard, reading-row}
 use Rattle.rules.proofs.AlignmentLaws.{aligned-heard, aligned-row}
 use Rattle.agreement.specs.Session.{Session, Accepted, size, u, bitIn, wordIn, readRound, readBits, readBytes, state, handed, sent}
 use Rattle.agreement.proofs.Steps.{reading, small, held, state-zero, state-suc, handed-suc}

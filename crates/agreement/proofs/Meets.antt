@@ -13,15 +13,15 @@ use Rattle.words.proofs.Truth.{and-r}
 use Rattle.words.proofs.BitLaws.{bit-full, bit-mod}
 use Rattle.words.proofs.CountLaws.{any-ext}
 use Rattle.rules.specs.Hearing.{busWord}
-use Rattle.rules.specs.Vote.{tally, voteOf}
+use Rattle.vote.specs.Vote.{tally, voteOf}
 use Rattle.rules.specs.Accusation.{differsAt}
 use Rattle.rules.specs.Syndrome.{votersOf}
 use Rattle.presence.specs.Opening.{fresh}
 use Rattle.presence.specs.Step.{alignedFor, ownSyndrome, judgementFor, afterRound}
 use Rattle.presence.specs.declared.State.{State}
-use Rattle.rules.proofs.HearingLaws.{below-kind, row-of-bus, entry-bit, entry-row}
+use Rattle.rules.proofs.ReceptionLaws.{below-kind, row-of-bus, entry-bit, entry-row}
 use Rattle.rules.proofs.SyndromeLaws.{voter-bit, health-bit, syndrome-bit}
-use Rattle.rules.proofs.VoteLaws.{tally-ext}
+use Rattle.vote.proofs.VoteLaws.{tally-ext}
 use Rattle.agreement.specs.Fault.{half}
 use Rattle.agreement.specs.Session.{Session, Accepted, size, u, RuleFollower, follows, bitIn, wordIn, round, state, health, sent, Bound, viewOf}
 use Rattle.agreement.proofs.FaultLaws.{half-none}

@@ -7,7 +7,7 @@ use mathlib.Core.Logic.{_⊎_}
 use lib.Dec.{eqb}
 use Rattle.words.specs.Bits.{bit}
 use Rattle.words.specs.Count.{any}
-use Rattle.rules.specs.Vote.{tally}
+use Rattle.vote.specs.Vote.{tally}
 use Rattle.agreement.specs.Fault.{Round, half, limit}
 use Rattle.agreement.proofs.FaultLaws.{Follower}
 

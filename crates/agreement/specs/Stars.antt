@@ -15,7 +15,7 @@ use Rattle.setup.specs.Setup.{setupOf}
 use Rattle.setup.specs.Check.{checkSetup}
 use Rattle.setup.specs.declared.Setup.{Setup}
 use Rattle.rules.specs.Hearing.{busWord, wordHeard}
-use Rattle.rules.specs.Vote.{voteOf}
+use Rattle.vote.specs.Vote.{voteOf}
 use Rattle.rules.specs.Syndrome.{judgementOf}
 use Rattle.rules.specs.Account.{countersOf}
 use Rattle.presence.specs.Opening.{fresh}

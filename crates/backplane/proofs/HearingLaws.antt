@@ -16,7 +16,7 @@ use Rattle.words.proofs.CountLaws.{any-intro, any-witness, any-ext}
 use Rattle.words.proofs.LowestLaws.{lowest-zero, lowest-le, lowest-passes}
 use Rattle.words.proofs.TableLaws.{table-at}
 use Rattle.rules.specs.Hearing.{busWord, entryOf}
-use Rattle.rules.proofs.HearingLaws.{heard-is, entry-heard}
+use Rattle.rules.proofs.ReceptionLaws.{heard-is, entry-heard}
 use Rattle.agreement.specs.Fault.{differ, half, heard}
 use Rattle.backplane.specs.Bus.{bitTo, wordTo, roundOf}
 use Rattle.backplane.specs.Limit.{followsIn, firstFollower}

@@ -19,7 +19,7 @@ use Rattle.words.proofs.CountLaws.{any-ext, count-ext}
 use Rattle.words.proofs.TableLaws.{table-at, updated-at}
 use Rattle.setup.specs.declared.Setup.{Setup}
 use Rattle.rules.specs.Hearing.{busWord, entryOf}
-use Rattle.rules.proofs.HearingLaws.{below-kind}
+use Rattle.rules.proofs.ReceptionLaws.{below-kind}
 use Rattle.presence.specs.Opening.{blank}
 use Rattle.presence.specs.Step.{stepOf}
 use Rattle.presence.specs.declared.State.{State}

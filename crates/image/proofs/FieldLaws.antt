@@ -13,7 +13,7 @@ use Rattle.words.specs.Word.{wordAt}
 use Rattle.words.specs.Bits.{bit}
 use Rattle.words.proofs.Truth.{and-l, and-r, and-true, or-l, or-r, or-cases, beq-eq, beq-refl, clash, not-both}
 use Rattle.rules.specs.Hearing.{entryOf, readingOf}
-use Rattle.rules.proofs.HearingLaws.{entry-small, reading-heard, reading-row}
+use Rattle.rules.proofs.ReceptionLaws.{entry-small, reading-heard, reading-row}
 use Rattle.rules.proofs.AccountLaws.{AccountFits}
 use Rattle.image.specs.Fits.{rowFits, penaltyFits, rewardFits}
 

@@ -14,7 +14,7 @@ use Rattle.words.specs.Count.{any}
 use Rattle.words.proofs.Truth.{clash, which, and-l, or-false-l, or-false-r, iff-eq}
 use Rattle.words.proofs.BitLaws.{bit-pack, bit-high, pack-ext, pack-own}
 use Rattle.words.proofs.CountLaws.{any-intro, any-witness}
-use Rattle.rules.proofs.MaskLaws.{bit-and}
+use Rattle.words.proofs.MaskLaws.{bit-and}
 use Rattle.page.specs.Flags.{joined, cleared, shared}
 use Rattle.page.specs.Page.{somebodyCharged}
 

@@ -26,7 +26,7 @@ use Rattle.rules.specs.declared.Reading.{Reading}
 use Rattle.presence.specs.declared.State.{State}
 use Rattle.presence.specs.declared.Opened.{Opened}
 use Rattle.presence.specs.declared.Stepped.{Stepped}
-use Rattle.rules.proofs.HearingLaws.{bus-heard}
+use Rattle.rules.proofs.ReceptionLaws.{bus-heard}
 use Rattle.rules.proofs.SyndromeLaws.{syndrome-lt}
 use Rattle.presence.proofs.ValidLaws.{StateFits, valid-fits, fits-verdict, fits-valid, fresh-fits, after-fits}
 

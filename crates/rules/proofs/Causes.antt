@@ -22,7 +22,7 @@ use Rattle.rules.specs.Hearing.{receptionOf, isHeard, rowIn, causeIn, en
 use Rattle.rules.specs.Causes.{causeOf, Causes, CasesRight}
 use Rattle.rules.specs.declared.Reception.{Reception}
 use Rattle.rules.specs.declared.Reception.the-variants.{Heard, ControllerLoss, WrongKind, StrayBits}
-use Rattle.rules.proofs.HearingLaws.{word-cases, reading-heard}
+use Rattle.rules.proofs.ReceptionLaws.{word-cases, reading-heard}
 
 -- ---- stray bits
 

@@ -12,9 +12,9 @@ use Rattle.words.specs.Count.{any}
 use Rattle.words.proofs.Truth.{beq-eq, beq-refl, iff-eq, not-both}
 use Rattle.words.proofs.CountLaws.{any-none, any-empty}
 use Rattle.words.proofs.BitLaws.{bit-mod, bit-ext}
-use Rattle.rules.specs.Mask.{without}
+use Rattle.words.specs.Mask.{without}
 use Rattle.rules.specs.Accusation.{differsAt}
-use Rattle.rules.proofs.MaskLaws.{without-bit}
+use Rattle.words.proofs.MaskLaws.{without-bit}
 
 -- leaving j out before the comparison is leaving it out after
 out-first : (t a b : Bool) → not t && not (Bool·beq a b) ≡ not (Bool·beq (not t && a) (not t && b))

@@ -1,12 +1,7 @@
-pub mod HearingLaws
+pub mod ReceptionLaws
 pub mod Causes
 pub mod AlignmentLaws
 pub mod SpliceLaws
-pub mod MaskLaws
-pub mod VoteLaws
-pub mod VoteTableLaws
-pub mod LaneLaws
-pub mod FourLaws
 pub mod AccusationLaws
 pub mod CompareLaws
 pub mod SyndromeLaws

@@ -11,12 +11,12 @@ use Rattle.words.specs.Count.{lowest}
 use Rattle.words.proofs.Truth.{which, and-false-l}
 use Rattle.words.proofs.BitLaws.{pack-ext}
 use Rattle.words.proofs.ArrayLaws.{array-at}
-use Rattle.rules.specs.Vote.{voteOf, healthOf}
+use Rattle.vote.specs.Vote.{voteOf, healthOf}
 use Rattle.rules.specs.Accusation.{differsAt, accusationOf, accusationsOf}
 use Rattle.rules.specs.Syndrome.{votersOf, judgementOf}
 use Rattle.rules.specs.StruckOff.{SameBut, StruckOff, AllInView}
 use Rattle.rules.specs.declared.Reading.{Reading}
-use Rattle.rules.proofs.VoteLaws.{tally-ext}
+use Rattle.vote.proofs.VoteLaws.{tally-ext}
 use Rattle.rules.proofs.AccusationLaws.{missing-unaccused}
 use Rattle.rules.proofs.SyndromeLaws.{voter-bit, health-bit, syndrome-bit}
 

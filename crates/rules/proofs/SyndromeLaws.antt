@@ -9,7 +9,7 @@ use Rattle.words.specs.Bits.{bit, pack}
 use Rattle.words.specs.Count.{any}
 use Rattle.words.proofs.BitLaws.{bit-pack, pack-ext, pack-lt}
 use Rattle.words.proofs.ArrayLaws.{array-at}
-use Rattle.rules.specs.Vote.{voteOf, healthOf}
+use Rattle.vote.specs.Vote.{voteOf, healthOf}
 use Rattle.rules.specs.Accusation.{differsAt, accusationsOf}
 use Rattle.rules.specs.Syndrome.{syndromeOf, votersOf, judgementOf}
 use Rattle.rules.specs.declared.Reading.{Reading}

@@ -2,10 +2,6 @@ pub mod Lag
 pub mod Hearing
 pub mod Causes
 pub mod Alignment
-pub mod Mask
-pub mod Vote
-pub mod VoteTable
-pub mod Lanes
 pub mod Accusation
 pub mod Syndrome
 pub mod StruckOff

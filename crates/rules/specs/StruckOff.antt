@@ -6,7 +6,7 @@ use mathlib.Core.Logic.{_≢_}
 use mathlib.Core.Bool.{true, false}
 use lib.ListN.{getD}
 use Rattle.words.specs.Bits.{bit}
-use Rattle.rules.specs.Vote.{voteOf}
+use Rattle.vote.specs.Vote.{voteOf}
 use Rattle.rules.specs.Accusation.{accusationOf}
 use Rattle.rules.specs.Syndrome.{judgementOf}
 use Rattle.rules.specs.declared.Reading.{Reading}

@@ -6,7 +6,7 @@ use lib.ListN.{getD}
 use lib.Dec.{eqb}
 use Rattle.words.specs.Bits.{bit, pack}
 use Rattle.rules.specs.Hearing.{busWord}
-use Rattle.rules.specs.Vote.{healthOf}
+use Rattle.vote.specs.Vote.{healthOf}
 use Rattle.rules.specs.Accusation.{accusationsOf}
 use Rattle.rules.specs.declared.Reading.{Reading}
 use Rattle.rules.specs.declared.Judgement.{Judgement}

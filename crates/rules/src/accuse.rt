@@ -1,7 +1,7 @@
 // Rule 5: who is accused, and by which number.
-use crate::mask::without;
 use words::bits::bit_at;
 use words::bits::power;
+use words::mask::without;
 ghost use mathlib.Core.Path.{_≡_};
 ghost use mathlib.Core.Bool.{not, _&&_};
 ghost use Prim.Native.Nat.{_≤_, _<_};

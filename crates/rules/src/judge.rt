@@ -4,7 +4,7 @@ use crate::Reading;
 use crate::accuse::accusations;
 use crate::accuse::clean;
 use crate::hearing::bus_word;
-use crate::vote::health;
+use vote::health::health;
 use words::bits::bit_at;
 use words::bits::pick;
 use words::bits::with_bit;

@@ -1,4 +1,4 @@
-// Rules 1 to 8 of a step, each by itself, on numbers, vectors and arrays: no state.
+// Rules 1 to 8 of a step, each by itself, on numbers, vectors and arrays: no state. Rule 4, the vote, is the crate `vote`.
 //
 // This file has what the rules hand to one another. Entries and bits of module j + 1 stand at j; those from n on are 0.
 pub mod accounts;
@@ -7,9 +7,6 @@ pub mod align;
 pub mod hearing;
 pub mod judge;
 pub mod lag;
-mod mask;
-mod vote;
-mod vote_table;
 
 // What reading a bus word answers: it is heard, with its row, or it is not, and why, the first cause that applies.
 pub enum Reception {

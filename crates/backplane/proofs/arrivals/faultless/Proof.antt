@@ -7,7 +7,7 @@ use Rattle.words.specs.Array.{array}
 use Rattle.words.specs.Table.{table}
 use Rattle.words.proofs.BitLaws.{full-lt}
 use Rattle.rules.specs.Hearing.{busWord}
-use Rattle.rules.proofs.HearingLaws.{below-kind}
+use Rattle.rules.proofs.ReceptionLaws.{below-kind}
 use Rattle.backplane.specs.Bus.{faultless}
 use Rattle.backplane.specs.declared.Bus.{Bus}
 use Rattle.backplane.proofs.arrivals.faultless.Statement.{statement}

@@ -5,7 +5,7 @@ use mathlib.Core.Bool.{Bool}
 use borrow.Author.Needs.{needs}
 use Rattle.rules.specs.Syndrome.{outgoingOf}
 use Rattle.rules.specs.declared.Judgement.{Judgement}
-use Rattle.rules.proofs.HearingLaws.{below-kind}
+use Rattle.rules.proofs.ReceptionLaws.{below-kind}
 use Rattle.rules.proofs.SyndromeLaws.{syndrome-lt}
 use Rattle.presence.specs.Step.{outgoingFor, judgementFor}
 use Rattle.presence.proofs.ValidLaws.{valid-fits}

@@ -1,5 +1,5 @@
 -- The two fields are those of `entryOf`.
-use Rattle.rules.proofs.HearingLaws.{entry-by}
+use Rattle.rules.proofs.ReceptionLaws.{entry-by}
 use borrow.Author.Needs.{needs}
 use Rattle.rules.proofs.hearing.entry.Statement.{statement}
 use Rattle.rules.proofs.hearing.entry.Tie as tie

@@ -9,7 +9,7 @@ use Rattle.words.proofs.BitLaws.{pack-step, packed-lt}
 use Rattle.words.proofs.ArrayLaws.{array-step}
 use Rattle.rules.specs.declared.Entry.{Entry}
 use Rattle.rules.specs.Hearing.{entryOf}
-use Rattle.rules.proofs.HearingLaws.{reading-by}
+use Rattle.rules.proofs.ReceptionLaws.{reading-by}
 use Rattle.rules.proofs.hearing.reading.Statement.{statement}
 use Rattle.rules.proofs.hearing.reading.Tie as tie
 

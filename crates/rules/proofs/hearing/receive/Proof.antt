@@ -1,6 +1,6 @@
 -- The three tests in their order.
 use Rattle.words.proofs.Truth.{not-both, not-neither}
-use Rattle.rules.proofs.HearingLaws.{word-lost, word-other, word-stray, word-clean}
+use Rattle.rules.proofs.ReceptionLaws.{word-lost, word-other, word-stray, word-clean}
 use borrow.Author.Needs.{needs}
 use Rattle.rules.proofs.hearing.receive.Statement.{statement}
 use Rattle.rules.proofs.hearing.receive.Tie as tie

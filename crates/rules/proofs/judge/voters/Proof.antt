@@ -1,6 +1,6 @@
 -- The view has no bits at n or above, so neither has the conjunction.
 use Rattle.rules.specs.Syndrome.{votersOf}
-use Rattle.rules.proofs.MaskLaws.{and-pack}
+use Rattle.words.proofs.MaskLaws.{and-pack}
 use Rattle.rules.proofs.judge.voters.Statement.{statement}
 use Rattle.rules.proofs.judge.voters.Tie as tie
 

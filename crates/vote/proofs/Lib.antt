@@ -1,0 +1,5 @@
+pub mod VoteLaws
+pub mod VoteTableLaws
+pub mod EveryFourthLaws
+pub mod LaneLaws
+pub mod FourLaws

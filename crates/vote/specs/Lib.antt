@@ -1,0 +1,3 @@
+pub mod Vote
+pub mod VoteTable
+pub mod Lanes
