@@ -1,16 +1,16 @@
 -- One axis and its history: what an accepted event does to the axis is what it does to the locks and the move that the history leaves.
 use Prim.Native.Nat.{ℕ, zero, suc, _+_, _-_, _≤_}
 use mathlib.Core.Path.{_≡_, refl, sym, ap, ap₂, _∙_, subst}
-use mathlib.Core.Bool.{Bool, true, false, cond, not, _&&_, _||_, true≢false, false≢true}
+use mathlib.Core.Bool.{Bool, true, false, cond, _&&_, _||_, true≢false, false≢true}
 use mathlib.Core.Logic.{_⊎_, inl, inr, ⊎-elim}
 use mathlib.Core.List.{List, [], _∷_}
 use native.Mathlib.Omega.{arith}
 use borrow.Author.Tests.{eqb-true, eq-eqb, ne-eqb}
 use lib.Dec.{eqb}
 use lib.ListN.{getD, length, replicate, length-replicate}
-use Rattle.words.proofs.Truth.{which, cond-true, cond-false, and-true, and-false-r}
+use Rattle.words.proofs.Truth.{which, cond-true, cond-false, cond-same, and-true, and-false-r}
 use Rattle.scanlock.specs.Axis.{axis, free, present, barred, deeper, shallower, moved, abortedOf, finishedOf, stoppedOf, lostOf}
-use Rattle.scanlock.specs.History.{Motion, resting, moving, halting, started, aborted, finished, stopped, motion, isUnfinished, isHalting, left, depth, holder, unfinished, stopping}
+use Rattle.scanlock.specs.History.{Motion, resting, moving, halting, startedMotion, abortedMotion, finishedMotion, stoppedMotion, motion, isUnfinished, isHalting, left, depth, holder, unfinished, stopping}
 use Rattle.scanlock.specs.declared.Axis.{Axis}
 use Rattle.scanlock.specs.declared.Event.{Event}
 use Rattle.scanlock.specs.declared.Event.the-variants.{View, Begin, End, Start, Abort, Finished, Stopped}
@@ -28,10 +28,6 @@ pub record Shows (a : ℕ) (t : List Event) (x : Axis) : Type 0 where
   pub stop : x .stopping ≡ stopping a t
 
 -- ---- what is left of no locks
-
-cond-same : {A : Type 0} (b : Bool) (x : A) → cond b x x ≡ x
-cond-same true x = refl
-cond-same false x = refl
 
 none : (x : Axis) (ends : ℕ) (stays : ℕ → Bool) → x .depth ≡ 0 → held x ends stays ≡ []
 none x ends stays e =
@@ -65,11 +61,11 @@ shows-free a =
 
 -- ---- histories that leave the same of axis a
 
-pub record Alike (a : ℕ) (t t′ : List Event) : Type 0 where
+pub record LeaveAlike (a : ℕ) (t t′ : List Event) : Type 0 where
   pub locks : (ends : ℕ) (stays : ℕ → Bool) → left a ends stays t ≡ left a ends stays t′
   pub motion : motion a t ≡ motion a t′
 
-pub alike-shows : (a : ℕ) (t t′ : List Event) (x : Axis) → Alike a t t′ → Shows a t′ x → Shows a t x
+pub alike-shows : (a : ℕ) (t t′ : List Event) (x : Axis) → LeaveAlike a t t′ → Shows a t′ x → Shows a t x
 alike-shows a t t′ x o s = record {
   locks = λ ends stays. o .locks ends stays ∙ s .locks ends stays;
   nobody = s .nobody;
@@ -80,7 +76,7 @@ alike-shows a t t′ x o s = record {
 
 -- an event that leaves of axis a what was there
 abbrev pub Same : ℕ → List Event → Event → Type 0
-Same a t e = Alike a (e ∷ t) t
+Same a t e = LeaveAlike a (e ∷ t) t
 
 -- ---- an event of another axis
 
@@ -247,50 +243,50 @@ shows-end a t x by n s = record {
 
 -- ---- the moves that a history can leave
 
-started-moves : (m : Motion) → true ≡ isUnfinished (started m)
-unfolding started isUnfinished
+started-moves : (m : Motion) → true ≡ isUnfinished (startedMotion m)
+unfolding startedMotion isUnfinished
 started-moves resting = refl
 started-moves moving = refl
 started-moves halting = refl
 
-started-stop : (m : Motion) → isHalting m ≡ isHalting (started m)
-unfolding started isHalting
+started-stop : (m : Motion) → isHalting m ≡ isHalting (startedMotion m)
+unfolding startedMotion isHalting
 started-stop resting = refl
 started-stop moving = refl
 started-stop halting = refl
 
-aborted-moves : (m : Motion) → isUnfinished m ≡ isUnfinished (aborted m)
-unfolding aborted isUnfinished
+aborted-moves : (m : Motion) → isUnfinished m ≡ isUnfinished (abortedMotion m)
+unfolding abortedMotion isUnfinished
 aborted-moves resting = refl
 aborted-moves moving = refl
 aborted-moves halting = refl
 
-aborted-stop : (m : Motion) → isHalting m || isUnfinished m ≡ isHalting (aborted m)
-unfolding aborted isUnfinished isHalting
+aborted-stop : (m : Motion) → isHalting m || isUnfinished m ≡ isHalting (abortedMotion m)
+unfolding abortedMotion isUnfinished isHalting
 aborted-stop resting = refl
 aborted-stop moving = refl
 aborted-stop halting = refl
 
-finished-moves : (m : Motion) → isUnfinished m && isHalting m ≡ isUnfinished (finished m)
-unfolding finished isUnfinished isHalting
+finished-moves : (m : Motion) → isUnfinished m && isHalting m ≡ isUnfinished (finishedMotion m)
+unfolding finishedMotion isUnfinished isHalting
 finished-moves resting = refl
 finished-moves moving = refl
 finished-moves halting = refl
 
-finished-stop : (m : Motion) → isHalting m ≡ isHalting (finished m)
-unfolding finished isHalting
+finished-stop : (m : Motion) → isHalting m ≡ isHalting (finishedMotion m)
+unfolding finishedMotion isHalting
 finished-stop resting = refl
 finished-stop moving = refl
 finished-stop halting = refl
 
-stopped-rests : (m : Motion) → isHalting m ≡ true → stopped m ≡ resting
-unfolding stopped isHalting
+stopped-rests : (m : Motion) → isHalting m ≡ true → stoppedMotion m ≡ resting
+unfolding stoppedMotion isHalting
 stopped-rests resting e = absurd (false≢true e)
 stopped-rests moving e = absurd (false≢true e)
 stopped-rests halting e = refl
 
-stopped-stays : (m : Motion) → isHalting m ≡ false → stopped m ≡ m
-unfolding stopped isHalting
+stopped-stays : (m : Motion) → isHalting m ≡ false → stoppedMotion m ≡ m
+unfolding stoppedMotion isHalting
 stopped-stays resting e = refl
 stopped-stays moving e = refl
 stopped-stays halting e = absurd (true≢false e)
@@ -299,7 +295,7 @@ stopped-stays halting e = absurd (true≢false e)
 
 module _ (a : ℕ) (t : List Event) where
   -- of a stopping axis: as if nothing had been
-  pub stop-ends : stopping a t ≡ true → Alike a (Stopped a ∷ t) []
+  pub stop-ends : stopping a t ≡ true → LeaveAlike a (Stopped a ∷ t) []
   unfolding left motion
   stop-ends q = record {
     locks = λ ends stays. cond-true _ _ (and-true (eqb a a) _ (eq-eqb a a refl) q);

@@ -10,16 +10,16 @@ use lib.Dec.{eqb, leb}
 use lib.Seq.{set-getD}
 use Rattle.words.proofs.Truth.{which, clash, cond-true, cond-false, and-l, or-false-r}
 use Rattle.scanlock.specs.Axis.{axis, free, abortedOf, finishedOf, stoppedOf, onAxis}
-use Rattle.scanlock.specs.History.{Motion, resting, moving, halting, started, aborted, finished, stopped, motion, isUnfinished, isHalting, left, standing, depth, holder, unfinished, stopping, named, taken, number, accepted}
+use Rattle.scanlock.specs.History.{Motion, resting, moving, halting, startedMotion, abortedMotion, finishedMotion, stoppedMotion, motion, isUnfinished, isHalting, left, standing, depth, holder, unfinished, stopping, named, taken, number, acceptedEvents}
 use Rattle.scanlock.specs.Locks.{locks, axisAt, withAxis, admits, putOf, refusedOf, abortOf, finishedBy, stoppedBy, eventOf}
-use Rattle.scanlock.specs.ByHistory.{after}
+use Rattle.scanlock.specs.ByHistory.{locksAfter}
 use Rattle.scanlock.specs.ByEvents.{No, Running, Aborted, Stopping, Unfinished, AbortsStop, MotionByEvents, Unchanged, ChangesNothing}
 use Rattle.scanlock.specs.declared.Axis.{Axis}
 use Rattle.scanlock.specs.declared.Locks.{Locks}
 use Rattle.scanlock.specs.declared.Event.{Event}
 use Rattle.scanlock.specs.declared.Event.the-variants.{View, Begin, End, Start, Abort, Finished, Stopped}
-use Rattle.scanlock.proofs.AnswerLaws.{on-axis}
-use Rattle.scanlock.proofs.AxisHistory.{Alike, stop-ends, stop-idle}
+use Rattle.scanlock.proofs.LockEventLaws.{on-axis}
+use Rattle.scanlock.proofs.AxisHistory.{LeaveAlike, stop-ends, stop-idle}
 use Rattle.scanlock.proofs.ByHistory.{by-history}
 
 -- from what cannot be
@@ -232,14 +232,14 @@ module _ (a : ℕ) (t : List Event) where
   stop-stops : Stopping a (Stopped a ∷ t) → ⊥
   stop-stops s = elim (stopping-less a (Stopped a) t s) [ now m q _ ↦ never (cc) | ago p _ ↦ p refl ]
 
-  means-start : (by : ℕ) (m : Motion) → isHalting m ≡ false → Means a t m → Means a (Start by a ∷ t) (started m)
-  unfolding started isMoving isHalting
+  means-start : (by : ℕ) (m : Motion) → isHalting m ≡ false → Means a t m → Means a (Start by a ∷ t) (startedMotion m)
+  unfolding startedMotion isMoving isHalting
   means-start by resting e k = record { running = running-start a by t; stops = holds-as false (start-stops by) (k .stops) }
   means-start by moving e k = record { running = running-start a by t; stops = holds-as false (start-stops by) (k .stops) }
   means-start by halting e k = absurd (true≢false e)
 
-  means-abort : (by : ℕ) (m : Motion) → Means a t m → Means a (Abort by a ∷ t) (aborted m)
-  unfolding aborted isMoving isHalting
+  means-abort : (by : ℕ) (m : Motion) → Means a t m → Means a (Abort by a ∷ t) (abortedMotion m)
+  unfolding abortedMotion isMoving isHalting
   means-abort by resting k = record {
     running = abort-runs by;
     stops = λ s. elim (stopping-less a (Abort by a) t s) [ now _ _ r ↦ k .running r | ago _ s ↦ k .stops s ];
@@ -247,14 +247,14 @@ module _ (a : ℕ) (t : List Event) where
   means-abort by moving k = record { running = abort-runs by; stops = stopping-abort a by t (k .running) }
   means-abort by halting k = record { running = abort-runs by; stops = stopping-more a (Abort by a) t (λ q. never (cc)) (k .stops) }
 
-  means-finished : (m : Motion) → Means a t m → Means a (Finished a ∷ t) (finished m)
-  unfolding finished isMoving isHalting
+  means-finished : (m : Motion) → Means a t m → Means a (Finished a ∷ t) (finishedMotion m)
+  unfolding finishedMotion isMoving isHalting
   means-finished resting k = record { running = finish-runs; stops = holds-as false finish-stops (k .stops) }
   means-finished moving k = record { running = finish-runs; stops = holds-as false finish-stops (k .stops) }
   means-finished halting k = record { running = finish-runs; stops = holds-as true finish-stops (k .stops) }
 
-  means-stopped : (m : Motion) → Means a t m → Means a (Stopped a ∷ t) (stopped m)
-  unfolding stopped isMoving isHalting
+  means-stopped : (m : Motion) → Means a t m → Means a (Stopped a ∷ t) (stoppedMotion m)
+  unfolding stoppedMotion isMoving isHalting
   means-stopped resting k = record { running = holds-as false stop-runs (k .running); stops = stop-stops }
   means-stopped moving k = record { running = holds-as true stop-runs (k .running); stops = stop-stops }
   means-stopped halting k = record { running = holds-as false stop-runs (k .running); stops = stop-stops }
@@ -298,17 +298,17 @@ module _ (a : ℕ) (t : List Event) where
   step n (End by b) z k = means-other (End by b) (motion a t) refl k
   step n (Start by b) z k =
       let f = start-accepted n t by b z in
-      either (λ c. Start by c) b started
+      either (λ c. Start by c) b startedMotion
       (λ q. means-start by (motion a t) (subst (λ (c : ℕ). stopping c t ≡ false) q f) k) refl k
-  step n (Abort by b) z k = either (λ c. Abort by c) b aborted (λ q. means-abort by (motion a t) k) refl k
-  step n (Finished b) z k = either (λ c. Finished c) b finished (λ q. means-finished (motion a t) k) refl k
-  step n (Stopped b) z k = either (λ c. Stopped c) b stopped (λ q. means-stopped (motion a t) k) refl k
+  step n (Abort by b) z k = either (λ c. Abort by c) b abortedMotion (λ q. means-abort by (motion a t) k) refl k
+  step n (Finished b) z k = either (λ c. Finished c) b finishedMotion (λ q. means-finished (motion a t) k) refl k
+  step n (Stopped b) z k = either (λ c. Stopped c) b stoppedMotion (λ q. means-stopped (motion a t) k) refl k
 
-means : (n : ℕ) (h : List Event) (a : ℕ) → Means a (accepted n h) (motion a (accepted n h))
-unfolding accepted motion isMoving isHalting
+means : (n : ℕ) (h : List Event) (a : ℕ) → Means a (acceptedEvents n h) (motion a (acceptedEvents n h))
+unfolding acceptedEvents motion isMoving isHalting
 means n [] a = record { running = running-none a; stops = stopping-none a }
 means n (e ∷ h) a =
-    let t = accepted n h in
+    let t = acceptedEvents n h in
     ⊎-elim
     (λ (p : eqb (number n t e) 0 ≡ true).
     subst (λ (l : List Event). Means a l (motion a l)) (sym (cond-true (e ∷ t) t p)) (step a t n e (eqb-true _ 0 p) (means n h a)))
@@ -324,8 +324,8 @@ moves-exactly halting R S r s = (λ e. inr s, λ o. refl)
 
 -- ---- the same events after it
 
-module _ (a : ℕ) (t t′ : List Event) (o : Alike a t t′) where
-  since-alike : (since : List Event) → Alike a (since ++ t) (since ++ t′)
+module _ (a : ℕ) (t t′ : List Event) (o : LeaveAlike a t t′) where
+  since-alike : (since : List Event) → LeaveAlike a (since ++ t) (since ++ t′)
   unfolding left motion
   since-alike [] = o
   since-alike (View view ∷ l) =
@@ -348,7 +348,7 @@ module _ (a : ℕ) (t t′ : List Event) (o : Alike a t t′) where
 
 pub motion-by-events : MotionByEvents
 motion-by-events n h a =
-    let t = accepted n h in
+    let t = acceptedEvents n h in
     let k = means n h a in
     let i = holds-exactly (stopping a t) (k .stops) in
     record {
@@ -396,34 +396,34 @@ or-off false q e = e
 
 module _ (n : ℕ) (h : List Event) (a : ℕ) where
   -- what the axis holds, where there is such an axis
-  axis-moves : onAxis a ≡ true → axisAt (after n h) a .moving ≡ unfinished a (accepted n h)
+  axis-moves : onAxis a ≡ true → axisAt (locksAfter n h) a .moving ≡ unfinished a (acceptedEvents n h)
   axis-moves p = let (l, u) = on-axis a p in ap (λ (x : Axis). x .moving) (by-history n h .each a l u)
 
-  axis-stops : onAxis a ≡ true → axisAt (after n h) a .stopping ≡ stopping a (accepted n h)
+  axis-stops : onAxis a ≡ true → axisAt (locksAfter n h) a .stopping ≡ stopping a (acceptedEvents n h)
   axis-stops p = let (l, u) = on-axis a p in ap (λ (x : Axis). x .stopping) (by-history n h .each a l u)
 
-  admits-axis : (by : ℕ) → admits (after n h) by a ≡ true → onAxis a ≡ true
+  admits-axis : (by : ℕ) → admits (locksAfter n h) by a ≡ true → onAxis a ≡ true
   unfolding admits
-  admits-axis by p = and-l (onAxis a) _ (and-l (onAxis a && leb by (after n h .n)) _ p)
+  admits-axis by p = and-l (onAxis a) _ (and-l (onAxis a && leb by (locksAfter n h .n)) _ p)
 
-  not-moving : (Unfinished a (accepted n h) → ⊥) → onAxis a ≡ true → axisAt (after n h) a .moving ≡ false
+  not-moving : (Unfinished a (acceptedEvents n h) → ⊥) → onAxis a ≡ true → axisAt (locksAfter n h) a .moving ≡ false
   not-moving f p = axis-moves p ∙ is-false _ (λ e. f (motion-by-events n h a .moves .0 e))
 
-  is-stopping : Stopping a (accepted n h) → onAxis a ≡ true → axisAt (after n h) a .stopping ≡ true
+  is-stopping : Stopping a (acceptedEvents n h) → onAxis a ≡ true → axisAt (locksAfter n h) a .stopping ≡ true
   is-stopping s p = axis-stops p ∙ motion-by-events n h a .stops .1 s
 
-  not-stopping : (Stopping a (accepted n h) → ⊥) → onAxis a ≡ true → axisAt (after n h) a .stopping ≡ false
+  not-stopping : (Stopping a (acceptedEvents n h) → ⊥) → onAxis a ≡ true → axisAt (locksAfter n h) a .stopping ≡ false
   not-stopping f p = axis-stops p ∙ is-false _ (λ e. f (motion-by-events n h a .stops .0 e))
 
   unchanged : Unchanged n h a
-  unfolding after eventOf abortOf finishedBy stoppedBy
+  unfolding locksAfter eventOf abortOf finishedBy stoppedBy
   unchanged =
-      let x = axisAt (after n h) a in
+      let x = axisAt (locksAfter n h) a in
       record {
-        finish-stopping = λ s. put-back (after n h) a _ _ (λ p. finished-same x (and-on _ _ (is-stopping s p)));
-        abort-nothing = λ f by. put-back (after n h) a _ _ (λ p. aborted-same x (or-off _ _ (not-moving f (admits-axis by p))));
-        finish-nothing = λ f. put-back (after n h) a _ _ (λ p. finished-same x (and-off _ _ (not-moving f p)));
-        stop-nothing = λ f. put-back (after n h) a _ _ (λ p. stopped-same x (not-stopping f p));
+        finish-stopping = λ s. put-back (locksAfter n h) a _ _ (λ p. finished-same x (and-on _ _ (is-stopping s p)));
+        abort-nothing = λ f by. put-back (locksAfter n h) a _ _ (λ p. aborted-same x (or-off _ _ (not-moving f (admits-axis by p))));
+        finish-nothing = λ f. put-back (locksAfter n h) a _ _ (λ p. finished-same x (and-off _ _ (not-moving f p)));
+        stop-nothing = λ f. put-back (locksAfter n h) a _ _ (λ p. stopped-same x (not-stopping f p));
       }
 
 pub changes-nothing : ChangesNothing

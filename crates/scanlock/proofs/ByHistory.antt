@@ -12,22 +12,22 @@ use lib.Seq.{getD-set-same, getD-set-other}
 use Rattle.words.specs.Count.{all}
 use Rattle.words.proofs.Truth.{which, cond-true, cond-false, and-l, and-r}
 use Rattle.words.proofs.TableLaws.{updated-at, updated-length}
-use Rattle.scanlock.specs.Axis.{axis, free, axisAnswer, present, onAxis, barred, begunOf, endedOf, startedOf, abortedOf, finishedOf, stoppedOf, deeper, shallower, moved, lostOf, idle}
-use Rattle.scanlock.specs.Locks.{locks, answered, opened, axisAt, withAxis, admits, refusedOf, putOf, settledOf, seenAxes, setViewOf, beginOf, endOf, startOf, abortOf, finishedBy, stoppedBy, eventOf, joystickOf}
-use Rattle.scanlock.specs.History.{depth, holder, stopping, viewIn, named, taken, number, accepted, live}
-use Rattle.scanlock.specs.ByHistory.{after, ByHistory}
+use Rattle.scanlock.specs.Axis.{axis, free, axisAnswer, present, onAxis, barred, begunOf, endedOf, startedOf, abortedOf, finishedOf, stoppedOf, deeper, shallower, moved, lostOf, idleAxis}
+use Rattle.scanlock.specs.Locks.{locks, eventAnswer, freshLocks, axisAt, withAxis, admits, refusedOf, putOf, settledOf, seenAxes, setViewOf, beginOf, endOf, startMoveOf, abortOf, finishedBy, stoppedBy, eventOf, joystickOf}
+use Rattle.scanlock.specs.History.{depth, holder, stopping, latestView, named, taken, number, acceptedEvents, live}
+use Rattle.scanlock.specs.ByHistory.{locksAfter, ByHistory}
 use Rattle.scanlock.specs.declared.Axis.{Axis}
 use Rattle.scanlock.specs.declared.Locks.{Locks}
-use Rattle.scanlock.specs.declared.Answered.{Answered}
+use Rattle.scanlock.specs.declared.EventAnswer.{EventAnswer}
 use Rattle.scanlock.specs.declared.Event.{Event}
 use Rattle.scanlock.specs.declared.Event.the-variants.{View, Begin, End, Start, Abort, Finished, Stopped}
-use Rattle.scanlock.proofs.AnswerLaws.{on-axis, admitted}
+use Rattle.scanlock.proofs.LockEventLaws.{on-axis, admitted}
 use Rattle.scanlock.proofs.AxisHistory.{Shows, Same, alike-shows, shows-free, shows-depth, shows-holder, shows-view, shows-begin, shows-end, shows-start, shows-abort, shows-finished, shows-stopped, other-begin, other-end, other-start, other-abort, other-finished, other-stopped}
 
 -- the locks st after the accepted events t
 record Kept (n : ℕ) (t : List Event) (st : Locks) : Type 0 where
   size : st .n ≡ n
-  view : st .view ≡ viewIn n t
+  view : st .view ≡ latestView n t
   eight : length (st .axes) ≡ 8
   each : (a : ℕ) → 1 ≤ a → a ≤ 8 → Shows a t (axisAt st a)
 
@@ -40,23 +40,23 @@ module _ (n : ℕ) (t : List Event) (st : Locks) (k : Kept n t st) (e : Event) w
   -- a refused event
   refused : (m : ℕ) → eventOf st e ≡ refusedOf st m → number n t e ≡ m → eqb m 0 ≡ false → Next n t st e
   refused m r h z = record {
-    answers = ap (λ (x : Answered). x .number) r ∙ sym h;
+    answers = ap (λ (x : EventAnswer). x .number) r ∙ sym h;
     kept =
         subst (λ (l : List Event). Kept n l (eventOf st e .locks)) (sym (cond-false (e ∷ t) t (ap (λ (x : ℕ). eqb x 0) h ∙ z)))
-        (subst (λ (x : Locks). Kept n t x) (sym (ap (λ (x : Answered). x .locks) r)) k);
+        (subst (λ (x : Locks). Kept n t x) (sym (ap (λ (x : EventAnswer). x .locks) r)) k);
   }
 
   -- an accepted one
-  done : (s : Locks) → eventOf st e ≡ answered 0 s → number n t e ≡ 0 → Kept n (e ∷ t) s → Next n t st e
+  done : (s : Locks) → eventOf st e ≡ eventAnswer 0 s → number n t e ≡ 0 → Kept n (e ∷ t) s → Next n t st e
   done s r h g = record {
-    answers = ap (λ (x : Answered). x .number) r ∙ sym h;
+    answers = ap (λ (x : EventAnswer). x .number) r ∙ sym h;
     kept =
         subst (λ (l : List Event). Kept n l (eventOf st e .locks)) (sym (cond-true (e ∷ t) t (ap (λ (x : ℕ). eqb x 0) h)))
-        (subst (λ (x : Locks). Kept n (e ∷ t) x) (sym (ap (λ (x : Answered). x .locks) r)) g);
+        (subst (λ (x : Locks). Kept n (e ∷ t) x) (sym (ap (λ (x : EventAnswer). x .locks) r)) g);
   }
 
   -- an accepted one that changes axis b alone
-  module _ (b : ℕ) (low : 1 ≤ b) (high : b ≤ 8) (same-view : viewIn n (e ∷ t) ≡ viewIn n t) where
+  module _ (b : ℕ) (low : 1 ≤ b) (high : b ≤ 8) (same-view : latestView n (e ∷ t) ≡ latestView n t) where
     kept-put : (y : Axis) → Shows b (e ∷ t) y → ((a : ℕ) → eqb b a ≡ false → Same a t e) → Kept n (e ∷ t) (withAxis st b y)
     kept-put y here others = record {
       size = k .size;
@@ -107,7 +107,7 @@ module _ (n : ℕ) (t : List Event) (st : Locks) (k : Kept n t st) where
   some-module by b e = leb-true 1 by (and-l (leb 1 by) _ (and-r (onAxis b && leb by (st .n)) _ e))
 
   -- a begin, an end or a start: 19, 20, then 21 by a test of its own, and the axis after it
-  module _ (e : Event) (by b : ℕ) (test test′ : Bool) (y : Axis) (same-view : viewIn n (e ∷ t) ≡ viewIn n t) where
+  module _ (e : Event) (by b : ℕ) (test test′ : Bool) (y : Axis) (same-view : latestView n (e ∷ t) ≡ latestView n t) where
     asked : eventOf st e
         ≡ cond (admits st by b)
         (settledOf st b (cond (barred (axisAt st b) by) (axisAnswer 20 (axisAt st b)) (cond test (axisAnswer 21 (axisAt st b)) (axisAnswer 0 y))))
@@ -138,7 +138,7 @@ module _ (n : ℕ) (t : List Event) (st : Locks) (k : Kept n t st) where
         (which (admits st by b))
 
   next-begin : (by b : ℕ) → Next n t st (Begin by b)
-  unfolding eventOf beginOf begunOf number viewIn
+  unfolding eventOf beginOf begunOf number latestView
   next-begin by b =
       let x = axisAt st b in
       asked (Begin by b) by b (leb 8 (x .depth)) (leb 8 (depth b t)) (deeper x by) refl refl refl
@@ -147,7 +147,7 @@ module _ (n : ℕ) (t : List Event) (st : Locks) (k : Kept n t st) where
       (λ a f. other-begin a b t f by)
 
   next-end : (by b : ℕ) → Next n t st (End by b)
-  unfolding eventOf endOf endedOf number viewIn
+  unfolding eventOf endOf endedOf number latestView
   next-end by b =
       let x = axisAt st b in
       asked (End by b) by b (eqb (x .depth) 0) (eqb (depth b t) 0) (shallower x) refl refl refl
@@ -156,7 +156,7 @@ module _ (n : ℕ) (t : List Event) (st : Locks) (k : Kept n t st) where
       (λ a f. other-end a b t f by)
 
   next-start : (by b : ℕ) → Next n t st (Start by b)
-  unfolding eventOf startOf startedOf number viewIn
+  unfolding eventOf startMoveOf startedOf number latestView
   next-start by b =
       let x = axisAt st b in
       asked (Start by b) by b (eqb (x .depth) 0) (eqb (depth b t) 0) (moved x) refl refl refl
@@ -165,7 +165,7 @@ module _ (n : ℕ) (t : List Event) (st : Locks) (k : Kept n t st) where
       (λ a f. other-start a b t f by)
 
   next-abort : (by b : ℕ) → Next n t st (Abort by b)
-  unfolding eventOf abortOf number viewIn
+  unfolding eventOf abortOf number latestView
   next-abort by b =
       ⊎-elim
       (λ (p : admits st by b ≡ true).
@@ -176,7 +176,7 @@ module _ (n : ℕ) (t : List Event) (st : Locks) (k : Kept n t st) where
       (which (admits st by b))
 
   -- a report
-  told : (e : Event) (b : ℕ) (y : Axis) → viewIn n (e ∷ t) ≡ viewIn n t → eventOf st e ≡ cond (onAxis b) (putOf st b y) (refusedOf st 19)
+  told : (e : Event) (b : ℕ) (y : Axis) → latestView n (e ∷ t) ≡ latestView n t → eventOf st e ≡ cond (onAxis b) (putOf st b y) (refusedOf st 19)
       → number n t e ≡ cond (onAxis b) 0 19 → (1 ≤ b → b ≤ 8 → Shows b (e ∷ t) y) → ((a : ℕ) → eqb b a ≡ false → Same a t e) → Next n t st e
   told e b y v r h here others =
       ⊎-elim
@@ -187,20 +187,20 @@ module _ (n : ℕ) (t : List Event) (st : Locks) (k : Kept n t st) where
       (which (onAxis b))
 
   next-finished : (b : ℕ) → Next n t st (Finished b)
-  unfolding eventOf finishedBy number viewIn
+  unfolding eventOf finishedBy number latestView
   next-finished b =
       told (Finished b) b (finishedOf (axisAt st b)) refl refl refl (λ l u. shows-finished b t (axisAt st b) (k .each b l u))
       (λ a f. other-finished a b t f)
 
   next-stopped : (b : ℕ) → Next n t st (Stopped b)
-  unfolding eventOf stoppedBy number viewIn
+  unfolding eventOf stoppedBy number latestView
   next-stopped b =
       told (Stopped b) b (stoppedOf (axisAt st b)) refl refl refl (λ l u. shows-stopped b t (axisAt st b) (k .each b l u))
       (λ a f. other-stopped a b t f)
 
   -- a view
   seen : (view : ℕ) → Kept n (View view ∷ t) (locks (st .n) view (seenAxes view (st .axes)))
-  unfolding seenAxes viewIn
+  unfolding seenAxes latestView
   seen view = record {
     size = k .size;
     view = refl;
@@ -235,8 +235,8 @@ module _ (n : ℕ) (t : List Event) (st : Locks) (k : Kept n t st) where
 
 -- ---- every history
 
-at-first : (n : ℕ) → Kept n [] (opened n)
-unfolding opened viewIn
+at-first : (n : ℕ) → Kept n [] (freshLocks n)
+unfolding freshLocks latestView
 at-first n = record {
   size = refl;
   view = refl;
@@ -246,18 +246,18 @@ at-first n = record {
       subst (λ (x : Axis). Shows a [] x) (sym (getD-replicate {A = Axis} 8 (a - 1) free free i)) (shows-free a);
 }
 
-kept : (n : ℕ) (h : List Event) → Kept n (accepted n h) (after n h)
-unfolding accepted after
+kept : (n : ℕ) (h : List Event) → Kept n (acceptedEvents n h) (locksAfter n h)
+unfolding acceptedEvents locksAfter
 kept n [] = at-first n
-kept n (e ∷ h) = next n (accepted n h) (after n h) (kept n h) e .kept
+kept n (e ∷ h) = next n (acceptedEvents n h) (locksAfter n h) (kept n h) e .kept
 
 all-ext : (m : ℕ) (p q : ℕ → Bool) → ((i : ℕ) → i < m → p i ≡ q i) → all m p ≡ all m q
 unfolding all
 all-ext zero p q h = refl
 all-ext (suc m) p q h = rw (all-ext m p q (λ i l. h i (omega arith)), h m (omega arith)) refl
 
-shown-live : (n : ℕ) (h : List Event) → joystickOf (after n h) ≡ live n h
-unfolding joystickOf live idle
+shown-live : (n : ℕ) (h : List Event) → joystickOf (locksAfter n h) ≡ live n h
+unfolding joystickOf live idleAxis
 shown-live n h =
     let k = kept n h in
     all-ext 8 _ _
@@ -270,11 +270,11 @@ pub by-history : ByHistory
 by-history n h =
     let k = kept n h in
     record {
-      answers = λ e. next n (accepted n h) (after n h) k e .answers;
+      answers = λ e. next n (acceptedEvents n h) (locksAfter n h) k e .answers;
       view = k .view;
       each = λ a l u.
           let s = k .each a l u in
-          axis-is (axisAt (after n h) a) (sym (shows-holder a _ _ s)) (sym (shows-depth a _ _ s)) (s .move) (s .stop);
+          axis-is (axisAt (locksAfter n h) a) (sym (shows-holder a _ _ s)) (sym (shows-depth a _ _ s)) (s .move) (s .stop);
       joystick = shown-live n h;
     }
   where

@@ -1,12 +1,7 @@
-pub mod AnswerLaws
-pub mod CallLaws
+pub mod LockEventLaws
 pub mod AxisHistory
 pub mod ByHistory
 pub mod ByEvents
-pub mod SoundLaws
-pub mod ImageLaws
+pub mod SoundLocks
 pub mod RefusalLaws
-pub mod Images
-pub mod Agreement
 pub mod Cases
-pub mod Incident

@@ -71,5 +71,5 @@ unfoldable pub lostOf : ℕ → Axis → Axis
 lostOf view x = cond (present view (x .holder)) x (axis 0 0 (x .moving) (x .stopping))
 
 -- nobody holds the axis, and it is not stopping
-unfoldable pub idle : Axis → Bool
-idle x = eqb (x .depth) 0 && not (x .stopping)
+unfoldable pub idleAxis : Axis → Bool
+idleAxis x = eqb (x .depth) 0 && not (x .stopping)

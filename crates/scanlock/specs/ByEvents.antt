@@ -6,8 +6,8 @@ use mathlib.Core.Path.{_≡_}
 use mathlib.Core.Bool.{true}
 use mathlib.Core.Logic.{_↔_, _⊎_}
 use mathlib.Core.List.{List, _∷_, _++_, List·Memᴰ}
-use Rattle.scanlock.specs.History.{standing, unfinished, stopping, accepted}
-use Rattle.scanlock.specs.ByHistory.{after}
+use Rattle.scanlock.specs.History.{standing, unfinished, stopping, acceptedEvents}
+use Rattle.scanlock.specs.ByHistory.{locksAfter}
 use Rattle.scanlock.specs.declared.Event.{Event}
 use Rattle.scanlock.specs.declared.Event.the-variants.{Start, Abort, Finished, Stopped}
 
@@ -60,18 +60,18 @@ pub record ByEvents (a : ℕ) (t : List Event) : Type 0 where
 
 -- after every history, of any number of modules, on every axis
 abbrev pub MotionByEvents : Type 0
-MotionByEvents = (n : ℕ) (h : List Event) (a : ℕ) → ByEvents a (accepted n h)
+MotionByEvents = (n : ℕ) (h : List Event) (a : ℕ) → ByEvents a (acceptedEvents n h)
 
 -- ---- what changes nothing, of the locks after a history h of n modules
 
 pub record Unchanged (n : ℕ) (h : List Event) (a : ℕ) : Type 0 where
   -- on a stopping axis a finish report
-  pub finish-stopping : Stopping a (accepted n h) → after n (Finished a ∷ h) ≡ after n h
+  pub finish-stopping : Stopping a (acceptedEvents n h) → locksAfter n (Finished a ∷ h) ≡ locksAfter n h
   -- an abort or report with nothing to stop or finish
-  pub abort-nothing : (Unfinished a (accepted n h) → ⊥) → (by : ℕ) → after n (Abort by a ∷ h) ≡ after n h
-  pub finish-nothing : (Unfinished a (accepted n h) → ⊥) → after n (Finished a ∷ h) ≡ after n h
+  pub abort-nothing : (Unfinished a (acceptedEvents n h) → ⊥) → (by : ℕ) → locksAfter n (Abort by a ∷ h) ≡ locksAfter n h
+  pub finish-nothing : (Unfinished a (acceptedEvents n h) → ⊥) → locksAfter n (Finished a ∷ h) ≡ locksAfter n h
   -- a stop report on an axis that is not stopping
-  pub stop-nothing : (Stopping a (accepted n h) → ⊥) → after n (Stopped a ∷ h) ≡ after n h
+  pub stop-nothing : (Stopping a (acceptedEvents n h) → ⊥) → locksAfter n (Stopped a ∷ h) ≡ locksAfter n h
 
 -- after every history, of any number of modules, on every axis
 abbrev pub ChangesNothing : Type 0

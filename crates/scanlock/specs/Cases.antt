@@ -1,42 +1,45 @@
 -- Document 02, E2, sentence by sentence: a table of what the definitions give and what the sentence says, of a backplane of four modules.
--- Each line asks the state (`after`, specs/Locks.antt) and the history (specs/History.antt). The checker computes it whole, in proofs/Cases.antt.
+-- Each line asks the state (`locksAfter`, specs/Locks.antt) and the history (specs/History.antt). The checker computes it whole, in proofs/Cases.antt.
 use Prim.Native.Nat.{ℕ}
 use mathlib.Core.Path.{_≡_}
-use mathlib.Core.Bool.{Bool, true, false}
+use mathlib.Core.Bool.{Bool, true, false, _&&_, Bool·beq}
 use mathlib.Core.List.{List, [], _∷_, _++_, reverse}
+use lib.Dec.{eqb}
 use lib.ListN.{replicate}
-use Rattle.agreement.specs.Stars.{Case, case, test, right}
 use Rattle.scanlock.specs.Axis.{axis, free}
 use Rattle.scanlock.specs.Locks.{axisAt, eventOf, joystickOf}
-use Rattle.scanlock.specs.History.{depth, holder, unfinished, stopping, number, accepted, live}
-use Rattle.scanlock.specs.ByHistory.{after}
+use Rattle.scanlock.specs.History.{depth, holder, unfinished, stopping, number, acceptedEvents, live}
+use Rattle.scanlock.specs.ByHistory.{locksAfter}
 use Rattle.scanlock.specs.declared.Axis.{Axis}
 use Rattle.scanlock.specs.declared.Event.{Event}
 use Rattle.scanlock.specs.declared.Event.the-variants.{View, Begin, End, Start, Abort, Finished, Stopped}
 
 -- ---- the lines: events are written in the order in which they come
 
+-- two axes are the same, field by field
+abbrev pub sameAxis : Axis → Axis → Bool
+sameAxis x y =
+    eqb (x .holder) (y .holder) && eqb (x .depth) (y .depth) && Bool·beq (x .moving) (y .moving) && Bool·beq (x .stopping) (y .stopping)
+
 -- after these events axis a is x: its holder, its depth, whether a move is unfinished, whether it is stopping
-abbrev pub shows : List Event → ℕ → Axis → List Case
+abbrev pub shows : List Event → ℕ → Axis → Bool
 shows h a x =
-    let st = axisAt (after 4 (reverse h)) a in
-    let t = accepted 4 (reverse h) in
-    case (st .holder) (x .holder) ∷ case (st .depth) (x .depth) ∷ test (st .moving) (x .moving) ∷ test (st .stopping) (x .stopping)
-    ∷ case (holder a t) (x .holder) ∷ case (depth a t) (x .depth) ∷ test (unfinished a t) (x .moving) ∷ test (stopping a t) (x .stopping) ∷ []
+    let t = acceptedEvents 4 (reverse h) in
+    sameAxis (axisAt (locksAfter 4 (reverse h)) a) x && sameAxis (axis (holder a t) (depth a t) (unfinished a t) (stopping a t)) x
 
 -- after these events one more is answered by this number
-abbrev pub answers : List Event → Event → ℕ → List Case
+abbrev pub answers : List Event → Event → ℕ → Bool
 answers h e says =
-    case (eventOf (after 4 (reverse h)) e .number) says ∷ case (number 4 (accepted 4 (reverse h)) e) says ∷ []
+    eqb (eventOf (locksAfter 4 (reverse h)) e .number) says && eqb (number 4 (acceptedEvents 4 (reverse h)) e) says
 
 -- after these events the joystick is live, or not
-abbrev pub joystick : List Event → Bool → List Case
-joystick h says = test (joystickOf (after 4 (reverse h))) says ∷ test (live 4 (reverse h)) says ∷ []
+abbrev pub joystick : List Event → Bool → Bool
+joystick h says = Bool·beq (joystickOf (locksAfter 4 (reverse h))) says && Bool·beq (live 4 (reverse h)) says
 
--- one line after the other
-abbrev pub table : List (List Case) → List Case
-table [] = []
-table (l ∷ ls) = l ++ table ls
+-- every line is right
+abbrev pub everyLine : List Bool → Bool
+everyLine [] = true
+everyLine (l ∷ ls) = l && everyLine ls
 
 -- ---- histories that many lines begin with
 
@@ -54,8 +57,8 @@ eight = replicate 8 (Begin 4 1)
 
 -- ---- locks
 
-abbrev pub lockCases : List Case
-lockCases = table (
+abbrev pub lockCases : List Bool
+lockCases =
     -- a module begins and ends locks on axes 1..8
     shows (Begin 4 1 ∷ []) 1 (axis 4 1 false false) ∷ shows (Begin 4 8 ∷ []) 8 (axis 4 1 false false)
     ∷ shows (Begin 4 1 ∷ End 4 1 ∷ []) 1 free ∷ shows (Begin 4 8 ∷ End 4 8 ∷ []) 8 free
@@ -70,12 +73,12 @@ lockCases = table (
     ∷ shows (Begin 4 1 ∷ Begin 4 1 ∷ Begin 4 2 ∷ Begin 3 3 ∷ View 7 ∷ []) 2 free
     ∷ shows (Begin 4 1 ∷ Begin 4 1 ∷ Begin 4 2 ∷ Begin 3 3 ∷ View 7 ∷ []) 3 (axis 3 1 false false)
     -- for good: a later view that has it again does not bring them back
-    ∷ shows (Begin 4 1 ∷ Begin 4 1 ∷ View 7 ∷ View 15 ∷ []) 1 free ∷ answers (Begin 4 1 ∷ View 7 ∷ View 15 ∷ []) (End 4 1) 21 ∷ [])
+    ∷ shows (Begin 4 1 ∷ Begin 4 1 ∷ View 7 ∷ View 15 ∷ []) 1 free ∷ answers (Begin 4 1 ∷ View 7 ∷ View 15 ∷ []) (End 4 1) 21 ∷ []
 
 -- ---- moves
 
-abbrev pub moveCases : List Case
-moveCases = table (
+abbrev pub moveCases : List Bool
+moveCases =
     -- the holder starts moves, and the axis reports each one finished
     shows moves 1 (axis 4 1 true false) ∷ shows (moves ++ (Finished 1 ∷ [])) 1 (axis 4 1 false false)
     ∷ shows (moves ++ (Finished 1 ∷ Start 4 1 ∷ [])) 1 (axis 4 1 true false)
@@ -102,12 +105,12 @@ moveCases = table (
     ∷ shows (Stopped 1 ∷ []) 1 free ∷ shows (Begin 4 1 ∷ Stopped 1 ∷ []) 1 (axis 4 1 false false)
     ∷ shows (moves ++ (Stopped 1 ∷ [])) 1 (axis 4 1 true false)
     -- what comes on one axis is nothing to another
-    ∷ shows (moves ++ (Finished 2 ∷ Abort 2 2 ∷ [])) 1 (axis 4 1 true false) ∷ shows (stops ++ (Stopped 2 ∷ [])) 1 (axis 4 1 true true) ∷ [])
+    ∷ shows (moves ++ (Finished 2 ∷ Abort 2 2 ∷ [])) 1 (axis 4 1 true false) ∷ shows (stops ++ (Stopped 2 ∷ [])) 1 (axis 4 1 true true) ∷ []
 
 -- ---- the joystick is live exactly if
 
-abbrev pub joystickCases : List Case
-joystickCases = table (
+abbrev pub joystickCases : List Bool
+joystickCases =
     -- the history leaves no lock that was neither ended nor lost
     joystick [] true ∷ joystick (Begin 4 1 ∷ []) false ∷ joystick (Begin 4 8 ∷ []) false
     ∷ joystick (Begin 4 1 ∷ End 4 1 ∷ []) true ∷ joystick (Begin 4 1 ∷ Begin 4 1 ∷ End 4 1 ∷ []) false
@@ -117,12 +120,12 @@ joystickCases = table (
     ∷ joystick (moves ++ (End 4 1 ∷ [])) true ∷ joystick (moves ++ (View 7 ∷ [])) true
     -- and no axis stopping, with locks or without
     ∷ joystick stops false ∷ joystick (moves ++ (End 4 1 ∷ Abort 2 1 ∷ [])) false ∷ joystick (stops ++ (View 7 ∷ [])) false
-    ∷ joystick (stops ++ (View 7 ∷ Finished 1 ∷ [])) false ∷ joystick (stops ++ (Stopped 1 ∷ [])) true ∷ [])
+    ∷ joystick (stops ++ (View 7 ∷ Finished 1 ∷ [])) false ∷ joystick (stops ++ (Stopped 1 ∷ [])) true ∷ []
 
 -- ---- the checks, in that order
 
-abbrev pub checkCases : List Case
-checkCases = table (
+abbrev pub refusalCases : List Bool
+refusalCases =
     -- 19 for an axis out of range
     answers [] (Begin 4 0) 19 ∷ answers [] (Begin 4 9) 19 ∷ answers [] (End 4 9) 19 ∷ answers [] (Start 4 9) 19 ∷ answers [] (Abort 4 9) 19
     ∷ answers [] (Finished 0) 19 ∷ answers [] (Finished 9) 19 ∷ answers [] (Stopped 0) 19 ∷ answers [] (Stopped 9) 19
@@ -149,12 +152,12 @@ checkCases = table (
     ∷ answers (View 7 ∷ []) (End 4 1) 19 ∷ answers [] (Start 4 9) 19
     -- 20 before 21
     ∷ answers eight (Begin 3 1) 20 ∷ answers (eight ++ (Start 4 1 ∷ Abort 2 1 ∷ [])) (Begin 4 1) 20
-    ∷ answers (moves ++ (End 4 1 ∷ Abort 2 1 ∷ [])) (End 4 1) 20 ∷ answers (moves ++ (End 4 1 ∷ Abort 2 1 ∷ [])) (Start 4 1) 20 ∷ [])
+    ∷ answers (moves ++ (End 4 1 ∷ Abort 2 1 ∷ [])) (End 4 1) 20 ∷ answers (moves ++ (End 4 1 ∷ Abort 2 1 ∷ [])) (Start 4 1) 20 ∷ []
 
 -- the whole table
-abbrev pub cases : List Case
-cases = lockCases ++ (moveCases ++ (joystickCases ++ checkCases))
+abbrev pub cases : List Bool
+cases = lockCases ++ (moveCases ++ (joystickCases ++ refusalCases))
 
 -- what is claimed: every line is right
 abbrev pub CasesRight : Type 0
-CasesRight = right cases ≡ true
+CasesRight = everyLine cases ≡ true

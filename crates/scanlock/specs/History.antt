@@ -24,28 +24,28 @@ pub data Motion : Type 0 where
   halting : Motion
 
 -- a start during a move joins it
-unfoldable pub started : Motion → Motion
-started resting = moving
-started moving = moving
-started halting = halting
+unfoldable pub startedMotion : Motion → Motion
+startedMotion resting = moving
+startedMotion moving = moving
+startedMotion halting = halting
 
 -- an abort with nothing to stop changes nothing
-unfoldable pub aborted : Motion → Motion
-aborted resting = resting
-aborted moving = halting
-aborted halting = halting
+unfoldable pub abortedMotion : Motion → Motion
+abortedMotion resting = resting
+abortedMotion moving = halting
+abortedMotion halting = halting
 
 -- on a stopping axis a finish report changes nothing
-unfoldable pub finished : Motion → Motion
-finished resting = resting
-finished moving = resting
-finished halting = halting
+unfoldable pub finishedMotion : Motion → Motion
+finishedMotion resting = resting
+finishedMotion moving = resting
+finishedMotion halting = halting
 
 -- on an axis that is not stopping a stop report changes nothing
-unfoldable pub stopped : Motion → Motion
-stopped resting = resting
-stopped moving = moving
-stopped halting = resting
+unfoldable pub stoppedMotion : Motion → Motion
+stoppedMotion resting = resting
+stoppedMotion moving = moving
+stoppedMotion halting = resting
 
 -- neither an end nor a view ends a move
 unfoldable pub motion : ℕ → List Event → Motion
@@ -53,10 +53,10 @@ motion a [] = resting
 motion a (View view ∷ h) = motion a h
 motion a (Begin by b ∷ h) = motion a h
 motion a (End by b ∷ h) = motion a h
-motion a (Start by b ∷ h) = cond (eqb b a) (started (motion a h)) (motion a h)
-motion a (Abort by b ∷ h) = cond (eqb b a) (aborted (motion a h)) (motion a h)
-motion a (Finished b ∷ h) = cond (eqb b a) (finished (motion a h)) (motion a h)
-motion a (Stopped b ∷ h) = cond (eqb b a) (stopped (motion a h)) (motion a h)
+motion a (Start by b ∷ h) = cond (eqb b a) (startedMotion (motion a h)) (motion a h)
+motion a (Abort by b ∷ h) = cond (eqb b a) (abortedMotion (motion a h)) (motion a h)
+motion a (Finished b ∷ h) = cond (eqb b a) (finishedMotion (motion a h)) (motion a h)
+motion a (Stopped b ∷ h) = cond (eqb b a) (stoppedMotion (motion a h)) (motion a h)
 
 -- a move is unfinished, also on a stopping axis
 unfoldable pub isUnfinished : Motion → Bool
@@ -112,19 +112,19 @@ stopping a h = isHalting (motion a h)
 
 module _ (n : ℕ) where
   -- the view handed last, by the events that were accepted; at first it is full
-  unfoldable pub viewIn : List Event → ℕ
-  viewIn [] = full n
-  viewIn (View view ∷ h) = view
-  viewIn (Begin by b ∷ h) = viewIn h
-  viewIn (End by b ∷ h) = viewIn h
-  viewIn (Start by b ∷ h) = viewIn h
-  viewIn (Abort by b ∷ h) = viewIn h
-  viewIn (Finished b ∷ h) = viewIn h
-  viewIn (Stopped b ∷ h) = viewIn h
+  unfoldable pub latestView : List Event → ℕ
+  latestView [] = full n
+  latestView (View view ∷ h) = view
+  latestView (Begin by b ∷ h) = latestView h
+  latestView (End by b ∷ h) = latestView h
+  latestView (Start by b ∷ h) = latestView h
+  latestView (Abort by b ∷ h) = latestView h
+  latestView (Finished b ∷ h) = latestView h
+  latestView (Stopped b ∷ h) = latestView h
 
   -- not 19: there is such an axis and such a module, and the module is in the view
   unfoldable pub named : List Event → ℕ → ℕ → Bool
-  named h by a = onAxis a && leb by n && present (viewIn h) by
+  named h by a = onAxis a && leb by n && present (latestView h) by
 
   -- 20: held by another, or stopping
   unfoldable pub taken : List Event → ℕ → ℕ → Bool
@@ -141,10 +141,10 @@ module _ (n : ℕ) where
   number h (Stopped a) = cond (onAxis a) 0 19
 
   -- the events of a history that were accepted: a refused one changes nothing
-  unfoldable pub accepted : List Event → List Event
-  accepted [] = []
-  accepted (e ∷ h) = cond (eqb (number (accepted h) e) 0) (e ∷ accepted h) (accepted h)
+  unfoldable pub acceptedEvents : List Event → List Event
+  acceptedEvents [] = []
+  acceptedEvents (e ∷ h) = cond (eqb (number (acceptedEvents h) e) 0) (e ∷ acceptedEvents h) (acceptedEvents h)
 
   -- The joystick is live exactly if the history leaves no lock that was neither ended nor lost, and no axis stopping.
   unfoldable pub live : List Event → Bool
-  live h = all 8 (λ i. eqb (depth (i + 1) (accepted h)) 0 && not (stopping (i + 1) (accepted h)))
+  live h = all 8 (λ i. eqb (depth (i + 1) (acceptedEvents h)) 0 && not (stopping (i + 1) (acceptedEvents h)))

@@ -3,9 +3,5 @@ pub mod Locks
 pub mod History
 pub mod ByHistory
 pub mod ByEvents
-pub mod Image
-pub mod Calls
-pub mod Images
-pub mod Agreement
+pub mod SoundLocks
 pub mod Cases
-pub mod Incident

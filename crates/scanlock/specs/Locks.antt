@@ -8,11 +8,11 @@ use lib.ListN.{getD, set, replicate}
 use Rattle.words.specs.Bits.{full}
 use Rattle.words.specs.Count.{all}
 use Rattle.words.specs.Table.{updated}
-use Rattle.scanlock.specs.Axis.{free, present, onAxis, begunOf, endedOf, startedOf, abortedOf, finishedOf, stoppedOf, lostOf, idle}
+use Rattle.scanlock.specs.Axis.{free, present, onAxis, begunOf, endedOf, startedOf, abortedOf, finishedOf, stoppedOf, lostOf, idleAxis}
 use Rattle.scanlock.specs.declared.Axis.{Axis}
 use Rattle.scanlock.specs.declared.AxisAnswer.{AxisAnswer}
 use Rattle.scanlock.specs.declared.Locks.{Locks}
-use Rattle.scanlock.specs.declared.Answered.{Answered}
+use Rattle.scanlock.specs.declared.EventAnswer.{EventAnswer}
 use Rattle.scanlock.specs.declared.Event.{Event}
 use Rattle.scanlock.specs.declared.Event.the-variants.{View, Begin, End, Start, Abort, Finished, Stopped}
 
@@ -20,23 +20,23 @@ use Rattle.scanlock.specs.declared.Event.the-variants.{View, Begin, End,
 abbrev pub locks : ℕ → ℕ → List Axis → Locks
 locks n view axes = record { n = n; view = view; axes = axes }
 
--- an answer with the state after it; index 0
-abbrev pub answered : ℕ → Locks → Answered
-answered number st = record { number = number; index = 0; locks = st }
+-- an answer with the state after it
+abbrev pub eventAnswer : ℕ → Locks → EventAnswer
+eventAnswer number st = record { number = number; locks = st }
 
 -- ---- opening: n modules, a full view, no lock; 2 for an n that no backplane has
 
 -- a fresh scan lock
-unfoldable pub opened : ℕ → Locks
-opened n = locks n (full n) (replicate 8 free)
+unfoldable pub freshLocks : ℕ → Locks
+freshLocks n = locks n (full n) (replicate 8 free)
 
 -- what a refused opening or reading holds: no modules, so that every module is out of range
-unfoldable pub blank : Locks
-blank = locks 0 0 (replicate 8 free)
+unfoldable pub blankLocks : Locks
+blankLocks = locks 0 0 (replicate 8 free)
 
 -- what an opening answers
-unfoldable pub openOf : ℕ → Answered
-openOf n = cond (leb 2 n && leb n 16) (answered 0 (opened n)) (answered 2 blank)
+unfoldable pub openLocks : ℕ → EventAnswer
+openLocks n = cond (leb 2 n && leb n 16) (eventAnswer 0 (freshLocks n)) (eventAnswer 2 blankLocks)
 
 -- ---- the axis that an event names
 
@@ -55,15 +55,15 @@ admits st by a = onAxis a && leb by (st .n) && present (st .view) by
 -- ---- the answers
 
 -- a refused call changes nothing
-abbrev pub refusedOf : Locks → ℕ → Answered
-refusedOf st number = answered number st
+abbrev pub refusedOf : Locks → ℕ → EventAnswer
+refusedOf st number = eventAnswer number st
 
 -- accepted: axis a is x, the others are as they were
-abbrev pub putOf : Locks → ℕ → Axis → Answered
-putOf st a x = answered 0 (withAxis st a x)
+abbrev pub putOf : Locks → ℕ → Axis → EventAnswer
+putOf st a x = eventAnswer 0 (withAxis st a x)
 
 -- 20 and 21 by the axis
-unfoldable pub settledOf : Locks → ℕ → AxisAnswer → Answered
+unfoldable pub settledOf : Locks → ℕ → AxisAnswer → EventAnswer
 settledOf st a t = cond (eqb (t .number) 0) (putOf st a (t .axis)) (refusedOf st (t .number))
 
 -- a holder that leaves the view loses all its locks
@@ -71,40 +71,40 @@ unfoldable pub seenAxes : ℕ → List Axis → List Axis
 seenAxes view axes = updated 8 (λ i. lostOf view (getD axes i free)) axes
 
 -- a view with a bit at N or above names a module out of range
-unfoldable pub setViewOf : Locks → ℕ → Answered
+unfoldable pub setViewOf : Locks → ℕ → EventAnswer
 setViewOf st view =
-    cond (ltb view (2 ^ st .n)) (answered 0 (locks (st .n) view (seenAxes view (st .axes)))) (refusedOf st 19)
+    cond (ltb view (2 ^ st .n)) (eventAnswer 0 (locks (st .n) view (seenAxes view (st .axes)))) (refusedOf st 19)
 
 -- a module begins a lock: 19, then 20 and 21 by the axis
-unfoldable pub beginOf : Locks → ℕ → ℕ → Answered
+unfoldable pub beginOf : Locks → ℕ → ℕ → EventAnswer
 beginOf st by a = cond (admits st by a) (settledOf st a (begunOf (axisAt st a) by)) (refusedOf st 19)
 
 -- a module ends its innermost lock: 19, then 20 and 21
-unfoldable pub endOf : Locks → ℕ → ℕ → Answered
+unfoldable pub endOf : Locks → ℕ → ℕ → EventAnswer
 endOf st by a = cond (admits st by a) (settledOf st a (endedOf (axisAt st a) by)) (refusedOf st 19)
 
 -- the holder starts a move: 19, then 20 and 21
-unfoldable pub startOf : Locks → ℕ → ℕ → Answered
-startOf st by a = cond (admits st by a) (settledOf st a (startedOf (axisAt st a) by)) (refusedOf st 19)
+unfoldable pub startMoveOf : Locks → ℕ → ℕ → EventAnswer
+startMoveOf st by a = cond (admits st by a) (settledOf st a (startedOf (axisAt st a) by)) (refusedOf st 19)
 
 -- any present module aborts: 19 alone
-unfoldable pub abortOf : Locks → ℕ → ℕ → Answered
+unfoldable pub abortOf : Locks → ℕ → ℕ → EventAnswer
 abortOf st by a = cond (admits st by a) (putOf st a (abortedOf (axisAt st a))) (refusedOf st 19)
 
 -- the axis reports its move finished; reports carry an axis only, and are refused by 19 alone
-unfoldable pub finishedBy : Locks → ℕ → Answered
+unfoldable pub finishedBy : Locks → ℕ → EventAnswer
 finishedBy st a = cond (onAxis a) (putOf st a (finishedOf (axisAt st a))) (refusedOf st 19)
 
 -- the axis reports that it has stopped
-unfoldable pub stoppedBy : Locks → ℕ → Answered
+unfoldable pub stoppedBy : Locks → ℕ → EventAnswer
 stoppedBy st a = cond (onAxis a) (putOf st a (stoppedOf (axisAt st a))) (refusedOf st 19)
 
 -- any event
-unfoldable pub eventOf : Locks → Event → Answered
+unfoldable pub eventOf : Locks → Event → EventAnswer
 eventOf st (View view) = setViewOf st view
 eventOf st (Begin by a) = beginOf st by a
 eventOf st (End by a) = endOf st by a
-eventOf st (Start by a) = startOf st by a
+eventOf st (Start by a) = startMoveOf st by a
 eventOf st (Abort by a) = abortOf st by a
 eventOf st (Finished a) = finishedBy st a
 eventOf st (Stopped a) = stoppedBy st a
@@ -113,4 +113,4 @@ eventOf st (Stopped a) = stoppedBy st a
 
 -- live exactly while every axis is idle
 unfoldable pub joystickOf : Locks → Bool
-joystickOf st = all 8 (λ i. idle (getD (st .axes) i free))
+joystickOf st = all 8 (λ i. idleAxis (getD (st .axes) i free))

@@ -1,5 +1,6 @@
 // The joystick is live exactly while nobody holds an axis and none is stopping.
 use crate::Locks;
+use crate::on_axis::is_idle;
 ghost use mathlib.Core.Path.{_≡_};
 ghost use Rattle.scanlock.specs.Locks.{joystickOf};
 
@@ -12,7 +13,7 @@ impl Locks {
         let mut live = true;
         for i in 0..8 {
             let x = axes[i];
-            live = live & x.is_idle();
+            live = live & is_idle(x);
         }
         live
     }

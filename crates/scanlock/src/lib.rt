@@ -4,15 +4,15 @@
 // It relies on one thing that the presence library states, the view after an accepted step (after_step.rt). A module is 1..N, an axis 1..8;
 // the entry of axis a stands at a - 1.
 mod after_step;
-pub mod calls;
-mod check;
 mod events;
+mod fits;
 mod joystick;
-mod load;
 mod on_axis;
 mod opening;
-mod save;
-mod word;
+
+// What the words of a saved scan lock are tested by.
+pub use fits::axis_fits;
+pub use fits::view_fits;
 
 // What the scan lock is told: the view after a step; begin, end, start of a move and abort, by module and axis; the axis's reports
 // that its move is finished or that it has stopped.
@@ -27,11 +27,11 @@ pub enum Event {
 }
 
 // One axis: the module that holds it (0 for none) and how deep, whether a move is unfinished, and whether it is stopping.
-struct Axis {
-    holder: u32,
-    depth: u32,
-    moving: bool,
-    stopping: bool,
+pub struct Axis {
+    pub holder: u32,
+    pub depth: u32,
+    pub moving: bool,
+    pub stopping: bool,
 }
 
 // What an axis answers to a begin, an end or a start: 0 and the axis after it, or 20 or 21 and the axis as it was.
@@ -42,23 +42,13 @@ struct AxisAnswer {
 
 // All that is held from event to event: how many modules there are, the view handed last, and the axes.
 pub struct Locks {
-    n: u32,
-    view: u32,
-    axes: [Axis; 8],
+    pub n: u32,
+    pub view: u32,
+    pub axes: [Axis; 8],
 }
 
-// What an event, an opening or a reading answers: 0 or the number by which it is refused, an index (0 but for a wrong word of an
-// image), and the locks after it.
-pub struct Answered {
+// What an opening or an event answers: 0 or the number by which it is refused, and the locks after it.
+pub struct EventAnswer {
     pub number: u32,
-    pub index: u32,
     pub locks: Locks,
-}
-
-// What a call from C answers: joystick is 1 if the joystick is live after the call, and 0 where it is not or the locks could not be read.
-#[repr(C)]
-pub struct Answer {
-    pub number: u32,
-    pub index: u32,
-    pub joystick: u32,
 }

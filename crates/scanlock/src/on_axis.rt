@@ -3,7 +3,7 @@ use crate::Axis;
 use crate::AxisAnswer;
 use words::bits::bit_at;
 ghost use mathlib.Core.Path.{_≡_};
-ghost use Rattle.scanlock.specs.Axis.{axis, free, axisAnswer, present, barred, begunOf, endedOf, startedOf, abortedOf, finishedOf, stoppedOf, lostOf, idle};
+ghost use Rattle.scanlock.specs.Axis.{axis, free, axisAnswer, present, barred, begunOf, endedOf, startedOf, abortedOf, finishedOf, stoppedOf, lostOf, idleAxis};
 
 // Whether a module is in a view.
 pub fn is_present(view: u32, by: u32) -> bool
@@ -15,141 +15,139 @@ pub fn is_present(view: u32, by: u32) -> bool
     false
 }
 
-impl Axis {
-    // Held by nobody, at rest.
-    pub fn free() -> Axis
-        ensures { λ r. ⌜ r ≡ free ⌝ }
-    {
-        Axis {
-            holder: 0,
-            depth: 0,
-            moving: false,
-            stopping: false,
-        }
+// Held by nobody, at rest.
+pub fn free() -> Axis
+    ensures { λ r. ⌜ r ≡ free ⌝ }
+{
+    Axis {
+        holder: 0,
+        depth: 0,
+        moving: false,
+        stopping: false,
     }
+}
 
-    // A refusal leaves the axis as it was.
-    fn refused(self, number: u32) -> AxisAnswer
-        ensures { λ r. ⌜ r ≡ axisAnswer number self ⌝ }
-    {
-        AxisAnswer { number, axis: self }
-    }
+// A refusal leaves the axis as it was.
+fn refused(x: Axis, number: u32) -> AxisAnswer
+    ensures { λ r. ⌜ r ≡ axisAnswer number x ⌝ }
+{
+    AxisAnswer { number, axis: x }
+}
 
-    // The same locks, with another move.
-    fn in_motion(self, moving: bool, stopping: bool) -> Axis
-        ensures { λ r. ⌜ r ≡ axis (self .holder) (self .depth) moving stopping ⌝ }
-    {
-        Axis {
-            holder: self.holder,
-            depth: self.depth,
-            moving,
-            stopping,
-        }
+// The same locks, with another move.
+fn in_motion(x: Axis, moving: bool, stopping: bool) -> Axis
+    ensures { λ r. ⌜ r ≡ axis (x .holder) (x .depth) moving stopping ⌝ }
+{
+    Axis {
+        holder: x.holder,
+        depth: x.depth,
+        moving,
+        stopping,
     }
+}
 
-    // 20: held by another, or stopping.
-    fn barred(self, by: u32) -> bool
-        ensures { λ r. ⌜ r ≡ barred self by ⌝ }
-    {
-        ((self.holder != 0) & (self.holder != by)) | self.stopping
-    }
+// 20: held by another, or stopping.
+fn barred(x: Axis, by: u32) -> bool
+    ensures { λ r. ⌜ r ≡ barred x by ⌝ }
+{
+    ((x.holder != 0) & (x.holder != by)) | x.stopping
+}
 
-    // One lock more.
-    pub fn begun(self, by: u32) -> AxisAnswer
-        ensures { λ r. ⌜ r ≡ begunOf self by ⌝ }
-    {
-        if self.barred(by) {
-            return self.refused(20);
-        }
-        if 8 <= self.depth {
-            return self.refused(21);
-        }
-        let axis = Axis {
-            holder: by,
-            depth: self.depth + 1,
-            moving: self.moving,
-            stopping: self.stopping,
-        };
-        AxisAnswer { number: 0, axis }
+// One lock more.
+pub fn begun(x: Axis, by: u32) -> AxisAnswer
+    ensures { λ r. ⌜ r ≡ begunOf x by ⌝ }
+{
+    if barred(x, by) {
+        return refused(x, 20);
     }
+    if 8 <= x.depth {
+        return refused(x, 21);
+    }
+    let axis = Axis {
+        holder: by,
+        depth: x.depth + 1,
+        moving: x.moving,
+        stopping: x.stopping,
+    };
+    AxisAnswer { number: 0, axis }
+}
 
-    // The innermost lock ends: the outer one is restored, or after the last the axis is held by nobody.
-    pub fn ended(self, by: u32) -> AxisAnswer
-        ensures { λ r. ⌜ r ≡ endedOf self by ⌝ }
-    {
-        if self.barred(by) {
-            return self.refused(20);
-        }
-        if self.depth == 0 {
-            return self.refused(21);
-        }
-        let holder = words::bits::pick(self.depth == 1, 0, self.holder);
-        let axis = Axis {
-            holder,
-            depth: self.depth - 1,
-            moving: self.moving,
-            stopping: self.stopping,
-        };
-        AxisAnswer { number: 0, axis }
+// The innermost lock ends: the outer one is restored, or after the last the axis is held by nobody.
+pub fn ended(x: Axis, by: u32) -> AxisAnswer
+    ensures { λ r. ⌜ r ≡ endedOf x by ⌝ }
+{
+    if barred(x, by) {
+        return refused(x, 20);
     }
+    if x.depth == 0 {
+        return refused(x, 21);
+    }
+    let holder = words::bits::pick(x.depth == 1, 0, x.holder);
+    let axis = Axis {
+        holder,
+        depth: x.depth - 1,
+        moving: x.moving,
+        stopping: x.stopping,
+    };
+    AxisAnswer { number: 0, axis }
+}
 
-    // A move is unfinished from now on; a start during one joins it.
-    pub fn started(self, by: u32) -> AxisAnswer
-        ensures { λ r. ⌜ r ≡ startedOf self by ⌝ }
-    {
-        if self.barred(by) {
-            return self.refused(20);
-        }
-        if self.depth == 0 {
-            return self.refused(21);
-        }
-        let axis = self.in_motion(true, self.stopping);
-        AxisAnswer { number: 0, axis }
+// A move is unfinished from now on; a start during one joins it.
+pub fn started(x: Axis, by: u32) -> AxisAnswer
+    ensures { λ r. ⌜ r ≡ startedOf x by ⌝ }
+{
+    if barred(x, by) {
+        return refused(x, 20);
     }
+    if x.depth == 0 {
+        return refused(x, 21);
+    }
+    let axis = in_motion(x, true, x.stopping);
+    AxisAnswer { number: 0, axis }
+}
 
-    // An abort: during an unfinished move the axis is stopping from now on.
-    pub fn aborted(self) -> Axis
-        ensures { λ r. ⌜ r ≡ abortedOf self ⌝ }
-    {
-        self.in_motion(self.moving, self.stopping | self.moving)
-    }
+// An abort: during an unfinished move the axis is stopping from now on.
+pub fn aborted(x: Axis) -> Axis
+    ensures { λ r. ⌜ r ≡ abortedOf x ⌝ }
+{
+    in_motion(x, x.moving, x.stopping | x.moving)
+}
 
-    // The move is finished; on a stopping axis the report changes nothing.
-    pub fn finished(self) -> Axis
-        ensures { λ r. ⌜ r ≡ finishedOf self ⌝ }
-    {
-        self.in_motion(self.moving & self.stopping, self.stopping)
-    }
+// The move is finished; on a stopping axis the report changes nothing.
+pub fn finished(x: Axis) -> Axis
+    ensures { λ r. ⌜ r ≡ finishedOf x ⌝ }
+{
+    in_motion(x, x.moving & x.stopping, x.stopping)
+}
 
-    // A stopping axis has stopped: that ends the move and every depth. On another the report changes nothing.
-    pub fn stopped(self) -> Axis
-        ensures { λ r. ⌜ r ≡ stoppedOf self ⌝ }
-    {
-        if self.stopping {
-            return Axis::free();
-        }
-        self
+// A stopping axis has stopped: that ends the move and every depth. On another the report changes nothing.
+pub fn stopped(x: Axis) -> Axis
+    ensures { λ r. ⌜ r ≡ stoppedOf x ⌝ }
+{
+    if x.stopping {
+        return free();
     }
+    x
+}
 
-    // A holder that is not in the view loses its locks; the move and the stopping go on.
-    pub fn seen(self, view: u32) -> Axis
-        ensures { λ r. ⌜ r ≡ lostOf view self ⌝ }
-    {
-        if is_present(view, self.holder) {
-            return self;
-        }
-        Axis {
-            holder: 0,
-            depth: 0,
-            moving: self.moving,
-            stopping: self.stopping,
-        }
+// A holder that is not in the view loses its locks; the move and the stopping go on.
+pub fn seen(x: Axis, view: u32) -> Axis
+    ensures { λ r. ⌜ r ≡ lostOf view x ⌝ }
+{
+    if is_present(view, x.holder) {
+        return x;
     }
+    Axis {
+        holder: 0,
+        depth: 0,
+        moving: x.moving,
+        stopping: x.stopping,
+    }
+}
 
-    // Whether nobody holds the axis and it is not stopping.
-    pub fn is_idle(self) -> bool
-        ensures { λ r. ⌜ r ≡ idle self ⌝ }
-    {
-        (self.depth == 0) & !self.stopping
-    }
+// Whether nobody holds the axis and it is not stopping.
+pub fn is_idle(x: Axis) -> bool
+    ensures { λ r. ⌜ r ≡ idleAxis x ⌝ }
+{
+    (x.depth == 0) & !x.stopping
 }

@@ -1,19 +1,19 @@
 // The scan lock of a backplane of n modules, with a full view and nobody's lock.
-use crate::Answered;
-use crate::Axis;
+use crate::EventAnswer;
 use crate::Locks;
+use crate::on_axis::free;
 use words::bits::full_of;
 ghost use mathlib.Core.Path.{_≡_};
-ghost use Rattle.scanlock.specs.Locks.{opened, blank, openOf};
+ghost use Rattle.scanlock.specs.Locks.{freshLocks, blankLocks, openLocks};
 ghost use Prim.Native.Nat.{_≤_};
 
 impl Locks {
     // Nothing told yet.
     fn fresh(n: u32) -> Locks
         requires { ⌜ n ≤ 16 ⌝ }
-        ensures { λ r. ⌜ r ≡ opened n ⌝ }
+        ensures { λ r. ⌜ r ≡ freshLocks n ⌝ }
     {
-        let one = Axis::free();
+        let one = free();
         Locks {
             n,
             view: full_of(n as usize),
@@ -21,11 +21,11 @@ impl Locks {
         }
     }
 
-    // What a refused opening and a refused image hold: no module is in its range.
+    // What a refused opening and a refused reading hold: no module is in its range.
     pub fn blank() -> Locks
-        ensures { λ r. ⌜ r ≡ blank ⌝ }
+        ensures { λ r. ⌜ r ≡ blankLocks ⌝ }
     {
-        let one = Axis::free();
+        let one = free();
         Locks {
             n: 0,
             view: 0,
@@ -34,22 +34,14 @@ impl Locks {
     }
 
     // 2 for a number of modules that no backplane has.
-    pub fn open(n: u32) -> Answered
-        ensures { λ r. ⌜ r ≡ openOf n ⌝ }
+    pub fn open(n: u32) -> EventAnswer
+        ensures { λ r. ⌜ r ≡ openLocks n ⌝ }
     {
         if (2 <= n) & (n <= 16) {
             let locks = Locks::fresh(n);
-            return Answered {
-                number: 0,
-                index: 0,
-                locks,
-            };
+            return EventAnswer { number: 0, locks };
         }
         let locks = Locks::blank();
-        Answered {
-            number: 2,
-            index: 0,
-            locks,
-        }
+        EventAnswer { number: 2, locks }
     }
 }

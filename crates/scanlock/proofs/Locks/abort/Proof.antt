@@ -2,7 +2,7 @@
 use mathlib.Core.Path.{sym, _∙_}
 use Rattle.scanlock.specs.Axis.{abortedOf}
 use Rattle.scanlock.specs.Locks.{abortOf}
-use Rattle.scanlock.proofs.AnswerLaws.{yes, no, admitted, told}
+use Rattle.scanlock.proofs.LockEventLaws.{yes, no, admitted, told-axis}
 use borrow.Author.Needs.{needs}
 use Rattle.scanlock.proofs.Locks.abort.Statement.{statement}
 use Rattle.scanlock.proofs.Locks.abort.Tie as tie
@@ -24,7 +24,7 @@ unfolding abortOf
 returns c =
     let a = c .before .before .before .before .before .args in
     yes _ (sym (c .before .before .before .before .admits .ensures) ∙ c .before .before .before .if1 .taken)
-    (told (a .self) (a .axis) abortedOf (c .before .before .at .ensures) (c .before .aborted .ensures) (c .put .ensures))
+    (told-axis (a .self) (a .axis) abortedOf (c .before .before .at .ensures) (c .before .aborted .ensures) (c .put .ensures))
 
 refused-requires : tie.Need-refused-requires
 refused-requires c κs = search needs

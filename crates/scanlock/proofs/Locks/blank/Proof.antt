@@ -1,5 +1,5 @@
 -- Eight free axes.
-use Rattle.scanlock.specs.Locks.{blank}
+use Rattle.scanlock.specs.Locks.{blankLocks}
 use borrow.Author.Needs.{needs}
 use Rattle.scanlock.proofs.Locks.blank.Statement.{statement}
 use Rattle.scanlock.proofs.Locks.blank.Tie as tie
@@ -8,7 +8,7 @@ free-requires : tie.Need-free-requires
 free-requires c κs = search needs
 
 returns : tie.Need-returns
-unfolding blank
+unfolding blankLocks
 returns c = cc
 
 pub blank-spec : {M : Type 1} → statement M

@@ -2,7 +2,7 @@
 use mathlib.Core.Path.{sym, _∙_}
 use Rattle.scanlock.specs.Axis.{endedOf}
 use Rattle.scanlock.specs.Locks.{endOf}
-use Rattle.scanlock.proofs.AnswerLaws.{yes, no, admitted, asked}
+use Rattle.scanlock.proofs.LockEventLaws.{yes, no, admitted, asked-axis}
 use borrow.Author.Needs.{needs}
 use Rattle.scanlock.proofs.Locks.end.Statement.{statement}
 use Rattle.scanlock.proofs.Locks.end.Tie as tie
@@ -24,7 +24,7 @@ unfolding endOf
 returns c =
     let a = c .before .before .before .before .before .args in
     yes _ (sym (c .before .before .before .before .admits .ensures) ∙ c .before .before .before .if1 .taken)
-    (asked (a .self) (a .axis) (λ x. endedOf x (a .by)) (c .before .before .at .ensures) (c .before .ended .ensures)
+    (asked-axis (a .self) (a .axis) (λ x. endedOf x (a .by)) (c .before .before .at .ensures) (c .before .ended .ensures)
     (c .settled .ensures))
 
 refused-requires : tie.Need-refused-requires

@@ -2,42 +2,42 @@
 use mathlib.Core.Path.{sym, _∙_}
 use Rattle.scanlock.specs.Axis.{finishedOf}
 use Rattle.scanlock.specs.Locks.{finishedBy}
-use Rattle.scanlock.proofs.AnswerLaws.{yes, no, on-axis, told}
+use Rattle.scanlock.proofs.LockEventLaws.{yes, no, on-axis, told-axis}
 use borrow.Author.Needs.{needs}
 use Rattle.scanlock.proofs.Locks.finished.Statement.{statement}
 use Rattle.scanlock.proofs.Locks.finished.Tie as tie
 
-on-axis-requires : tie.Need-on-axis-requires
-on-axis-requires c κs = search needs
+is-axis-requires : tie.Need-is-axis-requires
+is-axis-requires c κs = search needs
 
 at-requires : tie.Need-at-requires
-at-requires c κs = on-axis _ (sym (c .before .on-axis .ensures) ∙ c .if1 .taken)
+at-requires c κs = on-axis _ (sym (c .before .is-axis .ensures) ∙ c .if1 .taken)
 
 finished-requires : tie.Need-finished-requires
 finished-requires c κs = search needs
 
 put-requires : tie.Need-put-requires
-put-requires c κs = on-axis _ (sym (c .before .before .before .on-axis .ensures) ∙ c .before .before .if1 .taken)
+put-requires c κs = on-axis _ (sym (c .before .before .before .is-axis .ensures) ∙ c .before .before .if1 .taken)
 
 returns : tie.Need-returns
 unfolding finishedBy
 returns c =
     let a = c .before .before .before .before .before .args in
-    yes _ (sym (c .before .before .before .before .on-axis .ensures) ∙ c .before .before .before .if1 .taken)
-    (told (a .self) (a .axis) finishedOf (c .before .before .at .ensures) (c .before .finished .ensures) (c .put .ensures))
+    yes _ (sym (c .before .before .before .before .is-axis .ensures) ∙ c .before .before .before .if1 .taken)
+    (told-axis (a .self) (a .axis) finishedOf (c .before .before .at .ensures) (c .before .finished .ensures) (c .put .ensures))
 
 refused-requires : tie.Need-refused-requires
 refused-requires c κs = search needs
 
 returns-2 : tie.Need-returns-2
 unfolding finishedBy
-returns-2 c = no _ (sym (c .before .before .on-axis .ensures) ∙ c .before .if1 .left) (c .refused .ensures)
+returns-2 c = no _ (sym (c .before .before .is-axis .ensures) ∙ c .before .if1 .left) (c .refused .ensures)
 
 pub finished-spec : {M : Type 1} → statement M
 finished-spec =
     tie.close
     (tie.spec
-    on-axis-requires
+    is-axis-requires
     at-requires
     finished-requires
     put-requires

@@ -1,5 +1,5 @@
 -- Eight free axes and a full view.
-use Rattle.scanlock.specs.Locks.{opened}
+use Rattle.scanlock.specs.Locks.{freshLocks}
 use borrow.Author.Needs.{needs}
 use Rattle.scanlock.proofs.Locks.fresh.Statement.{statement}
 use Rattle.scanlock.proofs.Locks.fresh.Tie as tie
@@ -11,7 +11,7 @@ full-of-requires : tie.Need-full-of-requires
 full-of-requires c κs = search needs
 
 returns : tie.Need-returns
-unfolding opened
+unfolding freshLocks
 returns c = cc
 
 pub fresh-spec : {M : Type 1} → statement M

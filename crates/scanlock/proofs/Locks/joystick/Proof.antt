@@ -1,4 +1,4 @@
--- After i turns the axes below i have been asked.
+-- After i turns the axes below i have been asked-axis.
 use Prim.Native.Nat.{_-_, _≤_}
 use mathlib.Core.Path.{_≡_, refl}
 use native.Mathlib.Omega.{arith}
@@ -6,13 +6,13 @@ use borrow.Author.Needs.{needs}
 use lib.ListN.{getD}
 use Rattle.words.specs.Count.{all}
 use Rattle.words.proofs.CountLaws.{all-step}
-use Rattle.scanlock.specs.Axis.{free, idle}
+use Rattle.scanlock.specs.Axis.{free, idleAxis}
 use Rattle.scanlock.specs.Locks.{joystickOf}
 use Rattle.scanlock.proofs.Locks.joystick.Statement.{statement}
 use Rattle.scanlock.proofs.Locks.joystick.Tie as tie
 
 abbrev Inv-loop : tie.InvT-loop
-Inv-loop axes live₀ i₀ live i = (i ≤ 8) × (live ≡ all i (λ k. idle (getD axes k free)))
+Inv-loop axes live₀ i₀ live i = (i ≤ 8) × (live ≡ all i (λ k. idleAxis (getD axes k free)))
 
 abbrev μ-loop : tie.MeasureT-loop
 μ-loop axes live₀ i₀ live i = 8 - i

@@ -1,7 +1,7 @@
 -- As the axis answered.
 use borrow.Author.Tests.{eq-eqb, ne-eqb}
 use Rattle.scanlock.specs.Locks.{settledOf}
-use Rattle.scanlock.proofs.AnswerLaws.{yes, no}
+use Rattle.scanlock.proofs.LockEventLaws.{yes, no}
 use borrow.Author.Needs.{needs}
 use Rattle.scanlock.proofs.Locks.settled.Statement.{statement}
 use Rattle.scanlock.proofs.Locks.settled.Tie as tie

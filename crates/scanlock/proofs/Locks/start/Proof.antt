@@ -1,8 +1,8 @@
 -- Nothing but 19 stands between the event and the axis that it names.
 use mathlib.Core.Path.{sym, _∙_}
 use Rattle.scanlock.specs.Axis.{startedOf}
-use Rattle.scanlock.specs.Locks.{startOf}
-use Rattle.scanlock.proofs.AnswerLaws.{yes, no, admitted, asked}
+use Rattle.scanlock.specs.Locks.{startMoveOf}
+use Rattle.scanlock.proofs.LockEventLaws.{yes, no, admitted, asked-axis}
 use borrow.Author.Needs.{needs}
 use Rattle.scanlock.proofs.Locks.start.Statement.{statement}
 use Rattle.scanlock.proofs.Locks.start.Tie as tie
@@ -20,18 +20,18 @@ settled-requires : tie.Need-settled-requires
 settled-requires c κs = admitted _ _ _ (sym (c .before .before .before .admits .ensures) ∙ c .before .before .if1 .taken)
 
 returns : tie.Need-returns
-unfolding startOf
+unfolding startMoveOf
 returns c =
     let a = c .before .before .before .before .before .args in
     yes _ (sym (c .before .before .before .before .admits .ensures) ∙ c .before .before .before .if1 .taken)
-    (asked (a .self) (a .axis) (λ x. startedOf x (a .by)) (c .before .before .at .ensures) (c .before .started .ensures)
+    (asked-axis (a .self) (a .axis) (λ x. startedOf x (a .by)) (c .before .before .at .ensures) (c .before .started .ensures)
     (c .settled .ensures))
 
 refused-requires : tie.Need-refused-requires
 refused-requires c κs = search needs
 
 returns-2 : tie.Need-returns-2
-unfolding startOf
+unfolding startMoveOf
 returns-2 c = no _ (sym (c .before .before .admits .ensures) ∙ c .before .if1 .left) (c .refused .ensures)
 
 pub start-spec : {M : Type 1} → statement M

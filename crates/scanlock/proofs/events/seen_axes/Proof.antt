@@ -8,7 +8,7 @@ use Rattle.words.specs.Table.{updated}
 use Rattle.words.proofs.TableLaws.{updated-step}
 use Rattle.scanlock.specs.Axis.{free, lostOf}
 use Rattle.scanlock.specs.Locks.{seenAxes}
-use Rattle.scanlock.proofs.AnswerLaws.{not-yet-seen}
+use Rattle.scanlock.proofs.LockEventLaws.{not-yet-seen}
 use Rattle.scanlock.proofs.events.seen_axes.Statement.{statement}
 use Rattle.scanlock.proofs.events.seen_axes.Tie as tie
 

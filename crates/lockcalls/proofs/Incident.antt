@@ -1,0 +1,32 @@
+-- The incident goes as its table says, entry by entry: computed.
+use mathlib.Core.Path.{_≡_, refl}
+use mathlib.Core.Bool.{true}
+use Rattle.words.specs.Word.{wordAt, bytesOf}
+use Rattle.words.specs.Bits.{bit, pack}
+use Rattle.words.specs.Count.{count, any, all, lowest}
+use Rattle.words.specs.Array.{array, clearFrom}
+use Rattle.setup.specs.Verdict.{check, checkEach}
+use Rattle.setup.specs.Setup.{setupOf, blankSetup}
+use Rattle.setup.specs.Check.{moduleFits, markFits, whole, headOk, limitOk, moduleOk, markOk, checkHead, checkWords, checkSetup, setupTidy, checkFields}
+use Rattle.rules.specs.Lag.{skewed}
+use Rattle.rules.specs.Hearing.{busWord, receptionOf, isHeard, rowIn, causeIn, entryOf, readingOf, causesOf}
+use Rattle.rules.specs.Alignment.{alignedOf}
+use Rattle.vote.specs.Vote.{decision, tally, voteOf, healthOf}
+use Rattle.rules.specs.Accusation.{differsAt, accusationOf, accusationsOf}
+use Rattle.rules.specs.Syndrome.{syndromeOf, votersOf, judgementOf, outgoingOf}
+use Rattle.rules.specs.Account.{charged, rewarded, accounted, accountAt, accountedAt, countersOf}
+use Rattle.image.specs.Fits.{rowFits, penaltyFits, rewardFits}
+use Rattle.presence.specs.Valid.{stateTidy, checkState, stateVerdict}
+use Rattle.presence.specs.Opening.{fresh, blank, checkOpening, openOf}
+use Rattle.presence.specs.Step.{placeOf, markOf, ownSyndrome, alignedFor, judgementFor, outgoingFor, afterRound, refusedStep, acceptedStep, testedStep, readStep, stepOf}
+use Rattle.agreement.specs.Fault.{differ, half, heard, halfIn, breakerIn, unheardIn, within, limit}
+use Rattle.agreement.specs.Session.{bitIn, wordIn, readRound, state, health, handed, sent, keptBy}
+use Rattle.agreement.specs.Stars.{printed, bound, keptTo, right}
+use Rattle.scanlock.specs.Axis.{present, onAxis}
+use Rattle.scanlock.specs.History.{startedMotion, abortedMotion, stoppedMotion, motion, isUnfinished, isHalting, left, latestView, named, taken, number, acceptedEvents, live}
+use Rattle.lockcalls.specs.Cards.{history}
+use Rattle.lockcalls.specs.Incident.{incident}
+
+pub incident-right : right incident ≡ true
+unfolding wordAt bytesOf bit pack count any all lowest array clearFrom check checkEach setupOf blankSetup moduleFits markFits whole headOk limitOk moduleOk markOk checkHead checkWords checkSetup setupTidy checkFields skewed busWord receptionOf isHeard rowIn causeIn entryOf readingOf causesOf alignedOf decision tally voteOf healthOf differsAt accusationOf accusationsOf syndromeOf votersOf judgementOf outgoingOf charged rewarded accounted accountAt accountedAt countersOf rowFits penaltyFits rewardFits stateTidy checkState stateVerdict fresh blank checkOpening openOf placeOf markOf ownSyndrome alignedFor judgementFor outgoingFor afterRound refusedStep acceptedStep testedStep readStep stepOf differ half heard halfIn breakerIn unheardIn within limit bitIn wordIn readRound state health handed sent keptBy printed bound keptTo present onAxis startedMotion abortedMotion stoppedMotion motion isUnfinished isHalting left latestView named taken number acceptedEvents live history
+incident-right = refl

@@ -1,0 +1,6 @@
+pub mod LockCheckLaws
+pub mod LockCallLaws
+pub mod LockImageLaws
+pub mod Callers
+pub mod Cards
+pub mod Incident

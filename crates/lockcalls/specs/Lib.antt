@@ -1,0 +1,5 @@
+pub mod LockImage
+pub mod LockCalls
+pub mod Callers
+pub mod Cards
+pub mod Incident
