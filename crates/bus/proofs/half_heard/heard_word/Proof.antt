@@ -1,0 +1,22 @@
+-- A word is heard where reading it says so.
+use borrow.Author.Needs.{needs}
+use Rattle.rules.specs.Hearing.{entryOf}
+use Rattle.bus.specs.Heard.{heardWord}
+use Rattle.bus.proofs.half_heard.heard_word.Statement.{statement}
+use Rattle.bus.proofs.half_heard.heard_word.Tie as tie
+
+receive-requires : tie.Need-receive-requires
+receive-requires c κs = search needs
+
+is-heard-requires : tie.Need-is-heard-requires
+is-heard-requires c κs = search needs
+
+pick-requires : tie.Need-pick-requires
+pick-requires c κs = search needs
+
+returns : tie.Need-returns
+unfolding heardWord entryOf
+returns c = cc
+
+pub heard-word-spec : {M : Type 1} → statement M
+heard-word-spec = tie.close (tie.spec receive-requires is-heard-requires pick-requires returns)
