@@ -7,7 +7,7 @@ use lib.Dec.{eqb}
 use lib.ListN.{getD}
 use Rattle.words.specs.Bits.{pack}
 use Rattle.words.specs.Array.{array}
-use Rattle.words.proofs.ArrayLaws.{array-step}
+use Rattle.words.proofs.ArrayLaws.{array-step, array-end}
 use Rattle.bus.proofs.arrivals.arrived_bits.Statement.{statement}
 use Rattle.bus.proofs.arrivals.arrived_bits.Tie as tie
 
@@ -42,7 +42,7 @@ loop-again c = (omega arith, array-step _ _ (c .before .before .loop .inv .1) (c
 returns : tie.Need-returns Inv-loop μ-loop
 returns c =
     let e : c .before .loop .i ≡ c .before .before .args .n = omega arith in
-    cc
+    array-end _ e (c .before .loop .inv .1)
 
 pub arrived-bits-spec : {M : Type 1} → statement M
 arrived-bits-spec =

@@ -61,7 +61,7 @@ returns : tie.Need-returns Inv-loop μ-loop
 unfolding table
 returns c =
     let e : c .before .loop .x ≡ 256 = omega arith in
-    cc
+    rw e at (c .before .loop .inv .1)
 
 pub arrived-words-spec : {M : Type 1} → statement M
 arrived-words-spec =

@@ -6,7 +6,7 @@ use native.Mathlib.Omega.{arith}
 use lib.Dec.{eqb}
 use lib.ListN.{getD}
 use Rattle.words.specs.Bits.{pack}
-use Rattle.words.proofs.BitLaws.{pack-step, pack-lt}
+use Rattle.words.proofs.BitLaws.{pack-step, pack-lt, pack-end}
 use Rattle.bus.proofs.arrivals.bits_to.Statement.{statement}
 use Rattle.bus.proofs.arrivals.bits_to.Tie as tie
 
@@ -47,7 +47,7 @@ loop-again c = (omega arith, pack-step _ _ (c .before .before .before .loop .inv
 returns : tie.Need-returns Inv-loop μ-loop
 returns c =
     let e : c .before .loop .j ≡ c .before .before .args .n = omega arith in
-    cc
+    pack-end _ e (c .before .loop .inv .1)
 
 pub bits-to-spec : {M : Type 1} → statement M
 bits-to-spec =

@@ -1,12 +1,12 @@
 -- After j turns the vector has the bits below j.
-use Prim.Native.Nat.{_-_, _≤_}
-use mathlib.Core.Path.{_≡_, refl}
+use Prim.Native.Nat.{ℕ, _-_, _≤_}
+use mathlib.Core.Path.{_≡_, refl, ap, _∙_}
 use mathlib.Core.Bool.{cond}
 use native.Mathlib.Omega.{arith}
 use lib.Dec.{ltb}
 use borrow.Author.Needs.{needs}
 use Rattle.words.specs.Bits.{bit, pack}
-use Rattle.words.proofs.BitLaws.{pack-step, pack-lt}
+use Rattle.words.proofs.BitLaws.{pack-step, pack-lt, pack-end}
 use Rattle.bus.specs.Bus.{readBits}
 use Rattle.bus.proofs.arrivals.read_bits.Statement.{statement}
 use Rattle.bus.proofs.arrivals.read_bits.Tie as tie
@@ -42,15 +42,14 @@ loop-less c = omega arith
 loop-again : tie.Need-loop-again Inv-loop μ-loop
 loop-again c =
     let l = c .before .before .before .before .loop in
-    let a = c .before .before .before .before .before .args in
-    let q : c .before .bit-at .result ≡ bit (cond (ltb (l .j) (a .place)) (a .this) (a .before)) (l .j) = cc in
+    let q = c .before .bit-at .ensures ∙ ap (λ (v : ℕ). bit v (l .j)) (c .before .before .pick .ensures) in
     (omega arith, pack-step _ _ (l .inv .1) q (c .with-bit .ensures))
 
 returns : tie.Need-returns Inv-loop μ-loop
 unfolding readBits
 returns c =
     let e : c .before .loop .j ≡ c .before .before .args .n = omega arith in
-    cc
+    pack-end _ e (c .before .loop .inv .1)
 
 pub read-bits-spec : {M : Type 1} → statement M
 read-bits-spec =

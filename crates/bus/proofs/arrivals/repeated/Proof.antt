@@ -37,7 +37,7 @@ returns : tie.Need-returns Inv-loop μ-loop
 unfolding table
 returns c =
     let e : c .before .loop .x ≡ 256 = omega arith in
-    cc
+    rw e at (c .before .loop .inv .1)
 
 pub repeated-spec : {M : Type 1} → statement M
 repeated-spec =

@@ -4,7 +4,7 @@ use mathlib.Core.Path.{_≡_, refl}
 use native.Mathlib.Omega.{arith}
 use lib.ListN.{getD}
 use Rattle.words.specs.Bits.{pack}
-use Rattle.words.proofs.BitLaws.{pack-step, pack-lt}
+use Rattle.words.proofs.BitLaws.{pack-step, pack-lt, pack-end}
 use Rattle.bus.specs.Heard.{otherwise}
 use Rattle.bus.proofs.half_heard.half_heard.Statement.{statement}
 use Rattle.bus.proofs.half_heard.half_heard.Tie as tie
@@ -49,7 +49,7 @@ loop-again c = (omega arith, pack-step _ _ (c .before .before .before .before .l
 returns : tie.Need-returns Inv-loop μ-loop
 returns c =
     let e : c .before .loop .j ≡ c .before .before .args .n = omega arith in
-    cc
+    pack-end _ e (c .before .loop .inv .1)
 
 pub half-heard-spec : {M : Type 1} → statement M
 half-heard-spec =

@@ -3,7 +3,7 @@ use Prim.Native.Nat.{_-_, _≤_}
 use mathlib.Core.Path.{_≡_, refl}
 use native.Mathlib.Omega.{arith}
 use Rattle.words.specs.Bits.{pack}
-use Rattle.words.proofs.BitLaws.{pack-step, pack-lt}
+use Rattle.words.proofs.BitLaws.{pack-step, pack-lt, pack-end}
 use Rattle.bus.specs.Heard.{otherwise}
 use Rattle.bus.proofs.half_heard.heard_senders.Statement.{statement}
 use Rattle.bus.proofs.half_heard.heard_senders.Tie as tie
@@ -36,7 +36,7 @@ loop-again c = (omega arith, pack-step _ _ (c .before .before .before .loop .inv
 returns : tie.Need-returns Inv-loop μ-loop
 returns c =
     let e : c .before .loop .j ≡ c .before .before .args .n = omega arith in
-    cc
+    pack-end _ e (c .before .loop .inv .1)
 
 pub heard-senders-spec : {M : Type 1} → statement M
 heard-senders-spec =

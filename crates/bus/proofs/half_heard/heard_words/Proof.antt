@@ -1,6 +1,7 @@
 -- After x turns the first x entries are the heard words.
 use Prim.Native.Nat.{_-_, _/_, _%_, _≤_}
-use mathlib.Core.Path.{_≡_, refl}
+use mathlib.Core.Path.{_≡_, refl, ap, _∙_}
+use mathlib.Core.Bool.{Bool}
 use native.Mathlib.Omega.{arith}
 use lib.ListN.{getD, replicate}
 use borrow.Author.Needs.{needs}
@@ -55,14 +56,14 @@ loop-again : tie.Need-loop-again Inv-loop μ-loop
 loop-again c =
     let l = c .before .before .before .before .loop in
     let a = c .before .before .before .before .before .args in
-    let q : c .heard-word .result ≡ heardWord (a .n) (bit (getD (a .t2) (l .x / 16) 0) (l .x % 16)) (getD (a .words .now) (l .x) 0) = cc in
+    let q = c .heard-word .ensures ∙ ap (λ (b : Bool). heardWord (a .n) b (getD (a .words .now) (l .x) 0)) (c .before .before .bit-at .ensures) in
     (omega arith, updated-step _ _ _ (l .inv .1) q)
 
 returns : tie.Need-returns Inv-loop μ-loop
 unfolding table heardWords
 returns c =
     let e : c .before .loop .x ≡ 256 = omega arith in
-    cc
+    rw e at (c .before .loop .inv .1)
 
 pub heard-words-spec : {M : Type 1} → statement M
 heard-words-spec =

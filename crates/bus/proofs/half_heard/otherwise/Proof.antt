@@ -1,13 +1,13 @@
 -- After i turns `some` says whether one of the first i modules has another word.
 use Prim.Native.Nat.{_+_, _-_, _*_, _≤_}
-use mathlib.Core.Path.{_≡_, refl}
-use mathlib.Core.Bool.{not, _&&_}
+use mathlib.Core.Path.{_≡_, refl, ap}
+use mathlib.Core.Bool.{Bool, not, _&&_}
 use native.Mathlib.Omega.{arith}
 use lib.Dec.{eqb}
 use lib.ListN.{getD}
 use Rattle.words.specs.Bits.{bit}
 use Rattle.words.specs.Count.{any}
-use Rattle.words.proofs.CountLaws.{any-more}
+use Rattle.words.proofs.CountLaws.{any-step}
 use Rattle.bus.specs.Heard.{otherwise}
 use Rattle.bus.proofs.half_heard.otherwise.Statement.{statement}
 use Rattle.bus.proofs.half_heard.otherwise.Tie as tie
@@ -44,13 +44,18 @@ loop-less : tie.Need-loop-less Inv-loop μ-loop
 loop-less c = omega arith
 
 loop-again : tie.Need-loop-again Inv-loop μ-loop
-loop-again c = (omega arith, rw any-more (cc))
+loop-again c =
+    let l = c .before .before .before .loop in
+    let a = c .before .before .before .before .args in (
+      omega arith,
+      any-step (l .i) _ (l .inv .1) (ap (λ (b : Bool). not b && not (eqb (getD (a .heard .now) (l .i * 16 + a .j) 0) (a .w))) (c .before .bit-at .ensures)),
+    )
 
 returns : tie.Need-returns Inv-loop μ-loop
 unfolding Rattle.bus.specs.Heard.otherwise
 returns c =
     let e : c .before .loop .i ≡ c .before .before .args .n = omega arith in
-    cc
+    rw e at (c .before .loop .inv .1)
 
 pub otherwise-spec : {M : Type 1} → statement M
 otherwise-spec =
