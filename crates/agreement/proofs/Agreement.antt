@@ -13,7 +13,7 @@ use Rattle.words.proofs.Truth.{clash, which, and-l, and-r, and-true, or-l, or-r
 use Rattle.words.proofs.CountLaws.{any-ext, any-empty, count-mono, count-or, count-none, count-zero, count-one}
 use Rattle.vote.specs.Vote.{tally}
 use Rattle.vote.proofs.VoteLaws.{same, tally-value, tally-ext}
-use Rattle.agreement.specs.Fault.{half, heard, halfIn, breakerIn}
+use Rattle.agreement.specs.Fault.{half, heard, senders, halfIn, breakerIn}
 use Rattle.agreement.proofs.FaultLaws.{Follower, limit-cases, reliable, alike, unheard-by, Reliable, reliable-is, fault-of}
 use Rattle.agreement.proofs.Protocol.{Protocol, Agree, now, past, present, says, rowDiffers, Kept, Rules}
 
@@ -91,10 +91,10 @@ module _ (P : Protocol) (last : ℕ) (R : Rules P last) where
 
     -- who can be at fault, by the limit of this step
     abbrev A : ℕ → Bool
-    A = halfIn n follows (now P (suc k)) (past P (suc k))
+    A = halfIn (senders n follows (now P (suc k))) (senders n follows (past P (suc k)))
 
     abbrev S : ℕ → Bool
-    S l = elect (suc k) l && breakerIn n follows (now P (suc k)) (past P (suc k)) l
+    S l = elect (suc k) l && breakerIn follows (senders n follows (now P (suc k))) (senders n follows (past P (suc k))) l
 
     abbrev ruled : ℕ → Type 0
     ruled j = count n A + count n S < count n (reliable n follows (elect (suc k)) (now P (suc k)) (past P (suc k)) j)

@@ -6,8 +6,8 @@ use mathlib.Core.Logic.{inl, inr, ⊎-elim}
 use native.Mathlib.Omega.{arith}
 use native.Mathlib.Nat.{eq-zero-or-pos}
 use Rattle.words.specs.Bits.{bit}
-use Rattle.agreement.specs.Fault.{limit}
-use Rattle.agreement.specs.Session.{Session, Accepted, size, u, follows, round, Bound, viewOf, keptBy, firstFollower}
+use Rattle.agreement.specs.Fault.{firstFollower, limit}
+use Rattle.agreement.specs.Session.{Session, Accepted, size, u, follows, round, Bound, viewOf, keptBy}
 use Rattle.agreement.specs.Demand.{KeptTo}
 use Rattle.agreement.specs.Ledger.{AnyAccount}
 use Rattle.agreement.proofs.Protocol.{Agree, Kept}
@@ -25,7 +25,7 @@ module _ (S : Session) (ok : Accepted S) (last : ℕ) (bound : Bound S last) whe
       let e : m - u S + u S - 1 ≡ m - 1 = omega arith in
       let le : m - u S ≤ k - u S = omega arith in
       inr
-      (subst (λ (r : ℕ). limit (size S) (follows S) (bit (viewOf S (firstFollower S) r)) (round S (m - u S)) (round S (m - u S - u S - 1)) ≡ true) e
+      (subst (λ (r : ℕ). limit (size S) (follows S) (bit (viewOf S (firstFollower (size S) (follows S)) r)) (round S (m - u S)) (round S (m - u S - u S - 1)) ≡ true) e
       (lim (m - u S) pos le)))
       (eq-zero-or-pos (m - u S))
 

@@ -1,14 +1,10 @@
 -- What rule-followers share as long as their health vectors are one: any account that is kept of them alone, the counters among them, and the view.
 use Prim.Native.Nat.{ℕ, zero, suc, _-_, _^_, _≤_, _<_}
 use mathlib.Core.Path.{_≡_, refl, sym, ap, ap₂, _∙_, subst}
-use mathlib.Core.Logic.{⊎-elim}
 use native.Mathlib.Omega.{arith}
-use native.Mathlib.Nat.{le-refl, eq-zero-or-pos}
+use native.Mathlib.Nat.{le-refl}
 use Rattle.words.specs.Bits.{bit}
-use Rattle.words.specs.Count.{lowest}
-use Rattle.words.proofs.Truth.{clash}
 use Rattle.words.proofs.BitLaws.{bit-ext}
-use Rattle.words.proofs.LowestLaws.{lowest-le, lowest-zero, lowest-passes}
 use Rattle.setup.specs.declared.Setup.{Setup}
 use Rattle.rules.specs.Account.{countersOf}
 use Rattle.presence.specs.Opening.{fresh}
@@ -16,9 +12,10 @@ use Rattle.presence.specs.Step.{judgementFor, afterRound}
 use Rattle.rules.specs.declared.Counters.{Counters}
 use Rattle.presence.specs.declared.State.{State}
 use Rattle.rules.proofs.SyndromeLaws.{health-lt}
-use Rattle.agreement.specs.Session.{Session, Accepted, size, u, RuleFollower, follows, round, state, health, viewOf, firstFollower}
+use Rattle.agreement.specs.Fault.{firstFollower}
+use Rattle.agreement.specs.Session.{Session, Accepted, size, u, RuleFollower, follows, round, state, health, viewOf}
 use Rattle.agreement.specs.Ledger.{ledger}
-use Rattle.agreement.proofs.FaultLaws.{Follower}
+use Rattle.agreement.proofs.FaultLaws.{Follower, first-follower}
 use Rattle.agreement.proofs.Protocol.{Protocol, Agree}
 use Rattle.agreement.proofs.Steps.{reading, held, state-zero, state-suc, health-suc}
 use Rattle.agreement.proofs.Aligned.{own-size}
@@ -35,7 +32,7 @@ module _ (S : Session) where
     u = u S;
     follows = follows S;
     round = round S;
-    elect = λ k l. bit (viewOf S (firstFollower S) (k - 1)) l;
+    elect = λ k l. bit (viewOf S (firstFollower (size S) (follows S)) (k - 1)) l;
     counted = λ k i l. bit (viewOf S i (k - 1)) l;
     syn = λ k i j. bit (state S i k .latest) j;
     health = λ k i j. bit (health S i k) j;
@@ -46,15 +43,6 @@ module _ (S : Session) where
 
   pub rule-follower : (i : ℕ) → Follower n (follows S) i → RuleFollower S i
   rule-follower i f = record { below = f .below; true-to = f .true-to }
-
-  -- where there is a rule-follower, the first one is one
-  pub first-follower : (i : ℕ) → RuleFollower S i → RuleFollower S (firstFollower S)
-  first-follower i f =
-      let some : 0 < lowest n (follows S)
-      = ⊎-elim (λ (z : lowest n (follows S) ≡ 0). clash (follows S i) (f .true-to) (lowest-zero (follows S) n z i (f .below))) (λ h. h)
-      (eq-zero-or-pos (lowest n (follows S))) in
-      let le = lowest-le (follows S) n in
-      record { below = omega arith; true-to = lowest-passes (follows S) n (firstFollower S) (omega arith) }
 
 module _ (S : Session) (ok : Accepted S) where
   health-small : (i k : ℕ) → i < size S → health S i (suc k) < 2 ^ size S
@@ -104,13 +92,13 @@ counters-eq S ok k ag i i′ fi fi′ =
     counters-are S ok i (fi .below) k ∙ ledger-eq S ok (fresh-counters S) (rule-8 S) i i′ fi fi′ k ag ∙ sym (counters-are S ok i′ (fi′ .below) k)
 
 pub view-eq : (S : Session) → Accepted S → (k : ℕ) → ((m : ℕ) → m ≤ k → Agree (protocol S) m) → (i : ℕ) → RuleFollower S i
-    → viewOf S i k ≡ viewOf S (firstFollower S) k
+    → viewOf S i k ≡ viewOf S (firstFollower (size S) (follows S)) k
 view-eq S ok k ag i fi =
-    ap (λ (c : Counters). c .view) (counters-eq S ok k ag i (firstFollower S) fi (first-follower S i fi))
+    ap (λ (c : Counters). c .view) (counters-eq S ok k ag i (firstFollower (size S) (follows S)) fi (rule-follower S _ (first-follower (size S) (follows S) i (follower S i fi))))
 
 -- Rule-followers that agreed in the steps before count the same rows.
 pub counting : (S : Session) → Accepted S → (k i l : ℕ) → ((m : ℕ) → m < k → Agree (protocol S) m) → RuleFollower S i
-    → bit (viewOf S i (k - 1)) l ≡ bit (viewOf S (firstFollower S) (k - 1)) l
+    → bit (viewOf S i (k - 1)) l ≡ bit (viewOf S (firstFollower (size S) (follows S)) (k - 1)) l
 unfolding health
 counting S ok zero i l ag fi =
     ap (λ (v : ℕ). bit v l) (view-eq S ok 0 (λ m h i i′ j fi fi′ hj. let e : m ≡ 0 = omega arith in rw e refl) i fi)

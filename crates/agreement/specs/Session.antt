@@ -11,7 +11,6 @@ use lib.Dec.{ltb}
 use lib.ListN.{getD}
 use Rattle.words.specs.Word.{bytesOf}
 use Rattle.words.specs.Bits.{bit, pack, full}
-use Rattle.words.specs.Count.{lowest}
 use Rattle.setup.specs.Check.{setupVerdict}
 use Rattle.setup.specs.declared.Setup.{Setup}
 use Rattle.rules.specs.Lag.{lag}
@@ -20,7 +19,7 @@ use Rattle.presence.specs.Opening.{openOf}
 use Rattle.presence.specs.Step.{stepOf}
 use Rattle.presence.specs.declared.State.{State}
 use Rattle.presence.specs.declared.Stepped.{Stepped}
-use Rattle.agreement.specs.Fault.{Round, half, heard, limit}
+use Rattle.agreement.specs.Fault.{Round, followsIn, firstFollower, half, heard, limit}
 
 -- what a session holds; that its setup is accepted and its words are bound is said by `Accepted` and `Bound`
 pub record Session : Type 0 where
@@ -47,7 +46,7 @@ module _ (S : Session) where
 
   -- i is not in the cast
   abbrev pub follows : ℕ → Bool
-  follows i = not (bit (S .cast) i)
+  follows = followsIn (S .cast)
 
   -- i is one of the N modules, and not in the cast
   pub record RuleFollower (i : ℕ) : Type 0 where
@@ -133,11 +132,7 @@ module _ (S : Session) where
   unfoldable pub keptBy : ℕ → ℕ → Bool
   keptBy i ρ = limit size follows (bit (viewOf i (ρ + u - 1))) (round ρ) (round (ρ - u - 1))
 
-  -- the lowest rule-follower; where there is none it does not matter who this is, since then a and s are 0
-  abbrev pub firstFollower : ℕ
-  firstFollower = lowest size follows - 1
-
   -- The limit for round ρ by the rule-followers' view, which is that of the lowest of them: as long as the limit was kept for the rounds before ρ
-  -- all of them hold the same (`one-view` of Demand.antt).
+  -- all of them hold the same (`one-view` of Demand.antt). Where there is none it does not matter whose view is taken, since then a and s are 0.
   abbrev pub kept : ℕ → Bool
-  kept ρ = keptBy firstFollower ρ
+  kept ρ = keptBy (firstFollower size follows) ρ

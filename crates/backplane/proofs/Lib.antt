@@ -1,10 +1,8 @@
-pub mod HearingLaws
-pub mod LimitLaws
 pub mod PlayLaws
-pub mod RoundLaws
+pub mod SessionLaws
 pub mod StartLaws
-pub mod RunLaws
-pub mod SoundLaws
+pub mod RunPartLaws
+pub mod SoundRunLaws
 pub mod Session
 pub mod OutputLaws
 pub mod Sheet

@@ -25,7 +25,7 @@ use Rattle.backplane.specs.Play.{Sound}
 use Rattle.backplane.specs.Run.{begun, nextOf, later, runAt, printed}
 use Rattle.backplane.specs.Output.{linesTo, outputOf, roundLines, nextLines, partOf, partsOf, partsTo, PartsWhole, readMost, ReadEnough}
 use Rattle.backplane.specs.declared.Run.{Run}
-use Rattle.backplane.proofs.SoundLaws.{begun-sound, next-sound}
+use Rattle.backplane.proofs.SoundRunLaws.{begun-sound, next-sound}
 use Rattle.backplane.proofs.Session.{run-cursor}
 
 -- ---- a run m rounds later

@@ -7,7 +7,7 @@ use native.Mathlib.Omega.{arith}
 use native.Mathlib.Nat.{le-refl}
 use lib.ListN.{getD, length, length-append, take}
 use lib.Seq.{take-append-seam}
-use Rattle.words.specs.Bits.{full}
+use Rattle.words.specs.Bits.{bit, full}
 use Rattle.words.specs.Array.{array}
 use Rattle.words.specs.Table.{updated}
 use Rattle.words.proofs.TableLaws.{updated-above, getD-there}
@@ -16,11 +16,12 @@ use Rattle.rules.specs.Lag.{skewed}
 use Rattle.presence.specs.Opening.{blank}
 use Rattle.presence.specs.declared.State.{State}
 use Rattle.script.specs.declared.Events.{Events}
-use Rattle.backplane.specs.Bus.{faultless, arrived}
-use Rattle.backplane.specs.Limit.{hearingOf, keptOver}
+use Rattle.agreement.specs.Fault.{followsIn, keptOver}
+use Rattle.bus.specs.Bus.{faultless, arrived}
+use Rattle.bus.specs.Senders.{hearingOf, sendersIn}
 use Rattle.backplane.specs.Play.{openedStates, opened, sentWords, steppedStates, answeredHealth, earlier, followersView, countingView, played}
-use Rattle.backplane.specs.declared.Bus.{Bus}
-use Rattle.backplane.specs.declared.Hearing.{Hearing}
+use Rattle.bus.specs.declared.Bus.{Bus}
+use Rattle.bus.specs.declared.Hearing.{Hearing}
 use Rattle.backplane.specs.declared.Backplane.{Backplane}
 
 -- in turn i of a loop that steps the modules, module i + 1 is still as it was
@@ -87,13 +88,16 @@ module _ (b : Backplane) (e : Events) where
   abbrev health : Bus → List ℕ
   health x = answeredHealth (b .setup) (b .states) x (b .bus)
 
+  abbrev limitOf : ℕ → Hearing → Hearing → Bool
+  limitOf view h h′ = keptOver (b .setup .n) (followsIn (b .cast)) (bit view) (sendersIn h) (sendersIn h′)
+
   abbrev this : Bus
   this = arrived (b .setup .n) (sentWords (b .setup .n) (b .states)) e
 
   pub play-made : {stepped : List State} {answered : List ℕ} {sent : List ℕ} {bus : Bus} {hearing then : Hearing} {view : ℕ} {kept : Bool}
       → sent ≡ sentWords (b .setup .n) (b .states) → bus ≡ arrived (b .setup .n) sent e
       → stepped ≡ steppedStates (b .setup) (b .states) bus (b .bus) → answered ≡ answeredHealth (b .setup) (b .states) bus (b .bus) → hearing ≡ hearingOf (b .setup .n) (b .cast) bus
-      → view ≡ countingView b stepped → then ≡ earlier b → kept ≡ keptOver (b .setup .n) (b .cast) view hearing then
+      → view ≡ countingView b stepped → then ≡ earlier b → kept ≡ limitOf view hearing then
       → next stepped answered bus hearing kept ≡ played b e
   unfolding played
   play-made {stepped} {answered} {sent} {bus} {hearing} {then} {view} {kept} e0 e1 e2 e3 e4 v e5 e6 =
@@ -103,5 +107,4 @@ module _ (b : Backplane) (e : Events) where
       let w : view ≡ countingView b (states this) = v ∙ ap (countingView b) (e2 ∙ ap states q) in
       ap₂ (λ (x : List State) (y : List ℕ). next x y bus hearing kept) (e2 ∙ ap states q) (e3 ∙ ap health q)
       ∙ ap₂ (λ (x : Bus) (y : Hearing). next (states this) (health this) x y kept) q h
-      ∙ ap (λ (x : Bool). next (states this) (health this) this (hearingOf n (b .cast) this) x) (e6 ∙ ap (λ (x : ℕ). keptOver n (b .cast) x hearing then) w
-      ∙ ap₂ (keptOver n (b .cast) (countingView b (states this))) h e5)
+      ∙ ap (λ (x : Bool). next (states this) (health this) this (hearingOf n (b .cast) this) x) (e6 ∙ ap (λ (x : ℕ). limitOf x hearing then) w ∙ ap₂ (limitOf (countingView b (states this))) h e5)

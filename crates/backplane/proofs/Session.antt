@@ -33,22 +33,22 @@ use Rattle.script.specs.Effect.{fateIn, toldIn}
 use Rattle.script.specs.declared.Cursor.{Cursor}
 use Rattle.script.specs.declared.Events.{Events}
 use Rattle.script.proofs.CastLaws.{only-cast, plays-all}
-use Rattle.agreement.specs.Fault.{limit}
-use Rattle.agreement.specs.Session.{Session, Accepted, size, u, follows, bitIn, wordIn, round, state, health, viewOf, keptBy, firstFollower, kept}
+use Rattle.agreement.specs.Fault.{followsIn, firstFollower, keptOver, limit}
+use Rattle.agreement.specs.Session.{Session, Accepted, size, u, follows, bitIn, wordIn, round, state, health, viewOf, keptBy, kept}
 use Rattle.agreement.specs.Life.{Life, opens, steps}
 use Rattle.agreement.specs.Demand.{KeptTo}
 use Rattle.agreement.specs.Existence.{Choice}
 use Rattle.agreement.proofs.Steps.{small, setup-fits}
 use Rattle.agreement.proofs.Demand.{demand-3}
 use Rattle.agreement.proofs.Existence.{existence}
-use Rattle.backplane.specs.Bus.{faultless, arrived}
-use Rattle.backplane.specs.Limit.{hearingOf, keptOver}
+use Rattle.bus.specs.Bus.{faultless, arrived}
+use Rattle.bus.specs.Senders.{hearingOf, sendersIn}
 use Rattle.backplane.specs.Play.{stateAt, openedStates, opened, sentWords, steppedStates, answeredHealth, earlier, followersView, countingView, played}
 use Rattle.backplane.specs.Run.{begun, goesOn, nextOf, later, runAt}
 use Rattle.backplane.specs.Session.{PlayedBy, HasSession, Carries, Hears, Holds, PlaysSession, InAgrees}
 use Rattle.backplane.specs.declared.Backplane.{Backplane}
 use Rattle.backplane.proofs.StartLaws.{accepts, setup-read}
-use Rattle.backplane.proofs.RoundLaws.{Tells, hears-bus, limit-as, carries, states-as, health-as}
+use Rattle.backplane.proofs.SessionLaws.{Tells, hears-bus, limit-as, carries, states-as, health-as}
 
 -- ---- round by round
 
@@ -100,24 +100,24 @@ module _ (S : Session) (ok : Accepted S) where
       go false = let e : suc k - 0 - 1 ≡ k = omega arith in rw e (h .holds .hearing)
 
   -- the rule-followers' view, in states after round m
-  view-as : (states : List State) (m : ℕ) → ((i : ℕ) → i < n → stateAt states i ≡ state S i m) → followersView n (S .cast) states ≡ viewOf S (firstFollower S) m
-  unfolding followersView Rattle.backplane.specs.Limit.firstFollower
+  view-as : (states : List State) (m : ℕ) → ((i : ℕ) → i < n → stateAt states i ≡ state S i m) → followersView n (S .cast) states ≡ viewOf S (firstFollower n (follows S)) m
+  unfolding followersView
   view-as states m are =
       let most = lowest-le (follows S) n in
       let least = setup-fits S ok .least in
-      ap (λ (x : State). x .counters .view) (are (firstFollower S) (omega arith))
+      ap (λ (x : State). x .counters .view) (are (firstFollower n (follows S)) (omega arith))
 
   -- the view by which the rows of round k + 1 are counted is that at the end of round k + 1 + u - 1
   counting-as : (k : ℕ) (b : Backplane) → Shows k b → (after : List State) → ((i : ℕ) → i < n → stateAt after i ≡ state S i (suc k))
-      → countingView b after ≡ viewOf S (firstFollower S) (suc k + u S - 1)
+      → countingView b after ≡ viewOf S (firstFollower n (follows S)) (suc k + u S - 1)
   unfolding countingView
   counting-as k b h after are =
       ap₂ (λ (x : Setup) (y : ℕ). cond (skewed (x .n) (x .places)) (followersView (x .n) y after) (followersView (x .n) y (b .states))) (h .holds .setup) (h .cast)
       ∙ go (skewed n (S .setup .places))
     where
-      go : (t : Bool) → cond t (followersView n (S .cast) after) (followersView n (S .cast) (b .states)) ≡ viewOf S (firstFollower S) (suc k + b2n t - 1)
-      go true = let e : suc k ≡ suc k + 1 - 1 = omega arith in view-as after (suc k) are ∙ ap (λ (m : ℕ). viewOf S (firstFollower S) m) e
-      go false = let e : k ≡ suc k + 0 - 1 = omega arith in view-as (b .states) k (h .holds .states) ∙ ap (λ (m : ℕ). viewOf S (firstFollower S) m) e
+      go : (t : Bool) → cond t (followersView n (S .cast) after) (followersView n (S .cast) (b .states)) ≡ viewOf S (firstFollower n (follows S)) (suc k + b2n t - 1)
+      go true = let e : suc k ≡ suc k + 1 - 1 = omega arith in view-as after (suc k) are ∙ ap (λ (m : ℕ). viewOf S (firstFollower n (follows S)) m) e
+      go false = let e : k ≡ suc k + 0 - 1 = omega arith in view-as (b .states) k (h .holds .states) ∙ ap (λ (m : ℕ). viewOf S (firstFollower n (follows S)) m) e
 
   shows-next : (k : ℕ) (b : Backplane) (e : Events) → Shows k b → Tells S ok k e → Shows (suc k) (played b e)
   unfolding played steppedStates all keptBy
@@ -133,8 +133,8 @@ module _ (S : Session) (ok : Accepted S) where
       ap (λ (x : Setup). stateAt (steppedStates x (b .states) this (b .bus)) i) s
       ∙ states-as S ok k (b .states) (h .holds .states) this (b .bus) c (h .holds .bus) (h .entries) i hi in
       let view = countingView b after in
-      let limit : keptOver (b .setup .n) (b .cast) view (hearingOf (b .setup .n) (b .cast) this) (earlier b) ≡ kept S (suc k) =
-      ap₂ (λ (x : Setup) (y : ℕ). keptOver (x .n) y view (hearingOf (b .setup .n) (b .cast) this) (earlier b)) s (h .cast)
+      let limit : keptOver (b .setup .n) (followsIn (b .cast)) (bit view) (sendersIn (hearingOf (b .setup .n) (b .cast) this)) (sendersIn (earlier b)) ≡ kept S (suc k) =
+      ap₂ (λ (x : Setup) (y : ℕ). keptOver (x .n) (followsIn y) (bit view) (sendersIn (hearingOf (b .setup .n) (b .cast) this)) (sendersIn (earlier b))) s (h .cast)
       ∙ limit-as S ok (suc k) (suc k - u S - 1) _ _ heard (earlier-hears k b h) view
       ∙ ap (λ (v : ℕ). limit n (follows S) (bit v) (round S (suc k)) (round S (suc k - u S - 1))) (counting-as k b h after are) in
       let one : suc k - 1 ≡ k = omega arith in

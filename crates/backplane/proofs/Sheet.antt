@@ -24,16 +24,16 @@ use Rattle.script.specs.Check.{playRefusal, eventRefusal, refusal, scanned, fin
 use Rattle.script.specs.Events.{none, concerns, withEvent}
 use Rattle.script.specs.Cursor.{isPlay, lieAfter, eventsAfter, gather, start, advanced}
 use Rattle.script.specs.Rounds.{lastScan, roundsOf}
-use Rattle.agreement.specs.Fault.{differ, half, heard, within}
+use Rattle.agreement.specs.Fault.{differ, half, heard, halfIn, breakerIn, unheardIn, within, keptOver}
 use Rattle.text.specs.Text.{numeral, vector}
 use Rattle.text.specs.Lines.{lineWith, linesOf, refusedLine}
-use Rattle.backplane.specs.Bus.{roundOf, faultless, arrived, readWords, readBits}
-use Rattle.backplane.specs.Limit.{firstFollower, hearingOf, isHalf, isBreaker, isUnheard, keptOver}
+use Rattle.bus.specs.Bus.{roundOf, faultless, arrived, readWords, readBits}
+use Rattle.bus.specs.Senders.{hearingOf}
 use Rattle.backplane.specs.Play.{followersView, countingView, openedStates, opened, sentWords, stepAt, steppedStates, answeredHealth, earlier, played}
 use Rattle.backplane.specs.Run.{begun, goesOn, nextOf, later, printed}
 use Rattle.backplane.specs.Output.{linesTo, outputOf}
 use Rattle.backplane.specs.Sheet.{Written}
 
 pub written : Written
-unfolding wordAt bytesOf bit pack count any all lowest array clearFrom updated table check checkEach setupOf blankSetup moduleFits markFits whole headOk limitOk moduleOk markOk checkHead checkWords checkFront setupPart checkSetup setupTidy checkFields readSetup skewed busWord receptionOf isHeard rowIn causeIn entryOf readingOf causesOf alignedOf decision tally voteOf healthOf differsAt accusationOf accusationsOf syndromeOf votersOf judgementOf outgoingOf charged rewarded accounted accountAt accountedAt countersOf rowFits penaltyFits rewardFits stateTidy checkState stateVerdict fresh blank checkOpening openOf placeOf markOf ownSyndrome alignedFor judgementFor outgoingFor afterRound refusedStep acceptedStep testedStep readStep stepOf castOk eventOk playOk playRefusal eventRefusal refusal scanned finished scan checkPlay checkScript none concerns withEvent isPlay lieAfter eventsAfter gather start advanced lastScan roundsOf differ half heard within numeral vector lineWith linesOf refusedLine roundOf faultless arrived readWords readBits firstFollower followersView countingView hearingOf isHalf isBreaker isUnheard keptOver openedStates opened sentWords stepAt steppedStates answeredHealth earlier played begun goesOn nextOf later printed linesTo outputOf
+unfolding wordAt bytesOf bit pack count any all lowest array clearFrom updated table check checkEach setupOf blankSetup moduleFits markFits whole headOk limitOk moduleOk markOk checkHead checkWords checkFront setupPart checkSetup setupTidy checkFields readSetup skewed busWord receptionOf isHeard rowIn causeIn entryOf readingOf causesOf alignedOf decision tally voteOf healthOf differsAt accusationOf accusationsOf syndromeOf votersOf judgementOf outgoingOf charged rewarded accounted accountAt accountedAt countersOf rowFits penaltyFits rewardFits stateTidy checkState stateVerdict fresh blank checkOpening openOf placeOf markOf ownSyndrome alignedFor judgementFor outgoingFor afterRound refusedStep acceptedStep testedStep readStep stepOf castOk eventOk playOk playRefusal eventRefusal refusal scanned finished scan checkPlay checkScript none concerns withEvent isPlay lieAfter eventsAfter gather start advanced lastScan roundsOf differ half heard halfIn breakerIn unheardIn within keptOver numeral vector lineWith linesOf refusedLine roundOf faultless arrived readWords readBits followersView countingView hearingOf openedStates opened sentWords stepAt steppedStates answeredHealth earlier played begun goesOn nextOf later printed linesTo outputOf
 written = record { sheet = refl; refused = refl; half-heard = refl }

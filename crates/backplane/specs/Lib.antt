@@ -1,6 +1,3 @@
-pub mod Bus
-pub mod Limit
-pub mod Heard
 pub mod Play
 pub mod Run
 pub mod Output

@@ -4,7 +4,7 @@ use mathlib.Core.Path.{_≡_}
 use mathlib.Core.Bool.{true, cond, _&&_}
 use mathlib.Core.List.{List}
 use lib.ListN.{getD, length, replicate}
-use Rattle.words.specs.Bits.{full}
+use Rattle.words.specs.Bits.{bit, full}
 use Rattle.words.specs.Array.{array}
 use Rattle.words.specs.Table.{updated}
 use Rattle.setup.specs.declared.Setup.{Setup}
@@ -16,10 +16,11 @@ use Rattle.presence.specs.Step.{stepOf}
 use Rattle.presence.specs.declared.State.{State}
 use Rattle.presence.specs.declared.Stepped.{Stepped}
 use Rattle.script.specs.declared.Events.{Events}
-use Rattle.backplane.specs.Bus.{faultless, arrived, readWords, readBits}
-use Rattle.backplane.specs.Limit.{firstFollower, hearingOf, keptOver}
-use Rattle.backplane.specs.declared.Bus.{Bus}
-use Rattle.backplane.specs.declared.Hearing.{Hearing}
+use Rattle.agreement.specs.Fault.{followsIn, firstFollower, keptOver}
+use Rattle.bus.specs.Bus.{faultless, arrived, readWords, readBits}
+use Rattle.bus.specs.Senders.{hearingOf, sendersIn}
+use Rattle.bus.specs.declared.Bus.{Bus}
+use Rattle.bus.specs.declared.Hearing.{Hearing}
 use Rattle.backplane.specs.declared.Backplane.{Backplane}
 
 -- the state of module i + 1
@@ -79,7 +80,7 @@ earlier b = cond (skewed (b .setup .n) (b .setup .places)) (b .before) (b .heari
 
 -- the rule-followers' view in these states, which is that of the lowest of them
 unfoldable pub followersView : ℕ → ℕ → List State → ℕ
-followersView n cast states = stateAt states (firstFollower n cast) .counters .view
+followersView n cast states = stateAt states (firstFollower n (followsIn cast)) .counters .view
 
 -- the view by which the rows of the next round are counted: that at the end of the round itself where u is 1, in the states after it, else that at
 -- the end of the round before
@@ -103,5 +104,5 @@ played b e =
       bus = this;
       hearing = hearing;
       before = b .hearing;
-      kept = b .kept && keptOver n (b .cast) (countingView b states) hearing (earlier b);
+      kept = b .kept && keptOver n (followsIn (b .cast)) (bit (countingView b states)) (sendersIn hearing) (sendersIn (earlier b));
     }

@@ -16,11 +16,11 @@ use Rattle.script.specs.Rounds.{roundsOf}
 use Rattle.script.specs.Effect.{fateIn, toldIn}
 use Rattle.agreement.specs.Fault.{heard}
 use Rattle.agreement.specs.Session.{Session, Accepted, size, u, follows, RuleFollower, bitIn, wordIn, round, state, health, sent, Bound, unheard, halfHeard, kept}
-use Rattle.backplane.specs.Bus.{bitTo, wordTo}
+use Rattle.bus.specs.Bus.{bitTo, wordTo}
 use Rattle.backplane.specs.Play.{stateAt}
 use Rattle.backplane.specs.Run.{runAt}
-use Rattle.backplane.specs.declared.Bus.{Bus}
-use Rattle.backplane.specs.declared.Hearing.{Hearing}
+use Rattle.bus.specs.declared.Bus.{Bus}
+use Rattle.bus.specs.declared.Hearing.{Hearing}
 use Rattle.backplane.specs.declared.Backplane.{Backplane}
 
 -- S is the session that the script s plays; script/specs/Effect.antt says of every round which words are lost and told.

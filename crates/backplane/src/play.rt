@@ -1,14 +1,14 @@
 // A whole backplane, round by round.
 use crate::Backplane;
-use crate::Bus;
-use crate::Hearing;
-use crate::arrivals::arrived;
-use crate::arrivals::faultless;
-use crate::arrivals::put_read;
-use crate::arrivals::read_bits;
-use crate::half_heard::first_follower;
-use crate::half_heard::hearing;
-use crate::limit::kept_over;
+use bus::Bus;
+use bus::Hearing;
+use bus::arrivals::arrived;
+use bus::arrivals::faultless;
+use bus::arrivals::put_read;
+use bus::arrivals::read_bits;
+use bus::half_heard::first_follower;
+use bus::half_heard::hearing;
+use bus::limit::kept_over;
 use presence::State;
 use presence::Stepped;
 use rules::hearing::bus_word;
@@ -23,7 +23,7 @@ ghost use mathlib.Core.Path.{_≡_};
 ghost use Prim.Native.Nat.{ℕ, _≤_, _<_, _^_};
 ghost use Rattle.presence.specs.Valid.{Valid};
 ghost use Rattle.presence.specs.Step.{stepOf};
-ghost use Rattle.backplane.specs.Bus.{readWords};
+ghost use Rattle.bus.specs.Bus.{readWords};
 ghost use Rattle.backplane.specs.Play.{stateAt, Sound, openedStates, opened, sentWords, steppedStates, answeredHealth, earlier, followersView, countingView, played};
 
 // What the steps of a round give: the states, and the health vectors answered.

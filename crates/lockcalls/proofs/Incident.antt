@@ -19,7 +19,7 @@ use Rattle.image.specs.Fits.{rowFits, penaltyFits, rewardFits}
 use Rattle.presence.specs.Valid.{stateTidy, checkState, stateVerdict}
 use Rattle.presence.specs.Opening.{fresh, blank, checkOpening, openOf}
 use Rattle.presence.specs.Step.{placeOf, markOf, ownSyndrome, alignedFor, judgementFor, outgoingFor, afterRound, refusedStep, acceptedStep, testedStep, readStep, stepOf}
-use Rattle.agreement.specs.Fault.{differ, half, heard, halfIn, breakerIn, unheardIn, within, limit}
+use Rattle.agreement.specs.Fault.{differ, half, heard, halfIn, breakerIn, unheardIn, within, keptOver, limit}
 use Rattle.agreement.specs.Session.{bitIn, wordIn, readRound, state, health, handed, sent, keptBy}
 use Rattle.agreement.specs.Stars.{printed, bound, keptTo, right}
 use Rattle.scanlock.specs.Axis.{present, onAxis}
@@ -28,5 +28,5 @@ use Rattle.lockcalls.specs.Cards.{history}
 use Rattle.lockcalls.specs.Incident.{incident}
 
 pub incident-right : right incident ≡ true
-unfolding wordAt bytesOf bit pack count any all lowest array clearFrom check checkEach setupOf blankSetup moduleFits markFits whole headOk limitOk moduleOk markOk checkHead checkWords checkSetup setupTidy checkFields skewed busWord receptionOf isHeard rowIn causeIn entryOf readingOf causesOf alignedOf decision tally voteOf healthOf differsAt accusationOf accusationsOf syndromeOf votersOf judgementOf outgoingOf charged rewarded accounted accountAt accountedAt countersOf rowFits penaltyFits rewardFits stateTidy checkState stateVerdict fresh blank checkOpening openOf placeOf markOf ownSyndrome alignedFor judgementFor outgoingFor afterRound refusedStep acceptedStep testedStep readStep stepOf differ half heard halfIn breakerIn unheardIn within limit bitIn wordIn readRound state health handed sent keptBy printed bound keptTo present onAxis startedMotion abortedMotion stoppedMotion motion isUnfinished isHalting left latestView named taken number acceptedEvents live history
+unfolding wordAt bytesOf bit pack count any all lowest array clearFrom check checkEach setupOf blankSetup moduleFits markFits whole headOk limitOk moduleOk markOk checkHead checkWords checkSetup setupTidy checkFields skewed busWord receptionOf isHeard rowIn causeIn entryOf readingOf causesOf alignedOf decision tally voteOf healthOf differsAt accusationOf accusationsOf syndromeOf votersOf judgementOf outgoingOf charged rewarded accounted accountAt accountedAt countersOf rowFits penaltyFits rewardFits stateTidy checkState stateVerdict fresh blank checkOpening openOf placeOf markOf ownSyndrome alignedFor judgementFor outgoingFor afterRound refusedStep acceptedStep testedStep readStep stepOf differ half heard halfIn breakerIn unheardIn within keptOver limit bitIn wordIn readRound state health handed sent keptBy printed bound keptTo present onAxis startedMotion abortedMotion stoppedMotion motion isUnfinished isHalting left latestView named taken number acceptedEvents live history
 incident-right = refl

@@ -4,7 +4,7 @@ use Prim.Native.Nat.{ℕ}
 use mathlib.Core.Logic.{_≢_}
 use borrow.Author.Needs.{needs}
 use Rattle.backplane.specs.declared.Started.{Started}
-use Rattle.backplane.proofs.RunLaws.{start-number, start-index, start-run}
+use Rattle.backplane.proofs.RunPartLaws.{start-number, start-index, start-run}
 use Rattle.bench.proofs.play.Statement.{statement}
 use Rattle.bench.proofs.play.Tie as tie
 

@@ -3,7 +3,7 @@ use Prim.Native.Nat.{ℕ}
 use mathlib.Core.Path.{ap, _∙_}
 use borrow.Author.Needs.{needs}
 use Rattle.words.specs.Array.{array}
-use Rattle.backplane.specs.Bus.{faultless}
+use Rattle.bus.specs.Bus.{faultless}
 use Rattle.backplane.proofs.PlayLaws.{open-made}
 use Rattle.backplane.proofs.Backplane.open.Statement.{statement}
 use Rattle.backplane.proofs.Backplane.open.Tie as tie

@@ -1,6 +1,6 @@
 -- The parts are put together.
 use native.Mathlib.Omega.{arith}
-use Rattle.backplane.specs.Bus.{arrived}
+use Rattle.bus.specs.Bus.{arrived}
 use Rattle.backplane.specs.Play.{earlier}
 use Rattle.backplane.proofs.PlayLaws.{play-made}
 use Rattle.backplane.proofs.Backplane.play.Statement.{statement}

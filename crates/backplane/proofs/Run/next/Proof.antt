@@ -6,7 +6,7 @@ use borrow.Author.Needs.{needs}
 use borrow.Author.Tests.{ltb-true}
 use Rattle.words.proofs.Truth.{and-r}
 use Rattle.backplane.specs.Run.{goesOn}
-use Rattle.backplane.proofs.RunLaws.{next-played, next-over}
+use Rattle.backplane.proofs.RunPartLaws.{next-played, next-over}
 use Rattle.backplane.proofs.Run.next.Statement.{statement}
 use Rattle.backplane.proofs.Run.next.Tie as tie
 

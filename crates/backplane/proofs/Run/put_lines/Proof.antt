@@ -1,7 +1,7 @@
 -- The views are read off the states, and the lines written.
 use native.Mathlib.Omega.{arith}
 use borrow.Author.Needs.{needs}
-use Rattle.backplane.proofs.RunLaws.{wrote-printed}
+use Rattle.backplane.proofs.RunPartLaws.{wrote-printed}
 use Rattle.backplane.proofs.Run.put_lines.Statement.{statement}
 use Rattle.backplane.proofs.Run.put_lines.Tie as tie
 

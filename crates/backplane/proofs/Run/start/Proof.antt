@@ -3,7 +3,7 @@ use mathlib.Core.Path.{sym, ap, _∙_}
 use borrow.Author.Needs.{needs}
 use Rattle.setup.specs.declared.Verdict.{Verdict}
 use Rattle.backplane.specs.Run.{begun, idle}
-use Rattle.backplane.proofs.RunLaws.{start-refused, start-begun}
+use Rattle.backplane.proofs.RunPartLaws.{start-refused, start-begun}
 use Rattle.backplane.proofs.Run.start.Statement.{statement}
 use Rattle.backplane.proofs.Run.start.Tie as tie
 

@@ -8,7 +8,7 @@ use Rattle.words.proofs.TableLaws.{getD-there}
 use Rattle.presence.specs.Opening.{blank}
 use Rattle.presence.specs.declared.State.{State}
 use Rattle.backplane.specs.Play.{followersView}
-use Rattle.backplane.proofs.HearingLaws.{first-small}
+use Rattle.bus.proofs.HalfHeardLaws.{first-small}
 use Rattle.backplane.proofs.play.followers_view.Statement.{statement}
 use Rattle.backplane.proofs.play.followers_view.Tie as tie
 

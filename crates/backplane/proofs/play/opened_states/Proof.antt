@@ -1,12 +1,13 @@
 -- After i turns the first i modules are opened with their own numbers.
 use Prim.Native.Nat.{_+_, _-_, _≤_}
-use mathlib.Core.Path.{_≡_}
+use mathlib.Core.Path.{_≡_, ap}
 use native.Mathlib.Omega.{arith}
 use lib.ListN.{replicate}
 use borrow.Author.Needs.{needs}
 use Rattle.words.specs.Table.{updated}
 use Rattle.words.proofs.TableLaws.{updated-step}
 use Rattle.presence.specs.Opening.{openOf}
+use Rattle.presence.specs.declared.Opened.{Opened}
 use Rattle.backplane.specs.Play.{openedStates}
 use Rattle.backplane.proofs.play.opened_states.Statement.{statement}
 use Rattle.backplane.proofs.play.opened_states.Tie as tie
@@ -22,7 +23,7 @@ open-requires c κs = search needs
 
 loop-holds : tie.Need-loop-holds Inv-loop μ-loop
 unfolding updated
-loop-holds c = (omega arith, cc)
+loop-holds c = (omega arith, ap (λ (o : Opened). replicate 16 (o .state)) (c .before .«open» .ensures))
 
 add-open : tie.Need-add-open Inv-loop μ-loop
 add-open c = omega arith
@@ -45,13 +46,13 @@ loop-less c = omega arith
 loop-again : tie.Need-loop-again Inv-loop μ-loop
 loop-again c =
     let l = c .before .before .before .loop in
-    (omega arith, updated-step _ _ _ (l .inv .1) (cc))
+    (omega arith, updated-step _ _ _ (l .inv .1) (ap (λ (o : Opened). o .state) (c .before .open2 .ensures)))
 
 returns : tie.Need-returns Inv-loop μ-loop
 unfolding openedStates
 returns c =
     let e : c .before .loop .i ≡ c .before .before .before .before .args .setup .n = omega arith in
-    cc
+    rw e at (c .before .loop .inv .1)
 
 pub opened-states-spec : {M : Type 1} → statement M
 opened-states-spec =

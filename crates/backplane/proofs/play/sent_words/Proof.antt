@@ -5,7 +5,7 @@ use native.Mathlib.Omega.{arith}
 use lib.ListN.{getD, length}
 use borrow.Author.Needs.{needs}
 use Rattle.words.specs.Array.{array}
-use Rattle.words.proofs.ArrayLaws.{array-step}
+use Rattle.words.proofs.ArrayLaws.{array-step, array-end}
 use Rattle.words.proofs.TableLaws.{getD-there}
 use Rattle.rules.specs.Hearing.{busWord}
 use Rattle.presence.specs.Opening.{blank}
@@ -60,7 +60,7 @@ returns : tie.Need-returns Inv-loop μ-loop
 unfolding sentWords
 returns c =
     let e : c .before .loop .j ≡ c .before .before .args .n = omega arith in
-    cc
+    array-end _ e (c .before .loop .inv .1)
 
 pub sent-words-spec : {M : Type 1} → statement M
 sent-words-spec =

@@ -12,7 +12,7 @@ use Rattle.presence.specs.declared.State.{State}
 use Rattle.presence.specs.Valid.{Valid}
 use Rattle.presence.specs.Step.{stepOf}
 use Rattle.presence.specs.declared.Stepped.{Stepped}
-use Rattle.backplane.specs.Bus.{readWords, readBits}
+use Rattle.bus.specs.Bus.{readWords, readBits}
 use Rattle.backplane.specs.Play.{stepAt, steppedStates, answeredHealth}
 use Rattle.backplane.proofs.PlayLaws.{not-yet-stepped}
 use Rattle.backplane.proofs.play.step_all.Statement.{statement}

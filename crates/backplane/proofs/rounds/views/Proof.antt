@@ -5,7 +5,7 @@ use native.Mathlib.Omega.{arith}
 use lib.ListN.{getD, length}
 use borrow.Author.Needs.{needs}
 use Rattle.words.specs.Array.{array}
-use Rattle.words.proofs.ArrayLaws.{array-step}
+use Rattle.words.proofs.ArrayLaws.{array-step, array-end}
 use Rattle.words.proofs.TableLaws.{getD-there}
 use Rattle.presence.specs.Opening.{blank}
 use Rattle.presence.specs.declared.State.{State}
@@ -54,7 +54,7 @@ loop-again c =
 returns : tie.Need-returns Inv-loop μ-loop
 returns c =
     let e : c .before .loop .i ≡ c .before .before .args .n = omega arith in
-    cc
+    array-end _ e (c .before .loop .inv .1)
 
 pub views-spec : {M : Type 1} → statement M
 views-spec =

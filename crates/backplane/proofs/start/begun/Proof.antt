@@ -11,7 +11,7 @@ use Rattle.script.specs.Cursor.{start}
 use Rattle.backplane.specs.Play.{opened}
 use Rattle.backplane.specs.Run.{begun}
 use Rattle.backplane.proofs.StartLaws.{few, cast-there, few-read}
-use Rattle.backplane.proofs.RunLaws.{made}
+use Rattle.backplane.proofs.RunPartLaws.{made}
 use Rattle.backplane.proofs.start.begun.Statement.{statement}
 use Rattle.backplane.proofs.start.begun.Tie as tie
 

@@ -9,7 +9,7 @@ use Rattle.presence.specs.Opening.{blank}
 use Rattle.script.specs.declared.Events.{Events}
 use Rattle.backplane.specs.Play.{opened}
 use Rattle.backplane.specs.Run.{idle}
-use Rattle.backplane.proofs.RunLaws.{made}
+use Rattle.backplane.proofs.RunPartLaws.{made}
 use Rattle.backplane.proofs.start.idle.Statement.{statement}
 use Rattle.backplane.proofs.start.idle.Tie as tie
 

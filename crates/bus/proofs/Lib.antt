@@ -1,0 +1,2 @@
+pub mod HalfHeardLaws
+pub mod LimitLaws
