@@ -23,8 +23,8 @@
  *   presence_page_write      the host's write of flags or enable
  *   presence_page_interrupt  whether the interrupt to the host is on
  *
- * All are in libgirmaut.a (make library); libpresence.a (rt staticlib
- * presence) has the first six alone.
+ * All are in libgirmaut.a (make library); libcalls.a (rt staticlib calls)
+ * has the first six alone.
  *
  * A module's state is its image, a block of bytes that the caller keeps.
  * Nothing is kept between calls: the result of a call and the bytes it writes

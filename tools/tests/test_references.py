@@ -157,13 +157,13 @@ class References(unittest.TestCase):
     def test_where_it_looks(self):
         cases = [("README.md", "tools/runscript", [], "tools/runscript"),
                  ("README.md", "tools/no-such-tool", [], None),
-                 ("docs/DECISIONS.md", "rules/specs/Vote.antt", [], "crates/rules/specs/Vote.antt"),
+                 ("docs/DECISIONS.md", "vote/specs/Vote.antt", [], "crates/vote/specs/Vote.antt"),
                  ("docs/DECISIONS.md", "setup/specs/Vote.antt", [], None),
                  ("docs/THEOREM.md", "step.rt", ["crates/presence/src/open.rt"], "crates/presence/src/step.rt"),
-                 ("docs/THEOREM.md", "step.rt", ["crates/rules/src/vote.rt"], None),
+                 ("docs/THEOREM.md", "step.rt", ["crates/vote/src/health.rt"], None),
                  ("harness/README.md", "data/calls.txt", [], "harness/data/calls.txt"),
-                 ("crates/rules/specs/VoteTable.antt", "src/vote.rt", [], "crates/rules/src/vote.rt"),
-                 ("crates/setup/specs/Check.antt", "src/vote.rt", [], None)]
+                 ("crates/vote/specs/VoteTable.antt", "src/health.rt", [], "crates/vote/src/health.rt"),
+                 ("crates/setup/specs/Check.antt", "src/health.rt", [], None)]
         for file, path, before, at in cases:
             with self.subTest(file, path=path):
                 self.assertEqual(place(Reference(file, 1, path, False), before), at)

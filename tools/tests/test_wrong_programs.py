@@ -1,23 +1,26 @@
 """docs/WRONG-PROGRAMS.md beside the sources and what the gate found.
 
 Every function that outsiders can call, and every inner function that another crate calls, has two edits with each of which the prover does
-not prove it. No function of the first kind has a `requires`; one of the second kind that no other crate calls has to be private. And every
-slip in the code that an edit makes is one that the contract of its own function refuses: the prover says of that function that it is not
-proved, whatever else the edit has. An edit that makes its slip in definition, code and proofs alike is one for the theorems: every function
-is proved with it, and still it is refused.
+not prove it. No function of the first kind has a `requires`; one of the second kind that no other crate calls has to be private.
+
+And every slip is refused for itself, whatever else its edit has: one in the code by the contract of its own function, one in a definition by
+the law that it names. An edit that makes its slip in definition, code and proofs alike is one for the theorems: every function is proved with
+it, and still it is refused.
 """
 
 import os
 import re
 import unittest
-from collections import namedtuple
+from collections import Counter, namedtuple
 
 from common import ROOT
+
+import mustfail
 
 CRATES = os.path.join(ROOT, "crates")
 LOGS = os.path.join(ROOT, "target", "must-fail")
 # crates whose functions the table lists; nothing is built on bench, and agreement has no code
-LISTED = ("words", "setup", "rules", "image", "presence", "page", "script", "text", "backplane", "scanlock")
+LISTED = ("words", "setup", "vote", "rules", "image", "presence", "page", "script", "text", "bus", "backplane", "scanlock", "lockcalls")
 # set by the gate, which has tried every edit before it runs these tests
 IN_GATE = "GIRMAUT_GATE" in os.environ
 
@@ -86,25 +89,29 @@ def edits(crate):
     return sorted(name[:-5] for name in os.listdir(folder) if name.endswith(".edit")) if os.path.isdir(folder) else []
 
 
-def slips(crate, edit):
-    """The functions in whose code an edit makes a slip. Where it says that definition and code have the slip alike, the contract has it too, and
-    what refuses it is a law or a case: then none."""
-    file, lines = None, text(CRATES, crate, "must-fail", edit + ".edit").splitlines()
-    if lines[0].endswith("though definition and code have it alike") or in_proofs_too(crate, edit):
-        return
-    for line in lines:
-        file = line[6:] if line.startswith("file: ") else file
-        if line.startswith("old: ") and file.startswith("src/"):
-            source = text(CRATES, crate, file)
-            at = source[: source.index(line[5:])].count("\n")
-            for f in functions(source):
-                if f.first <= at <= f.last:
-                    yield name_of(crate, file[4:-3], f.struct, f.name)
+def edit_text(crate, edit):
+    return text(CRATES, crate, "must-fail", edit + ".edit")
 
 
-def in_proofs_too(crate, edit):
-    """Whether an edit makes its slip in the proofs too, so that every contract holds and only a theorem or a case can refuse it."""
-    return "\nfile: proofs/" in text(CRATES, crate, "must-fail", edit + ".edit")
+def every_edit():
+    return [(crate, edit, edit_text(crate, edit)) for crate in sorted(os.listdir(CRATES)) for edit in edits(crate)]
+
+
+def function_at(crate, file, old):
+    """The function in whose code a text stands, as the prover names it; None if it stands in no function, as in a table or a struct."""
+    if not file.startswith("src/"):
+        return None
+    source = text(CRATES, crate, file)
+    at = source[: source.index(old)].count("\n")
+    return next((name_of(crate, file[4:-3], f.struct, f.name) for f in functions(source) if f.first <= at <= f.last), None)
+
+
+def slips(crate, content):
+    """Each slip of an edit, by what has to refuse it for itself: the functions in whose code it is, and the law that it names. In an edit that has
+    its slip in definition and code alike, the contracts have it too: then only the laws."""
+    for slip in mustfail.slips(content):
+        inside = set() if mustfail.is_alike(content) else {function_at(crate, *place) for place in slip.places} - {None}
+        yield inside, slip.law
 
 
 def name_of(crate, module, struct, name):
@@ -116,13 +123,21 @@ def name_of(crate, module, struct, name):
     return f"{module}::{struct}::{name}" if inside else f"{struct}::{name}"
 
 
-def said(crate, edit):
-    """What the prover said of each function with an edit; None if it has not been tried since it was written."""
+def log_of(crate, edit):
+    """What the prover said with an edit; None if it has not been tried since it was written."""
     log = os.path.join(LOGS, crate, edit, ".log")
     written = os.path.getmtime(os.path.join(CRATES, crate, "must-fail", edit + ".edit"))
-    if not os.path.exists(log) or os.path.getmtime(log) < written:
-        return None
-    return dict(re.findall(rf"(?m)^fn {crate}::(\S+): (.*)$", text(log)))
+    return text(log) if os.path.exists(log) and os.path.getmtime(log) >= written else None
+
+
+def laws(crate):
+    """The files of a crate's proofs/ that declare each law, theorem or case, by name."""
+    folder, found = os.path.join(CRATES, crate, "proofs"), {}
+    for file in sorted(os.listdir(folder)):
+        if file.endswith(".antt"):
+            for law in set(re.findall(r"(?m)^ *(?:(?:unfoldable|abbrev) )?(?:pub )?([^\s:(){}.]+) :(?= |$)", text(folder, file))):
+                found.setdefault(law, []).append(file[:-5])
+    return found
 
 
 class WrongPrograms(unittest.TestCase):
@@ -137,7 +152,7 @@ class WrongPrograms(unittest.TestCase):
         return {(crate, name): {first, second} for crate, name, first, second in found}
 
     def tried(self, crate, edit):
-        found = said(crate, edit)
+        found = log_of(crate, edit)
         if found is None and IN_GATE:
             self.fail(f"{crate}/{edit} has not been tried")
         return found
@@ -173,37 +188,63 @@ class WrongPrograms(unittest.TestCase):
     def test_with_each_edit_its_function_is_not_proved(self):
         for (crate, name), named in self.table.items():
             for edit in named:
-                found = self.tried(crate, edit)
-                if found is not None:
+                log = self.tried(crate, edit)
+                if log is not None:
                     with self.subTest(f"{crate} {name} {edit}"):
-                        self.assertNotEqual(found.get(name), "proved")
-                        self.assertIn(name, found)
+                        self.assertNotEqual(mustfail.listed(log).get(name), "proved")
+                        self.assertIn(name, mustfail.listed(log))
 
     def test_an_edit_of_definition_and_code_alike_changes_both(self):
-        for crate in (*LISTED, "bench"):
-            for edit in edits(crate):
-                content = text(CRATES, crate, "must-fail", edit + ".edit")
-                if "alike" in content.splitlines()[0] or in_proofs_too(crate, edit):
-                    with self.subTest(f"{crate} {edit}"):
-                        self.assertLessEqual({"specs", "src"}, {part.split("/")[0] for part in re.findall(r"^file: (\S+)", content, re.M)})
+        for crate, edit, content in every_edit():
+            if "alike" in mustfail.reason(content) or mustfail.is_alike(content):
+                with self.subTest(f"{crate} {edit}"):
+                    self.assertLessEqual({"specs", "src"}, {file.split("/")[0] for slip in mustfail.slips(content) for file, _ in slip.places})
 
     @unittest.skipUnless(IN_GATE or os.path.isdir(LOGS), "no edit has been tried: rt must-fail does")
     def test_with_a_slip_in_the_proofs_too_every_function_is_proved(self):
-        for crate in (*LISTED, "bench"):
-            for edit in filter(lambda edit: in_proofs_too(crate, edit), edits(crate)):
-                found = self.tried(crate, edit)
-                if found is not None:
-                    with self.subTest(f"{crate} {edit}"):
-                        self.assertEqual(set(found.values()), {"proved"})
+        for crate, edit, content in every_edit():
+            log = self.tried(crate, edit) if "\nfile: proofs/" in content else None
+            if log is not None:
+                with self.subTest(f"{crate} {edit}"):
+                    self.assertEqual(set(mustfail.listed(log).values()), {"proved"})
+
+    def test_each_slip_that_is_in_no_function_names_its_law(self):
+        for crate, edit, content in every_edit():
+            with self.subTest(f"{crate} {edit}"):
+                found = list(slips(crate, content))
+                if mustfail.is_alike(content):
+                    self.assertTrue(any(law for _, law in found), "one `law:` for the whole edit")
+                else:
+                    self.assertEqual([slip.places for slip, (inside, law) in zip(mustfail.slips(content), found) if not inside and not law], [])
+
+    def test_each_law_that_a_slip_names_is_one_of_its_crate(self):
+        for crate, edit, content in every_edit():
+            for law in filter(None, (law for _, law in slips(crate, content))):
+                with self.subTest(f"{crate} {edit} {law}"):
+                    if "::" in law:
+                        self.assertIn(law, [name_of(crate, module, f.struct, f.name) for module, source in sources(crate).items() for f in functions(source)])
+                    else:
+                        file, _, name = law.rpartition(".")
+                        there = [one for one in laws(crate).get(name, []) if file in ("", one)]
+                        self.assertEqual(len(there), 1, "no such law, or one in each of several files")
+
+    def test_no_two_slips_of_an_edit_are_for_the_same_function_or_law(self):
+        for crate, edit, content in every_edit():
+            with self.subTest(f"{crate} {edit}"):
+                found = Counter(who for inside, law in slips(crate, content) for who in (*inside, law) if who)
+                self.assertEqual([who for who, times in found.items() if times > 1], [], "two slips, of which one may hide the other; or write `also:`")
 
     @unittest.skipUnless(IN_GATE or os.path.isdir(LOGS), "no edit has been tried: rt must-fail does")
-    def test_each_slip_is_refused_by_the_contract_of_its_own_function(self):
-        for crate in (*LISTED, "bench"):
-            for edit in edits(crate):
-                found = self.tried(crate, edit)
-                for name in slips(crate, edit) if found is not None else ():
+    def test_each_slip_is_refused_for_itself(self):
+        for crate, edit, content in every_edit():
+            log = self.tried(crate, edit)
+            for inside, law in slips(crate, content) if log is not None else ():
+                for name in inside:
                     with self.subTest(f"{crate} {edit} {name}"):
-                        self.assertRegex(found.get(name, "not named"), r"^(not proved|no proof)(?!.*it calls)")
+                        self.assertTrue(mustfail.function_refused(log, name), mustfail.listed(log).get(name, "not named"))
+                if law:
+                    with self.subTest(f"{crate} {edit} {law}"):
+                        self.assertTrue(mustfail.law_refused(log, law), "not refused, or not for itself")
 
 
 if __name__ == "__main__":

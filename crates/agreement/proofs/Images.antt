@@ -9,30 +9,30 @@ use Rattle.words.specs.Bits.{full}
 use Rattle.words.proofs.Truth.{cond-both}
 use Rattle.words.proofs.BitLaws.{pack-lt}
 use Rattle.words.proofs.ByteLaws.{bytes-length}
-use Rattle.setup.specs.Verdict.{accepted, isAccepted}
+use Rattle.words.specs.Verdict.{accepted, isAccepted}
 use Rattle.setup.specs.Setup.{setupOf}
 use Rattle.setup.specs.Check.{setupVerdict}
 use Rattle.setup.specs.RoundTrip.{Shaped as ShapedSetup}
-use Rattle.setup.specs.declared.Verdict.{Verdict}
+use Rattle.words.specs.declared.Verdict.{Verdict}
 use Rattle.setup.specs.declared.Setup.{Setup}
-use Rattle.setup.proofs.RoundTrip.{round-trip as setups}
+use Rattle.setup.proofs.SetupRoundTrip.{round-trip as setups}
 use Rattle.rules.specs.Hearing.{busWord}
-use Rattle.image.specs.Words.{imageLength}
+use Rattle.image.specs.Layout.{imageLength}
 use Rattle.image.specs.Check.{checkImage}
 use Rattle.presence.specs.Opening.{fresh, openOf}
 use Rattle.presence.specs.Step.{markOf}
 use Rattle.presence.specs.Image.{imageOf, stateOf}
-use Rattle.presence.specs.Calls.{Called, handedOut, openCall, stepCall, outgoingCall}
+use Rattle.calls.specs.Calls.{Called, handedOut, openCall, stepCall, outgoingCall}
 use Rattle.presence.specs.RoundTrip.{Shaped}
-use Rattle.presence.specs.Refusals.{sizeOf}
+use Rattle.calls.specs.Refusals.{sizeOf}
 use Rattle.presence.specs.declared.State.{State}
 use Rattle.presence.specs.declared.Stepped.{Stepped}
-use Rattle.presence.specs.declared.WordAnswer.{WordAnswer}
+use Rattle.calls.specs.declared.WordAnswer.{WordAnswer}
 use Rattle.presence.proofs.ValidLaws.{fits-valid}
-use Rattle.presence.proofs.StepLaws.{handed-out}
+use Rattle.calls.proofs.ModuleCallLaws.{handed-out}
 use Rattle.presence.proofs.RoundTrip.{round-trip as states}
-use Rattle.presence.proofs.CallAnswers.{open-writes, step-writes, save-writes}
-use Rattle.presence.proofs.Refusals.{open-accepted, step-accepted, save-accepted}
+use Rattle.calls.proofs.CallAnswers.{open-writes, step-writes, save-writes}
+use Rattle.calls.proofs.Refusals.{open-accepted, step-accepted, save-accepted}
 use Rattle.page.proofs.Refusals.{refusals, open-accepted as page-open-accepted, step-accepted as page-step-accepted}
 use Rattle.page.proofs.Promise.{promise}
 use Rattle.agreement.specs.Session.{Session, Accepted, size, RuleFollower, readBits, readBytes, answer as answerTo, state, health, handed, Bound}

@@ -6,10 +6,8 @@ use native.Mathlib.Omega.{arith}
 use lib.ListN.{length}
 use Rattle.words.proofs.BitLaws.{pack-lt}
 use Rattle.words.proofs.ByteLaws.{bytes-length}
-use Rattle.setup.specs.Verdict.{accepted}
-use Rattle.setup.specs.Check.{setupVerdict}
 use Rattle.setup.specs.declared.Setup.{Setup}
-use Rattle.setup.proofs.SetupLaws.{SetupFits, fields-pass}
+use Rattle.setup.proofs.SetupLaws.{SetupFits, verdict-fits}
 use Rattle.rules.specs.Hearing.{readingOf, causesOf}
 use Rattle.presence.specs.Opening.{fresh, openOf}
 use Rattle.presence.specs.Step.{judgementFor, outgoingFor, afterRound, acceptedStep}
@@ -18,7 +16,7 @@ use Rattle.presence.specs.declared.State.{State}
 use Rattle.presence.specs.declared.Opened.{Opened}
 use Rattle.presence.specs.declared.Stepped.{Stepped}
 use Rattle.presence.proofs.ValidLaws.{StateFits, fresh-fits, after-fits}
-use Rattle.presence.proofs.StepLaws.{step-accepts, step-refused, open-accepts}
+use Rattle.presence.proofs.StateStepLaws.{step-accepts, step-refused, open-accepts}
 use Rattle.agreement.specs.Session.{Session, Accepted, size, readBits, readBytes, answer, state, health, handed}
 use Rattle.agreement.specs.Life.{Life, opens, steps, refused-step, refused-opening}
 
@@ -38,8 +36,7 @@ pub record Held (S : Session) (i : ℕ) (st : State) : Type 0 where
 
 module _ (S : Session) (ok : Accepted S) where
   pub setup-fits : SetupFits (S .setup)
-  unfolding setupVerdict
-  setup-fits = fields-pass (S .setup) accepted ok .0
+  setup-fits = verdict-fits (S .setup) ok
 
   pub small : size S ≤ 16
   small = setup-fits .most

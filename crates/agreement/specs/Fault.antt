@@ -17,11 +17,11 @@ differ r i i′ j =
     not (Bool·beq (r .hears i j) (r .hears i′ j))
     || (r .hears i j && r .hears i′ j && not (eqb (r .word i j) (r .word i′ j)))
 
--- a cast names the modules that break the rules, as a vector: module i + 1 follows them
+-- module i + 1 is not in the cast, the vector of the rule-breakers
 abbrev pub followsIn : ℕ → ℕ → Bool
 followsIn cast i = not (bit cast i)
 
--- How the rule-followers hear the senders of a round: which are half heard, and which are heard.
+-- How the rule-followers hear the senders of a round: which are half heard, and which are heard. The limit asks for no more of a round.
 pub record Senders : Type 0 where
   pub half : ℕ → Bool
   pub heard : ℕ → Bool
@@ -48,6 +48,7 @@ module _ (n : ℕ) (follows : ℕ → Bool) where
 unfoldable pub halfIn : Senders → Senders → ℕ → Bool
 halfIn h h′ j = h .half j || h′ .half j
 
+-- by who follows the rules
 module _ (follows : ℕ → Bool) where
   -- s other rule-breakers heard in either,
   unfoldable pub breakerIn : Senders → Senders → ℕ → Bool

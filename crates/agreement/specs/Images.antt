@@ -9,9 +9,9 @@ use lib.ListN.{length}
 use Rattle.words.specs.Bits.{bit, full}
 use Rattle.setup.specs.Setup.{setupOf}
 use Rattle.setup.specs.Check.{checkSetup}
-use Rattle.image.specs.Words.{imageLength}
+use Rattle.image.specs.Layout.{imageLength}
 use Rattle.presence.specs.Image.{imageOf, stateOf}
-use Rattle.presence.specs.Calls.{openCall, stepCall, saveCall, outgoingCall}
+use Rattle.calls.specs.Calls.{openCall, stepCall, saveCall, outgoingCall}
 use Rattle.page.specs.Calls.{pageOpenCall, pageStepCall}
 use Rattle.page.specs.Refusals.{Refused}
 use Rattle.agreement.specs.Session.{Session, size, u, RuleFollower, round, readBits, readBytes, handed, Bound, unheard, halfHeard}

@@ -12,8 +12,8 @@ use lib.ListN.{length, take}
 use lib.Seq.{take-all, length-take-le}
 use borrow.Author.Tests.{eqb-true, eq-eqb, leb-true, leb-false, lt-leb, ltb-true, ltb-false, lt-ltb, le-ltb}
 use Rattle.words.proofs.Truth.{which, cond-true, cond-false}
-use Rattle.setup.specs.Verdict.{verdict, isAccepted}
-use Rattle.setup.proofs.NextLaws.{check-refused}
+use Rattle.words.specs.Verdict.{verdict, isAccepted}
+use Rattle.script.proofs.ScanLaws.{script-long}
 use Rattle.script.specs.Check.{checkScript}
 use Rattle.script.specs.Rounds.{roundsOf}
 use Rattle.script.specs.declared.Cursor.{Cursor}
@@ -193,8 +193,7 @@ parts-whole s =
 -- ---- a script that is too long
 
 long-refused : (s : List ℕ) → 65536 < length s → checkScript s ≡ verdict 16 0
-unfolding checkScript
-long-refused s h = check-refused (leb (length s) 65536) 16 0 _ (lt-leb (length s) 65536 h)
+long-refused s h = sym (script-long s h refl)
 
 long-output : (s : List ℕ) → 65536 < length s → outputOf s ≡ refusedLine 16 0
 unfolding outputOf

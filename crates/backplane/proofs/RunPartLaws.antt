@@ -9,8 +9,8 @@ use borrow.Author.Tests.{eq-eqb, ne-eqb}
 use Rattle.words.specs.Array.{array}
 use Rattle.words.proofs.Truth.{cond-true, cond-false}
 use Rattle.words.proofs.ArrayLaws.{array-at}
-use Rattle.setup.specs.Verdict.{isAccepted}
-use Rattle.setup.specs.declared.Verdict.{Verdict}
+use Rattle.words.specs.Verdict.{isAccepted}
+use Rattle.words.specs.declared.Verdict.{Verdict}
 use Rattle.script.specs.Check.{checkScript}
 use Rattle.script.specs.Cursor.{advanced}
 use Rattle.script.specs.declared.Cursor.{Cursor}

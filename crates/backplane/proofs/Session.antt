@@ -17,7 +17,7 @@ use Rattle.words.proofs.ArrayLaws.{array-at}
 use Rattle.words.proofs.CountLaws.{all-at}
 use Rattle.words.proofs.LowestLaws.{lowest-le}
 use Rattle.words.proofs.TableLaws.{table-at, updated-at, updated-length}
-use Rattle.setup.specs.Verdict.{accepted}
+use Rattle.words.specs.Verdict.{accepted}
 use Rattle.setup.specs.Setup.{setupOf}
 use Rattle.setup.specs.Check.{setupVerdict}
 use Rattle.setup.specs.declared.Setup.{Setup}

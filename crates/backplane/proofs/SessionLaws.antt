@@ -1,7 +1,7 @@
 -- One round of the bench is one round of the session.
 use Prim.Native.Nat.{ℕ, suc, _+_, _-_, _*_, _%_, _^_, _<_, _≤_}
-use mathlib.Core.Path.{_≡_, refl, sym, ap, ap₂, _∙_}
-use mathlib.Core.Bool.{Bool, true, false, cond, not, _&&_, _||_}
+use mathlib.Core.Path.{_≡_, sym, ap, ap₂, _∙_}
+use mathlib.Core.Bool.{Bool, true, false, cond, not}
 use mathlib.Core.Logic.{⊎-elim, _≢_}
 use mathlib.Core.List.{List}
 use native.Mathlib.Omega.{arith}
@@ -25,12 +25,11 @@ use Rattle.presence.specs.declared.State.{State}
 use Rattle.presence.specs.declared.Stepped.{Stepped}
 use Rattle.script.specs.declared.Events.{Events}
 use Rattle.agreement.specs.Fault.{senders, keptOver, limit}
-use Rattle.agreement.specs.Session.{Session, Accepted, size, follows, bitIn, wordIn, round, readRound, readBits, readBytes, answer, state, health, sent, halfHeard}
+use Rattle.agreement.specs.Session.{Session, Accepted, size, follows, bitIn, wordIn, round, readRound, readBits, readBytes, answer, state, health, sent}
 use Rattle.agreement.proofs.FaultLaws.{SendersAlike, senders-alike, kept-alike}
 use Rattle.agreement.proofs.Steps.{small, held}
 use Rattle.agreement.proofs.Aligned.{sent-is}
-use Rattle.bus.specs.Bus as Bus
-use Rattle.bus.specs.Bus.{bitTo, wordTo, roundOf, arrived, readWords}
+use Rattle.bus.specs.Bus.{wordTo, roundOf, arrived, wordsRead, bitsRead}
 use Rattle.bus.specs.Senders.{hearingOf, sendersIn}
 use Rattle.backplane.specs.Play.{stateAt, sentWords, stepAt, steppedStates, answeredHealth}
 use Rattle.backplane.specs.Session.{Carries, Hears}
@@ -119,7 +118,7 @@ module _ (S : Session) (ok : Accepted S) where
       choose-bit false i j hi hj = let e : suc k - 1 ≡ k = omega arith in rw e (c′ .bits i j hi hj)
 
       step-as : (i : ℕ) → i < n → stepAt (S .setup) states this before i ≡ answer S i (suc k) (state S i k)
-      unfolding stepAt readWords Bus.readBits readRound
+      unfolding stepAt wordsRead bitsRead readRound
       step-as i hi =
           let place = getD (S .setup .places) i 0 in
           let w = bytes-ext n _ _ (λ j hj. choose (ltb j place) i j hi hj) in

@@ -1,13 +1,20 @@
 -- The sheet and the two scripts beside it: computed, from the words' bytes to the lines' bytes.
 use mathlib.Core.Path.{refl}
+use Rattle.words.specs.Runs.{runsOf}
 use Rattle.words.specs.Word.{wordAt, bytesOf}
 use Rattle.words.specs.Bits.{bit, pack}
 use Rattle.words.specs.Count.{count, any, all, lowest}
-use Rattle.words.specs.Array.{array, clearFrom}
 use Rattle.words.specs.Table.{updated, table}
-use Rattle.setup.specs.Verdict.{check, checkEach}
-use Rattle.setup.specs.Setup.{setupOf, blankSetup}
-use Rattle.setup.specs.Check.{moduleFits, markFits, whole, headOk, limitOk, moduleOk, markOk, checkHead, checkWords, checkFront, setupPart, checkSetup, setupTidy, checkFields, readSetup}
+use Rattle.words.specs.Array.{array, clearFrom, bounded}
+use Rattle.words.specs.Verdict.{andThen, outcome, thenTests}
+use Rattle.words.specs.Runs.{runsOf, runWord}
+use Rattle.setup.specs.Setup.{setupOf, setupBytes, blankSetup}
+use Rattle.setup.specs.Check.{moduleFits, markFits, whole, headOk, limitOk, moduleOk, markOk, moduleTest, checkHead, checkWords, checkFront, setupPart, checkSetup, setupRoomy, roomVerdict, setupVerdict, readSetup}
+use Rattle.image.specs.Words.{ownNumberOk, ownOk, syndromeOk}
+use Rattle.image.specs.Rows.{rowFits, rowOk, rowsRoomy}
+use Rattle.image.specs.Counters.{penaltyFits, rewardFits, countersRoomy}
+use Rattle.image.specs.Check.{checkTail}
+use Rattle.presence.specs.Valid.{roomy, stateVerdict}
 use Rattle.rules.specs.Lag.{skewed}
 use Rattle.rules.specs.Hearing.{busWord, receptionOf, isHeard, rowIn, causeIn, entryOf, readingOf, causesOf}
 use Rattle.rules.specs.Alignment.{alignedOf}
@@ -15,19 +22,17 @@ use Rattle.vote.specs.Vote.{decision, tally, voteOf, healthOf}
 use Rattle.rules.specs.Accusation.{differsAt, accusationOf, accusationsOf}
 use Rattle.rules.specs.Syndrome.{syndromeOf, votersOf, judgementOf, outgoingOf}
 use Rattle.rules.specs.Account.{charged, rewarded, accounted, accountAt, accountedAt, countersOf}
-use Rattle.image.specs.Fits.{rowFits, penaltyFits, rewardFits}
-use Rattle.presence.specs.Valid.{stateTidy, checkState, stateVerdict}
 use Rattle.presence.specs.Opening.{fresh, blank, checkOpening, openOf}
 use Rattle.presence.specs.Step.{placeOf, markOf, ownSyndrome, alignedFor, judgementFor, outgoingFor, afterRound, refusedStep, acceptedStep, testedStep, readStep, stepOf}
 use Rattle.script.specs.Words.{castOk, eventOk, playOk}
-use Rattle.script.specs.Check.{playRefusal, eventRefusal, refusal, scanned, finished, scan, checkPlay, checkScript}
+use Rattle.script.specs.Check.{playRefusal, eventRefusal, wordRefusal, scanned, finished, scan, checkCast, checkPlay, checkScript}
 use Rattle.script.specs.Events.{none, concerns, withEvent}
 use Rattle.script.specs.Cursor.{isPlay, lieAfter, eventsAfter, gather, start, advanced}
 use Rattle.script.specs.Rounds.{lastScan, roundsOf}
 use Rattle.agreement.specs.Fault.{differ, half, heard, halfIn, breakerIn, unheardIn, within, keptOver}
 use Rattle.text.specs.Text.{numeral, vector}
 use Rattle.text.specs.Lines.{lineWith, linesOf, refusedLine}
-use Rattle.bus.specs.Bus.{roundOf, faultless, arrived, readWords, readBits}
+use Rattle.bus.specs.Bus.{roundOf, faultless, arrived, wordsRead, bitsRead}
 use Rattle.bus.specs.Senders.{hearingOf}
 use Rattle.backplane.specs.Play.{followersView, countingView, openedStates, opened, sentWords, stepAt, steppedStates, answeredHealth, earlier, played}
 use Rattle.backplane.specs.Run.{begun, goesOn, nextOf, later, printed}
@@ -35,5 +40,5 @@ use Rattle.backplane.specs.Output.{linesTo, outputOf}
 use Rattle.backplane.specs.Sheet.{Written}
 
 pub written : Written
-unfolding wordAt bytesOf bit pack count any all lowest array clearFrom updated table check checkEach setupOf blankSetup moduleFits markFits whole headOk limitOk moduleOk markOk checkHead checkWords checkFront setupPart checkSetup setupTidy checkFields readSetup skewed busWord receptionOf isHeard rowIn causeIn entryOf readingOf causesOf alignedOf decision tally voteOf healthOf differsAt accusationOf accusationsOf syndromeOf votersOf judgementOf outgoingOf charged rewarded accounted accountAt accountedAt countersOf rowFits penaltyFits rewardFits stateTidy checkState stateVerdict fresh blank checkOpening openOf placeOf markOf ownSyndrome alignedFor judgementFor outgoingFor afterRound refusedStep acceptedStep testedStep readStep stepOf castOk eventOk playOk playRefusal eventRefusal refusal scanned finished scan checkPlay checkScript none concerns withEvent isPlay lieAfter eventsAfter gather start advanced lastScan roundsOf differ half heard halfIn breakerIn unheardIn within keptOver numeral vector lineWith linesOf refusedLine roundOf faultless arrived readWords readBits followersView countingView hearingOf openedStates opened sentWords stepAt steppedStates answeredHealth earlier played begun goesOn nextOf later printed linesTo outputOf
+unfolding wordAt bytesOf bit pack count any all lowest array clearFrom bounded updated table andThen outcome thenTests runWord runsOf setupBytes setupOf blankSetup moduleFits markFits whole headOk limitOk moduleOk markOk moduleTest checkHead checkWords checkFront setupPart checkSetup setupRoomy roomVerdict setupVerdict readSetup skewed busWord receptionOf isHeard rowIn causeIn entryOf readingOf causesOf alignedOf decision tally voteOf healthOf differsAt accusationOf accusationsOf syndromeOf votersOf judgementOf outgoingOf charged rewarded accounted accountAt accountedAt countersOf rowFits penaltyFits rewardFits ownNumberOk ownOk rowOk syndromeOk rowsRoomy countersRoomy checkTail roomy stateVerdict fresh blank checkOpening openOf placeOf markOf ownSyndrome alignedFor judgementFor outgoingFor afterRound refusedStep acceptedStep testedStep readStep stepOf castOk eventOk playOk playRefusal eventRefusal wordRefusal scanned finished scan checkCast checkPlay checkScript none concerns withEvent isPlay lieAfter eventsAfter gather start advanced lastScan roundsOf differ half heard halfIn breakerIn unheardIn within keptOver numeral vector lineWith linesOf refusedLine roundOf faultless arrived wordsRead bitsRead followersView countingView hearingOf openedStates opened sentWords stepAt steppedStates answeredHealth earlier played begun goesOn nextOf later printed linesTo outputOf
 written = record { sheet = refl; refused = refl; half-heard = refl }

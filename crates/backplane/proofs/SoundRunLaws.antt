@@ -10,7 +10,7 @@ use lib.ListN.{length-replicate, replicate}
 use borrow.Author.Tests.{eqb-true, eqb-false}
 use Rattle.words.proofs.Truth.{which, cond-true, cond-false, cond-both}
 use Rattle.words.proofs.TableLaws.{updated-at, updated-length}
-use Rattle.setup.specs.Verdict.{isAccepted}
+use Rattle.words.specs.Verdict.{isAccepted}
 use Rattle.setup.specs.Setup.{blankSetup}
 use Rattle.setup.specs.declared.Setup.{Setup}
 use Rattle.setup.proofs.SetupLaws.{SetupFits}
@@ -19,7 +19,7 @@ use Rattle.presence.specs.Opening.{blank, openOf}
 use Rattle.presence.specs.Step.{stepOf}
 use Rattle.presence.specs.declared.Opened.{Opened}
 use Rattle.presence.specs.declared.State.{State}
-use Rattle.presence.proofs.StepLaws.{open-accepts, open-valid, step-valid, step-refused}
+use Rattle.presence.proofs.StateStepLaws.{open-accepts, open-valid, step-valid, step-refused}
 use Rattle.script.specs.Check.{checkScript}
 use Rattle.script.specs.Cursor.{advanced}
 use Rattle.script.specs.declared.Events.{Events}

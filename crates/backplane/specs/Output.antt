@@ -5,7 +5,7 @@ use mathlib.Core.Path.{_≡_}
 use mathlib.Core.Bool.{cond}
 use mathlib.Core.List.{List, [], _++_}
 use lib.ListN.{take}
-use Rattle.setup.specs.Verdict.{isAccepted}
+use Rattle.words.specs.Verdict.{isAccepted}
 use Rattle.script.specs.Check.{checkScript}
 use Rattle.script.specs.Rounds.{roundsOf}
 use Rattle.text.specs.Lines.{refusedLine}

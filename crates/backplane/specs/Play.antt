@@ -17,7 +17,7 @@ use Rattle.presence.specs.declared.State.{State}
 use Rattle.presence.specs.declared.Stepped.{Stepped}
 use Rattle.script.specs.declared.Events.{Events}
 use Rattle.agreement.specs.Fault.{followsIn, firstFollower, keptOver}
-use Rattle.bus.specs.Bus.{faultless, arrived, readWords, readBits}
+use Rattle.bus.specs.Bus.{faultless, arrived, wordsRead, bitsRead}
 use Rattle.bus.specs.Senders.{hearingOf, sendersIn}
 use Rattle.bus.specs.declared.Bus.{Bus}
 use Rattle.bus.specs.declared.Hearing.{Hearing}
@@ -63,8 +63,8 @@ sentWords n states = array n (λ j. busWord (stateAt states j .latest % 2 ^ 28))
 unfoldable pub stepAt : Setup → List State → Bus → Bus → ℕ → Stepped
 stepAt s states this before i =
     let place = getD (s .places) i 0 in
-    stepOf (stateAt states i) (readWords (s .n) place i (this .words) (before .words))
-    (readBits (s .n) place (getD (this .bits) i 0) (getD (before .bits) i 0))
+    stepOf (stateAt states i) (wordsRead (s .n) place i (this .words) (before .words))
+    (bitsRead (s .n) place (getD (this .bits) i 0) (getD (before .bits) i 0))
 
 -- the states that the steps of all modules hand back
 unfoldable pub steppedStates : Setup → List State → Bus → Bus → List State

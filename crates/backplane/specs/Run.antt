@@ -5,10 +5,10 @@ use mathlib.Core.List.{List}
 use lib.Dec.{ltb}
 use lib.ListN.{getD}
 use Rattle.words.specs.Word.{wordAt}
-use Rattle.setup.specs.Verdict.{isAccepted}
+use Rattle.words.specs.Verdict.{isAccepted}
 use Rattle.setup.specs.Setup.{sizeIn, blankSetup}
 use Rattle.setup.specs.Check.{setupPart, readSetup}
-use Rattle.script.specs.Words.{castIn}
+use Rattle.script.specs.Words.{castAt, castIn}
 use Rattle.script.specs.Check.{checkScript}
 use Rattle.script.specs.Events.{none}
 use Rattle.script.specs.Cursor.{start, advanced}
@@ -23,7 +23,7 @@ use Rattle.backplane.specs.declared.Started.{Started}
 unfoldable pub begun : List ℕ → Run
 begun s =
     let n = sizeIn (wordAt s 0) in
-    record { cursor = start n; backplane = opened (readSetup (setupPart s) .setup) (castIn (wordAt s (n + 3))) }
+    record { cursor = start n; backplane = opened (readSetup (setupPart s) .setup) (castIn (wordAt s (castAt n))) }
 
 -- what is held where a script is refused: nothing to play
 unfoldable pub idle : Run

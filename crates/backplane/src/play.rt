@@ -23,7 +23,7 @@ ghost use mathlib.Core.Path.{_≡_};
 ghost use Prim.Native.Nat.{ℕ, _≤_, _<_, _^_};
 ghost use Rattle.presence.specs.Valid.{Valid};
 ghost use Rattle.presence.specs.Step.{stepOf};
-ghost use Rattle.bus.specs.Bus.{readWords};
+ghost use Rattle.bus.specs.Bus.{wordsRead};
 ghost use Rattle.backplane.specs.Play.{stateAt, Sound, openedStates, opened, sentWords, steppedStates, answeredHealth, earlier, followersView, countingView, played};
 
 // What the steps of a round give: the states, and the health vectors answered.
@@ -72,7 +72,7 @@ fn step_one(
     bits: u32,
 ) -> Stepped
     requires { ⌜ (n ≤ 16) × (i < 16) × Valid state ⌝ }
-    ensures { λ r. ⌜ r ≡ stepOf state (readWords n place i (now (this .entry)) (now (before .entry))) bits ⌝ }
+    ensures { λ r. ⌜ r ≡ stepOf state (wordsRead n place i (now (this .entry)) (now (before .entry))) bits ⌝ }
 {
     let mut read = [0u8; 64];
     let k = n * 4;

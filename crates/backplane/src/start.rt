@@ -19,7 +19,7 @@ fn begun(s: &[u8]) -> Run
     ensures { λ r. ⌜ r ≡ begun (now (s .entry)) ⌝ }
 {
     let n = size_at(s);
-    let cast = word_at(s, n + 3) % KIND;
+    let cast = word_at(s, 3 + n) % KIND;
     let read = setup::read::read(part(s));
     let setup = read.setup;
     let cursor = Cursor::start(n);

@@ -1,5 +1,5 @@
 -- Each rule-follower's word of a sender compared with that of one rule-follower: that finds the senders that are half heard.
-use Prim.Native.Nat.{ℕ, zero, suc, _+_, _-_, _*_, _/_, _%_, _<_, _≤_}
+use Prim.Native.Nat.{ℕ, _+_, _*_, _/_, _%_, _<_, _≤_}
 use mathlib.Core.Path.{_≡_, refl, sym, ap, ap₂, _∙_}
 use mathlib.Core.Bool.{Bool, true, false, cond, not, _&&_, _||_, Bool·beq}
 use mathlib.Core.Logic.{⊎-elim, _≢_}
@@ -18,7 +18,7 @@ use Rattle.words.proofs.TableLaws.{table-at}
 use Rattle.rules.specs.Hearing.{busWord, entryOf}
 use Rattle.rules.proofs.ReceptionLaws.{heard-is, entry-heard}
 use Rattle.agreement.specs.Fault.{followsIn, firstFollower, differ, half, heard}
-use Rattle.agreement.proofs.FaultLaws.{Follower, first-follower}
+use Rattle.agreement.proofs.FaultLaws.{first-follower}
 use Rattle.bus.specs.Bus.{bitTo, wordTo, roundOf}
 use Rattle.bus.specs.Heard.{heardWord, heardWords, otherwise}
 use Rattle.bus.specs.declared.Bus.{Bus}

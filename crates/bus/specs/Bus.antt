@@ -43,9 +43,9 @@ arrived n sent e = record {
 -- ---- rule 3: the words of this round for j below the read place, and those of the round before for the others
 
 -- the words that receiver i + 1 reads, as bytes, from those of both rounds; the entry of sender j + 1 stands at 16 * i + j
-unfoldable pub readWords : ℕ → ℕ → ℕ → List ℕ → List ℕ → List ℕ
-readWords n place i this before = bytesOf n (λ j. cond (ltb j place) (getD this (i * 16 + j) 0) (getD before (i * 16 + j) 0))
+unfoldable pub wordsRead : ℕ → ℕ → ℕ → List ℕ → List ℕ → List ℕ
+wordsRead n place i this before = bytesOf n (λ j. cond (ltb j place) (getD this (i * 16 + j) 0) (getD before (i * 16 + j) 0))
 
 -- the controller bits of that read, from those of the receiver in both rounds
-unfoldable pub readBits : ℕ → ℕ → ℕ → ℕ → ℕ
-readBits n place this before = pack n (λ j. bit (cond (ltb j place) this before) j)
+unfoldable pub bitsRead : ℕ → ℕ → ℕ → ℕ → ℕ
+bitsRead n place this before = pack n (λ j. bit (cond (ltb j place) this before) j)

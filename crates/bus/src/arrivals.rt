@@ -16,7 +16,7 @@ ghost use lib.ListN.{length, getD};
 ghost use Rattle.words.specs.Bits.{pack};
 ghost use Rattle.words.specs.Array.{array};
 ghost use Rattle.words.specs.Table.{table};
-ghost use Rattle.bus.specs.Bus.{faultless, arrived, readWords, readBits};
+ghost use Rattle.bus.specs.Bus.{faultless, arrived, wordsRead, bitsRead};
 
 // The same number 256 times.
 fn repeated(w: u32) -> [u32; 256]
@@ -97,7 +97,7 @@ pub fn put_read(
     out: &mut [u8],
 )
     requires { ⌜ (n ≤ 16) × (i < 16) × (length (now out) ≡ n * 4) ⌝ }
-    ensures { λ _. ⌜ now (out .exit) ≡ readWords n place i (now (this .entry)) (now (before .entry)) ⌝ }
+    ensures { λ _. ⌜ now (out .exit) ≡ wordsRead n place i (now (this .entry)) (now (before .entry)) ⌝ }
 {
     for j in 0..n {
         let x = i * 16 + j;
@@ -109,7 +109,7 @@ pub fn put_read(
 // Rule 3: the controller bits of that read.
 pub fn read_bits(n: usize, place: u32, this: u32, before: u32) -> u32
     requires { ⌜ n ≤ 16 ⌝ }
-    ensures { λ r. ⌜ r ≡ readBits n place this before ⌝ }
+    ensures { λ r. ⌜ r ≡ bitsRead n place this before ⌝ }
 {
     let mut bits: u32 = 0;
     for j in 0..n {

@@ -1,6 +1,7 @@
-pub mod FieldLaws
-pub mod ImageWords
-pub mod ImageBytes
-pub mod CheckLaws
+pub mod SingleWords
+pub mod RowLaws
+pub mod CounterLaws
+pub mod TailLaws
 pub mod ReadLaws
-pub mod AnswerLaws
+pub mod SectionLaws
+pub mod ImageAnswers

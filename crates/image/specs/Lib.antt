@@ -1,3 +1,5 @@
-pub mod Fits
+pub mod Layout
 pub mod Words
+pub mod Rows
+pub mod Counters
 pub mod Check

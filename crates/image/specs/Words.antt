@@ -1,12 +1,18 @@
--- The words of a saved state: what each is made of, and the fields that are read from it. (document 01, "What runs", kinds 10 to 14)
-use Prim.Native.Nat.{ℕ, _+_, _*_, _%_, _^_}
-use mathlib.Core.Bool.{Bool}
-use Rattle.words.specs.Word.{field}
-use Rattle.words.specs.Bits.{b2n, bit}
+-- The words of a saved state that stand alone: what each is made of, the fields that are read from it, and its test.
+-- (document 01, "What runs", kinds 10 and 12; "Answers and their order", numbers 7 and 8)
+use Prim.Native.Nat.{ℕ, _+_, _*_, _/_, _%_, _^_}
+use mathlib.Core.Bool.{Bool, not, _&&_, _||_}
+use lib.Dec.{eqb, ltb}
+use Rattle.words.specs.Word.{field, kindUnit}
+use Rattle.words.specs.Verdict.{between}
+
+-- a vector of the modules, the view, a row or a syndrome, stands below this
+abbrev pub vectorUnit : ℕ
+vectorUnit = 2 ^ 16
 
 -- kind 10: own number 20..16, view 15..0
 abbrev pub ownWord : ℕ → ℕ → ℕ
-ownWord own view = 10 * 2 ^ 28 + own * 2 ^ 16 + view
+ownWord own view = 10 * kindUnit + own * vectorUnit + view
 
 -- the own number in such a word
 abbrev pub ownIn : ℕ → ℕ
@@ -14,36 +20,24 @@ ownIn w = field 16 5 w
 
 -- the view in it
 abbrev pub viewIn : ℕ → ℕ
-viewIn w = w % 2 ^ 16
+viewIn w = w % vectorUnit
 
--- kind 11, of sender j + 1: 27..23 sender, 22 heard, 15..0 row
-abbrev pub rowWord : ℕ → Bool → ℕ → ℕ
-rowWord j heard row = 11 * 2 ^ 28 + (j + 1) * 2 ^ 23 + b2n heard * 2 ^ 22 + row
+-- an own number 1..N, else number 7; tested only where the word is of kind 10
+unfoldable pub ownNumberOk : ℕ → ℕ → Bool
+ownNumberOk n w = not (eqb (w / kindUnit) 10) || between 1 n (ownIn w)
 
--- whether the sender of such a word was heard
-abbrev pub heardIn : ℕ → Bool
-heardIn w = bit w 22
-
--- the row in it, with the spare bits 21..16, which the check refuses
-abbrev pub rowIn : ℕ → ℕ
-rowIn w = w % 2 ^ 22
+-- kind 10, no spare bit, a view without bits at N or above, else number 8
+unfoldable pub ownOk : ℕ → ℕ → Bool
+ownOk n w = eqb (w / 2 ^ 21) (10 * 2 ^ 7) && ltb (viewIn w) (2 ^ n)
 
 -- kind 12: 15..0 one aligned syndrome
 abbrev pub syndromeWord : ℕ → ℕ
-syndromeWord v = 12 * 2 ^ 28 + v
+syndromeWord v = 12 * kindUnit + v
 
 -- the syndrome in such a word, with the spare bits 27..16, which the check refuses
 abbrev pub syndromeIn : ℕ → ℕ
-syndromeIn w = w % 2 ^ 28
+syndromeIn w = w % kindUnit
 
--- kinds 13 and 14, of module j + 1: 27..23 module, then penalty in 20..0; reward in 22..0
-abbrev pub counterWord : ℕ → ℕ → ℕ → ℕ
-counterWord kind j v = kind * 2 ^ 28 + (j + 1) * 2 ^ 23 + v
-
--- the counter in such a word, a penalty with the spare bits 22 and 21, which the check refuses
-abbrev pub counterIn : ℕ → ℕ
-counterIn w = w % 2 ^ 23
-
--- the length of an image in bytes: the setup's N + 3 words, then 3N + 3
-abbrev pub imageLength : ℕ → ℕ
-imageLength n = (4 * n + 6) * 4
+-- kind 12, no bit at N or above, else number 8
+unfoldable pub syndromeOk : ℕ → ℕ → Bool
+syndromeOk n w = eqb (w / kindUnit) 12 && ltb (syndromeIn w) (2 ^ n)

@@ -1,140 +1,133 @@
 // The check of a saved state in lent bytes: numbers 1 to 8, each with the index of the first word that is wrong.
+use crate::counters::penalty_right;
+use crate::counters::reward_right;
+use crate::layout::earlier_at;
+use crate::layout::image_length;
+use crate::layout::latest_at;
+use crate::layout::own_at;
+use crate::layout::penalties_at;
+use crate::layout::rewards_at;
+use crate::layout::rows_at;
+use crate::rows::row_right;
 use crate::word::own_number_ok;
 use crate::word::own_ok;
-use crate::word::penalty_ok;
-use crate::word::reward_ok;
-use crate::word::row_ok;
 use crate::word::syndrome_ok;
-use setup::Verdict;
-use setup::check::answer;
 use setup::check::check_head;
 use setup::check::check_words;
 use setup::check::size_at;
-use words::bits::bit_at;
-use words::word::KIND;
-use words::word::NUMBER;
+use words::Verdict;
+use words::check::accept;
+use words::check::refusal;
 use words::word::word_at;
 ghost use mathlib.Core.Path.{_≡_};
 ghost use mathlib.Core.Bool.{not};
-ghost use Prim.Native.Nat.{_+_, _*_, _^_, _≤_, _<_};
+ghost use mathlib.Core.List.{[], _∷_};
+ghost use Prim.Native.Nat.{_≤_, _<_};
 ghost use lib.ListN.{length};
 ghost use Rattle.words.specs.Word.{wordAt};
-ghost use Rattle.words.specs.Bits.{bit};
 ghost use Rattle.words.specs.Count.{lowest};
-ghost use Rattle.setup.specs.Setup.{criticalityIn};
-ghost use Rattle.image.specs.Words.{counterIn, imageLength};
-ghost use Rattle.image.specs.Check.{rowOk, penaltyOk, rewardOk, checkCounters, checkSyndromes, checkTail, checkImage};
+ghost use Rattle.words.specs.Verdict.{andThen, outcome, single, each, firstRefusal, thenTests};
+ghost use Rattle.image.specs.Layout.{ownAt, endAt, imageLength};
+ghost use Rattle.image.specs.Words.{ownNumberOk, ownOk, syndromeOk};
+ghost use Rattle.image.specs.Counters.{counterTests};
+ghost use Rattle.image.specs.Check.{sectionTest, checkTail, checkImage};
 
-// The first module whose row word is wrong, or 0.
-fn wrong_row(s: &[u8], n: usize) -> usize
+// Whether the word of module j + 1 in the section of a kind is right.
+fn word_right(s: &[u8], n: usize, kind: u32, j: usize) -> bool
+    requires { ⌜ (n ≤ 16) × (length (now s) ≡ imageLength n) × (j < n) ⌝ }
+    ensures { λ r. ⌜ r ≡ sectionTest (wordAt (now (s .entry))) n kind j ⌝ }
+{
+    match kind {
+        11 => row_right(s, n, j),
+        13 => penalty_right(s, n, j),
+        _ => reward_right(s, n, j),
+    }
+}
+
+// One more than the first word of such a section that is wrong, or 0.
+fn wrong_word(s: &[u8], n: usize, kind: u32) -> usize
     requires { ⌜ (n ≤ 16) × (length (now s) ≡ imageLength n) ⌝ }
-    ensures { λ r. ⌜ r ≡ lowest n (λ j. not (rowOk n j (wordAt (now (s .entry)) (n + 4 + j)))) ⌝ }
+    ensures { λ r. ⌜ (r ≡ lowest n (λ j. not (sectionTest (wordAt (now (s .entry))) n kind j))) × (r ≤ n) ⌝ }
 {
     let mut j: usize = 0;
     loop {
         if n <= j {
             break 0;
         }
-        if !row_ok(n, j, word_at(s, n + 4 + j)) {
+        if !word_right(s, n, kind, j) {
             break j + 1;
         }
         j += 1;
     }
 }
 
-// The first module whose penalty word is wrong, or 0.
-fn wrong_penalty(s: &[u8], n: usize, p: u32, view: u32) -> usize
-    requires { ⌜ (n ≤ 16) × (length (now s) ≡ imageLength n) × (p < 2 ^ 28) ⌝ }
+// The answer v, then number 8 at the first wrong word of a section with one word a module.
+fn then_section(v: Verdict, s: &[u8], n: usize, kind: u32, at: usize) -> Verdict
+    requires { ⌜ (n ≤ 16) × (length (now s) ≡ imageLength n) × (at ≤ endAt n) ⌝ }
+    ensures { λ r. ⌜ r ≡ andThen v (outcome (each n (sectionTest (wordAt (now (s .entry))) n kind) 8 at)) ⌝ }
+{
+    if v.number != 0 {
+        return v;
+    }
+    let found = wrong_word(s, n, kind);
+    if found == 0 {
+        return accept();
+    }
+    refusal(8, (at + found - 1) as u32)
+}
+
+// The answer v, then number 8 for a wrong syndrome.
+fn then_syndrome(v: Verdict, s: &[u8], n: usize, at: usize) -> Verdict
+    requires { ⌜ (n ≤ 16) × (length (now s) ≡ imageLength n) × (at < endAt n) ⌝ }
+    ensures { λ r. ⌜ r ≡ andThen v (outcome (single (syndromeOk n (wordAt (now (s .entry)) at)) 8 at)) ⌝ }
+{
+    if v.number != 0 {
+        return v;
+    }
+    if syndrome_ok(n, word_at(s, at)) {
+        return accept();
+    }
+    refusal(8, at as u32)
+}
+
+// Numbers 7 and 8 of the word of the own number and the view.
+fn check_own(s: &[u8], n: usize) -> Verdict
+    requires { ⌜ (n ≤ 16) × (length (now s) ≡ imageLength n) ⌝ }
     ensures { λ r. ⌜ r
-        ≡ lowest n (λ j. not (penaltyOk p (criticalityIn (wordAt (now (s .entry)) (3 + j))) (bit view j) j
-        (wordAt (now (s .entry)) (2 * n + 6 + j)))) ⌝ }
+        ≡ firstRefusal (single (ownNumberOk n (wordAt (now (s .entry)) (ownAt n))) 7 (ownAt n)
+        ∷ single (ownOk n (wordAt (now (s .entry)) (ownAt n))) 8 (ownAt n)
+        ∷ []) ⌝ }
 {
-    let mut j: usize = 0;
-    loop {
-        if n <= j {
-            break 0;
-        }
-        let criticality = word_at(s, 3 + j) % 131072;
-        if !penalty_ok(
-            p,
-            criticality,
-            bit_at(view, j),
-            j,
-            word_at(s, 2 * n + 6 + j),
-        ) {
-            break j + 1;
-        }
-        j += 1;
+    let at = own_at(n);
+    let w = word_at(s, at);
+    if !own_number_ok(n, w) {
+        return refusal(7, at as u32);
     }
+    if own_ok(n, w) {
+        return accept();
+    }
+    refusal(8, at as u32)
 }
 
-// The first module whose reward word is wrong, or 0.
-fn wrong_reward(s: &[u8], n: usize, limit: u32) -> usize
+// The answer v, then number 8 for the counters.
+fn then_counters(v: Verdict, s: &[u8], n: usize) -> Verdict
     requires { ⌜ (n ≤ 16) × (length (now s) ≡ imageLength n) ⌝ }
-    ensures { λ r. ⌜ r
-        ≡ lowest n (λ j. not (rewardOk limit (counterIn (wordAt (now (s .entry)) (2 * n + 6 + j))) j
-        (wordAt (now (s .entry)) (3 * n + 6 + j)))) ⌝ }
+    ensures { λ r. ⌜ r ≡ thenTests v (counterTests (wordAt (now (s .entry))) n) ⌝ }
 {
-    let mut j: usize = 0;
-    loop {
-        if n <= j {
-            break 0;
-        }
-        let penalty = word_at(s, 2 * n + 6 + j) % NUMBER;
-        if !reward_ok(limit, penalty, j, word_at(s, 3 * n + 6 + j)) {
-            break j + 1;
-        }
-        j += 1;
-    }
-}
-
-// Number 8 in the penalties and the rewards.
-fn check_counters(s: &[u8], n: usize, view: u32) -> Verdict
-    requires { ⌜ (n ≤ 16) × (length (now s) ≡ imageLength n) ⌝ }
-    ensures { λ r. ⌜ r ≡ checkCounters (now (s .entry)) n view ⌝ }
-{
-    let penalty = wrong_penalty(s, n, word_at(s, 1) % KIND, view);
-    if penalty != 0 {
-        return answer(8, (2 * n + 5 + penalty) as u32);
-    }
-    let reward = wrong_reward(s, n, word_at(s, 2) % KIND);
-    if reward != 0 {
-        return answer(8, (3 * n + 5 + reward) as u32);
-    }
-    answer(0, 0)
-}
-
-// Number 8 in the syndromes and what follows them.
-fn check_syndromes(s: &[u8], n: usize, view: u32) -> Verdict
-    requires { ⌜ (n ≤ 16) × (length (now s) ≡ imageLength n) ⌝ }
-    ensures { λ r. ⌜ r ≡ checkSyndromes (now (s .entry)) n view ⌝ }
-{
-    if !syndrome_ok(n, word_at(s, 2 * n + 4)) {
-        return answer(8, (2 * n + 4) as u32);
-    }
-    if !syndrome_ok(n, word_at(s, 2 * n + 5)) {
-        return answer(8, (2 * n + 5) as u32);
-    }
-    check_counters(s, n, view)
+    let penalties = then_section(v, s, n, 13, penalties_at(n));
+    then_section(penalties, s, n, 14, rewards_at(n))
 }
 
 // Numbers 7 and 8.
-fn check_tail(s: &[u8], n: usize) -> Verdict
+pub fn check_tail(s: &[u8], n: usize) -> Verdict
     requires { ⌜ (n ≤ 16) × (length (now s) ≡ imageLength n) ⌝ }
-    ensures { λ r. ⌜ r ≡ checkTail (now (s .entry)) n ⌝ }
+    ensures { λ r. ⌜ r ≡ checkTail (wordAt (now (s .entry))) n ⌝ }
 {
-    let own = word_at(s, n + 3);
-    if !own_number_ok(n, own) {
-        return answer(7, (n + 3) as u32);
-    }
-    if !own_ok(n, own) {
-        return answer(8, (n + 3) as u32);
-    }
-    let row = wrong_row(s, n);
-    if row != 0 {
-        return answer(8, (n + 3 + row) as u32);
-    }
-    check_syndromes(s, n, own % 65536)
+    let own = check_own(s, n);
+    let rows = then_section(own, s, n, 11, rows_at(n));
+    let latest = then_syndrome(rows, s, n, latest_at(n));
+    let earlier = then_syndrome(latest, s, n, earlier_at(n));
+    then_counters(earlier, s, n)
 }
 
 // Numbers 1 to 8.
@@ -146,8 +139,8 @@ pub fn check_image(s: &[u8]) -> Verdict
         return head;
     }
     let n = size_at(s);
-    if s.len() != (4 * n + 6) * 4 {
-        return answer(3, 0);
+    if s.len() != image_length(n) {
+        return refusal(3, 0);
     }
     let front = check_words(s, n);
     if front.number != 0 {

@@ -1,12 +1,14 @@
 // The words of a saved state: read, checked and written, with no state that holds them. Entries and bits of module j + 1 stand at j.
 use rules::Counters;
 use rules::Reading;
-use setup::Setup;
 
-// The setup of an image, and whether its words after the head are right.
-pub struct SetupPart {
+// The words of an image that stand alone, and whether they are right.
+pub struct WordsPart {
     pub good: bool,
-    pub setup: Setup,
+    pub own: usize,
+    pub view: u32,
+    pub latest: u32,
+    pub earlier: u32,
 }
 
 // The previous read of an image, and whether its words are right.
@@ -22,14 +24,8 @@ pub struct CountersPart {
 }
 
 pub mod check;
-mod fields;
+pub mod counters;
+pub mod layout;
 pub mod read;
-mod word;
-pub mod write;
-
-// What a state in a struct is tested by, and the words that stand alone in an image.
-pub use fields::wrong_penalties;
-pub use fields::wrong_rewards;
-pub use fields::wrong_rows;
-pub use word::own_word;
-pub use word::syndrome_word;
+pub mod rows;
+pub mod word;

@@ -10,10 +10,9 @@ use lib.Dec.{eqb, leb}
 use lib.ListN.{length}
 use Rattle.words.specs.Bits.{b2n}
 use Rattle.words.proofs.Truth.{which, cond-true, cond-false}
-use Rattle.setup.specs.declared.Verdict.{Verdict}
+use Rattle.words.specs.declared.Verdict.{Verdict}
 use Rattle.page.proofs.Refusals.{refusals}
 use Rattle.scanlock.specs.Locks.{freshLocks, openLocks, eventOf}
-use Rattle.scanlock.specs.History.{number, acceptedEvents}
 use Rattle.scanlock.specs.ByHistory.{locksAfter}
 use Rattle.scanlock.specs.SoundLocks.{SoundLocks}
 use Rattle.scanlock.specs.declared.Locks.{Locks}
@@ -25,7 +24,7 @@ use Rattle.scanlock.proofs.SoundLocks.{fresh-sound, event-sound}
 use Rattle.scanlock.proofs.RefusalLaws.{refused-same}
 use Rattle.lockcalls.specs.LockImage.{lockImage, locksOf, checkLockImage}
 use Rattle.lockcalls.specs.LockCalls.{LockCalled, lockAnswer, lockCalled, answerFor, answerBy, saveLocks, lockOpenCall, eventCall, joystickCall}
-use Rattle.lockcalls.specs.Callers.{LockRoundTrip, RefusedCall, lock-opening, lock-event, of-presence, Unaltered, HeldLock, lock-opened, event-told, event-refused, other-refused, ImagesByHistory}
+use Rattle.lockcalls.specs.Callers.{LockRoundTrip, lock-opening, lock-event, of-presence, Unaltered, HeldLock, lock-opened, event-told, event-refused, other-refused, ImagesByHistory}
 use Rattle.lockcalls.specs.declared.LockAnswer.{LockAnswer}
 use Rattle.lockcalls.proofs.LockImageLaws.{lock-written-read, lock-read-written}
 

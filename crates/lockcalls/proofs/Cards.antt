@@ -9,13 +9,9 @@ use native.Mathlib.Nat.{zero-lt-suc, lt-suc-self}
 use lib.Dec.{eqb, ltb}
 use borrow.Author.Tests.{lt-ltb, eq-eqb, eqb-true}
 use Rattle.words.proofs.Truth.{which, clash, cond-true, cond-false}
-use Rattle.setup.specs.Verdict.{accepted}
-use Rattle.setup.specs.Setup.{setupOf}
-use Rattle.setup.specs.Check.{setupVerdict, checkSetup}
-use Rattle.setup.proofs.SetupLaws.{fields-pass}
+use Rattle.setup.proofs.SetupLaws.{verdict-fits}
 use Rattle.rules.specs.declared.Counters.{Counters}
-use Rattle.presence.specs.Image.{stateOf}
-use Rattle.agreement.specs.Session.{Session, Accepted, size, RuleFollower, Bound}
+use Rattle.agreement.specs.Session.{Session, size}
 use Rattle.agreement.specs.Demand.{KeptTo}
 use Rattle.agreement.proofs.Demand.{demand-3}
 use Rattle.agreement.proofs.Images.{demand-3-c}
@@ -24,14 +20,14 @@ use Rattle.scanlock.specs.Locks.{axisAt, joystickOf}
 use Rattle.scanlock.specs.History.{latestView, number, acceptedEvents}
 use Rattle.scanlock.specs.ByHistory.{locksAfter}
 use Rattle.scanlock.specs.SoundLocks.{heldWell, SoundLocks}
-use Rattle.lockcalls.specs.LockImage.{lockImage}
-use Rattle.lockcalls.specs.Callers.{HeldLock}
-use Rattle.lockcalls.specs.Cards.{ViewTaken, ViewsTaken, Card, history, toldCard, AlikeCards, CardsAgree, ImageCard, toldImages, ImagesAgree}
 use Rattle.scanlock.specs.declared.Axis.{Axis}
 use Rattle.scanlock.specs.declared.Event.{Event}
 use Rattle.scanlock.specs.declared.Event.the-variants.{View}
 use Rattle.scanlock.proofs.ByHistory.{by-history}
 use Rattle.scanlock.proofs.SoundLocks.{fits-of, fresh-sound, event-sound}
+use Rattle.lockcalls.specs.LockImage.{lockImage}
+use Rattle.lockcalls.specs.Callers.{HeldLock}
+use Rattle.lockcalls.specs.Cards.{ViewTaken, ViewsTaken, history, toldCard, CardsAgree, toldImages, ImagesAgree}
 use Rattle.lockcalls.proofs.Callers.{images-by-history}
 
 -- ---- a card's own view
@@ -66,9 +62,8 @@ view-taken n least most h view l =
     }
 
 pub views-taken : ViewsTaken
-unfolding setupVerdict
 views-taken S ok i hi k health st life h =
-    let axisFits = fields-pass (S .setup) accepted ok .0 in
+    let axisFits = verdict-fits (S .setup) ok in
     view-taken (size S) (axisFits .least) (axisFits .most) h (st .counters .view) (demand-3 .served S ok i hi .view k health st life)
 
 -- ---- the cards together

@@ -9,8 +9,7 @@ use lib.ListN.{length}
 use Rattle.words.specs.Word.{wordAt}
 use Rattle.words.specs.Bits.{b2n}
 use Rattle.words.proofs.Truth.{cond-true, cond-false}
-use Rattle.setup.specs.Verdict.{isAccepted}
-use Rattle.setup.specs.declared.Verdict.{Verdict}
+use Rattle.words.specs.declared.Verdict.{Verdict}
 use Rattle.scanlock.specs.Locks.{locks, openLocks, eventOf, blankLocks, joystickOf}
 use Rattle.scanlock.specs.declared.Axis.{Axis}
 use Rattle.scanlock.specs.declared.Locks.{Locks}

@@ -11,9 +11,9 @@ use lib.ListN.{length}
 use Rattle.words.specs.Word.{wordAt}
 use Rattle.words.proofs.LowestLaws.{lowest-le}
 use Rattle.words.proofs.Truth.{which, and-l, and-r, not-both, cond-true, cond-false}
-use Rattle.setup.specs.Verdict.{verdict, accepted, andThen}
+use Rattle.words.specs.Verdict.{verdict, accepted, andThen}
 use Rattle.setup.specs.Check.{whole}
-use Rattle.setup.specs.declared.Verdict.{Verdict}
+use Rattle.words.specs.declared.Verdict.{Verdict}
 use Rattle.scanlock.specs.SoundLocks.{axisFits}
 use Rattle.scanlock.specs.declared.Axis.{Axis}
 use Rattle.lockcalls.specs.LockImage.{lockHeadOk, axisWord, axisIn, axisOk, wholeTest, firstWrong, axesTest, checkLockImage}
@@ -22,11 +22,11 @@ use Rattle.lockcalls.specs.LockImage.{lockHeadOk, axisWord, axisIn, axis
 
 module _ {ok : Bool} (number : ℕ) (next : Verdict) where
   test-passes : ok ≡ true → andThen (wholeTest ok number) next ≡ next
-  unfolding wholeTest
+  unfolding wholeTest andThen
   test-passes e = rw e refl
 
   test-refuses : eqb number 0 ≡ false → ok ≡ false → andThen (wholeTest ok number) next ≡ verdict number 0
-  unfolding wholeTest
+  unfolding wholeTest andThen
   test-refuses z e = rw e (cond-false next (verdict number 0) z)
 
 -- a word of an axis
@@ -95,8 +95,8 @@ module _ (s : List ℕ) {w : ℕ} {b : Bool} (t : whole s ≡ true) (e : w ≡ w
       words-right z = all-right s t (ap lockHeadOk (sym e) ∙ sym k ∙ y) l (sym same-first ∙ z)
 
 -- an index is a small number
-pub first-small : (view : ℕ) (s : List ℕ) {first : ℕ} → first ≡ firstWrong view s → first < 2 ^ 32
-first-small view s e = let h = lowest-le (λ i. not (axisOk view (wordAt s (i + 1)))) 8 in omega (arith, e, h)
+pub index-small : (view : ℕ) (s : List ℕ) {first : ℕ} → first ≡ firstWrong view s → first < 2 ^ 32
+index-small view s e = let h = lowest-le (λ i. not (axisOk view (wordAt s (i + 1)))) 8 in omega (arith, e, h)
 
 -- ---- what an accepted image is
 

@@ -17,18 +17,17 @@ use Rattle.words.specs.Table.{updated}
 use Rattle.words.proofs.Truth.{which, cond-true, cond-false, and-l, and-r, and-true, clash}
 use Rattle.words.proofs.BitLaws.{bit-high}
 use Rattle.words.proofs.ByteLaws.{bytes-length, word-of, bytes-ext}
-use Rattle.words.proofs.RunLaws.{bytes-own}
+use Rattle.words.proofs.ByteLaws.{bytes-own}
 use Rattle.words.proofs.LowestLaws.{lowest-empty, lowest-zero}
 use Rattle.words.proofs.TableLaws.{updated-at, updated-length}
-use Rattle.setup.specs.Verdict.{accepted}
+use Rattle.words.specs.Verdict.{accepted}
 use Rattle.scanlock.specs.Axis.{axis, free, present}
-use Rattle.scanlock.specs.Locks.{locks}
 use Rattle.scanlock.specs.SoundLocks.{heldWell, axisFits, SoundLocks}
-use Rattle.lockcalls.specs.LockImage.{lockHead, lockHeadOk, axisWord, axisIn, axisOk, lockWord, lockImage, axesIn, locksOf, checkLockImage}
 use Rattle.scanlock.specs.declared.Axis.{Axis}
 use Rattle.scanlock.specs.declared.Locks.{Locks}
-use Rattle.lockcalls.proofs.LockCheckLaws.{Good, good-check, image-good}
 use Rattle.scanlock.proofs.SoundLocks.{Fits, fits-of}
+use Rattle.lockcalls.specs.LockImage.{lockHead, lockHeadOk, axisWord, axisIn, axisOk, lockWord, lockImage, axesIn, locksOf, checkLockImage}
+use Rattle.lockcalls.proofs.LockCheckLaws.{Good, good-check, image-good}
 
 -- ---- the word of an axis
 

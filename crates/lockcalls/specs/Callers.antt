@@ -5,7 +5,7 @@ use mathlib.Core.Logic.{_≢_}
 use mathlib.Core.List.{List, [], _∷_}
 use lib.ListN.{getD, length}
 use Rattle.words.specs.Bits.{b2n}
-use Rattle.setup.specs.Verdict.{accepted}
+use Rattle.words.specs.Verdict.{accepted}
 use Rattle.page.specs.Refusals.{Refused as RefusedPresence}
 use Rattle.scanlock.specs.History.{number, acceptedEvents, live}
 use Rattle.scanlock.specs.ByHistory.{locksAfter}

@@ -14,9 +14,9 @@ use Rattle.agreement.specs.Images.{ImageLife, SetUp}
 use Rattle.scanlock.specs.Axis.{present}
 use Rattle.scanlock.specs.Locks.{axisAt, eventOf, joystickOf}
 use Rattle.scanlock.specs.ByHistory.{locksAfter}
-use Rattle.lockcalls.specs.Callers.{HeldLock}
 use Rattle.scanlock.specs.declared.Event.{Event}
 use Rattle.scanlock.specs.declared.Event.the-variants.{View}
+use Rattle.lockcalls.specs.Callers.{HeldLock}
 
 -- ---- a card's own view
 

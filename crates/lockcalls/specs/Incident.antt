@@ -8,11 +8,11 @@ use mathlib.Core.List.{List, [], _∷_, _++_}
 use lib.Dec.{eqb, leb}
 use lib.ListN.{getD}
 use Rattle.agreement.specs.Session.{Session, state}
-use Rattle.agreement.specs.Stars.{Case, case, test, sheet, session, bound, keptTo, views}
+use Rattle.agreement.specs.Stars.{Case, test, sheet, session, bound, keptTo, views}
 use Rattle.scanlock.specs.History.{live}
-use Rattle.lockcalls.specs.Cards.{history}
 use Rattle.scanlock.specs.declared.Event.{Event}
 use Rattle.scanlock.specs.declared.Event.the-variants.{Begin, Start, Abort, Stopped}
+use Rattle.lockcalls.specs.Cards.{history}
 
 -- the sheet's setup; the rows that were sent in rounds 1, 2 and 3
 abbrev pub loosePlug : Session

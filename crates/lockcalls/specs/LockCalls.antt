@@ -5,8 +5,8 @@ use mathlib.Core.List.{List}
 use lib.Dec.{eqb}
 use lib.ListN.{length}
 use Rattle.words.specs.Bits.{b2n}
-use Rattle.setup.specs.Verdict.{isAccepted}
-use Rattle.setup.specs.declared.Verdict.{Verdict}
+use Rattle.words.specs.Verdict.{isAccepted}
+use Rattle.words.specs.declared.Verdict.{Verdict}
 use Rattle.scanlock.specs.Locks.{openLocks, eventOf, joystickOf}
 use Rattle.scanlock.specs.declared.Locks.{Locks}
 use Rattle.scanlock.specs.declared.Event.{Event}

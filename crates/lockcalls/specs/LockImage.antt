@@ -12,9 +12,9 @@ use Rattle.words.specs.Word.{wordAt, bytesOf}
 use Rattle.words.specs.Bits.{b2n}
 use Rattle.words.specs.Count.{lowest}
 use Rattle.words.specs.Table.{updated}
-use Rattle.setup.specs.Verdict.{verdict, accepted, isAccepted, andThen}
+use Rattle.words.specs.Verdict.{verdict, accepted, isAccepted, andThen}
 use Rattle.setup.specs.Check.{whole}
-use Rattle.setup.specs.declared.Verdict.{Verdict}
+use Rattle.words.specs.declared.Verdict.{Verdict}
 use Rattle.scanlock.specs.Axis.{axis, free}
 use Rattle.scanlock.specs.Locks.{locks, blankLocks}
 use Rattle.scanlock.specs.SoundLocks.{axisFits}

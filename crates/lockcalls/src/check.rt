@@ -1,7 +1,7 @@
 // The check of a saved scan lock: 1, 2, 3, then 8 at the first wrong word of an axis.
 use crate::word::axis_ok;
 use crate::word::head_ok;
-use setup::Verdict;
+use words::Verdict;
 use words::word::word_at;
 ghost use mathlib.Core.Path.{_≡_};
 ghost use lib.ListN.{length};

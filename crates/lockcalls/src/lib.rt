@@ -16,9 +16,9 @@ pub struct LockAnswer {
     pub joystick: u32,
 }
 
-pub mod calls;
 mod check;
 mod load;
+pub mod lock_calls;
 mod save;
 mod word;
 

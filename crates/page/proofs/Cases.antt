@@ -3,10 +3,7 @@ use mathlib.Core.Path.{refl}
 use Rattle.words.specs.Word.{wordAt, putWord, bytesOf}
 use Rattle.words.specs.Bits.{bit, pack}
 use Rattle.words.specs.Count.{count, any, all, lowest}
-use Rattle.words.specs.Array.{array, clearFrom}
-use Rattle.setup.specs.Verdict.{check, checkEach}
-use Rattle.setup.specs.Setup.{setupOf, setupBytes, blankSetup}
-use Rattle.setup.specs.Check.{moduleFits, markFits, whole, headOk, limitOk, moduleOk, markOk, checkHead, checkWords, checkSetup, setupTidy, checkFields}
+use Rattle.words.specs.Array.{array, clearFrom, bounded}
 use Rattle.rules.specs.Lag.{skewed}
 use Rattle.rules.specs.Hearing.{busWord, receptionOf, isHeard, rowIn, causeIn, entryOf, readingOf, causesOf}
 use Rattle.rules.specs.Alignment.{alignedOf}
@@ -14,13 +11,19 @@ use Rattle.vote.specs.Vote.{decision, tally, voteOf, healthOf}
 use Rattle.rules.specs.Accusation.{differsAt, accusationOf, accusationsOf}
 use Rattle.rules.specs.Syndrome.{syndromeOf, votersOf, judgementOf, outgoingOf}
 use Rattle.rules.specs.Account.{charged, rewarded, accounted, accountAt, accountedAt, countersOf}
-use Rattle.image.specs.Fits.{rowFits, penaltyFits, rewardFits}
-use Rattle.image.specs.Check.{ownNumberOk, ownOk, rowOk, syndromeOk, penaltyOk, rewardOk, checkTail, checkImage}
-use Rattle.presence.specs.Valid.{stateTidy, checkState, stateVerdict}
+use Rattle.words.specs.Verdict.{andThen, outcome, thenTests}
+use Rattle.words.specs.Runs.{runsOf, runWord}
+use Rattle.setup.specs.Setup.{setupOf, setupBytes, blankSetup}
+use Rattle.setup.specs.Check.{moduleFits, markFits, whole, headOk, limitOk, moduleOk, markOk, moduleTest, checkHead, checkWords, checkSetup, setupRoomy, roomVerdict, setupVerdict}
+use Rattle.image.specs.Words.{ownNumberOk, ownOk, syndromeOk}
+use Rattle.image.specs.Rows.{rowFits, rowOk, readingIn, rowsRoomy}
+use Rattle.image.specs.Counters.{penaltyFits, rewardFits, countersIn, countersRoomy}
+use Rattle.image.specs.Check.{checkTail, checkImage}
+use Rattle.presence.specs.Valid.{roomy, stateVerdict}
 use Rattle.presence.specs.Opening.{fresh, blank, checkOpening, openOf}
 use Rattle.presence.specs.Step.{placeOf, markOf, ownSyndrome, alignedFor, judgementFor, outgoingFor, afterRound, refusedStep, acceptedStep, testedStep, readStep, stepOf}
 use Rattle.presence.specs.Image.{imageOf, stateOf, roomFor}
-use Rattle.presence.specs.Calls.{refusedCall, wrote, openCall, stepCall, causeCall}
+use Rattle.calls.specs.Calls.{refusedCall, wrote, openCall, stepCall, causeCall}
 use Rattle.page.specs.Flags.{joined, cleared, shared}
 use Rattle.page.specs.Page.{openedWord, pageOpened, causeWord, putCauses, somebodyCharged, raised, pageStepped, pageWritten, interruptOn}
 use Rattle.page.specs.Host as host
@@ -28,5 +31,5 @@ use Rattle.page.specs.Calls.{withPage, pageOpenCall, pageStepCall}
 use Rattle.page.specs.Cases.{CasesRight}
 
 pub cases-right : CasesRight
-unfolding wordAt putWord bytesOf bit pack count any all lowest array clearFrom check checkEach setupOf setupBytes blankSetup moduleFits markFits whole headOk limitOk moduleOk markOk checkHead checkWords checkSetup setupTidy checkFields skewed busWord receptionOf isHeard rowIn causeIn entryOf readingOf causesOf alignedOf decision tally voteOf healthOf differsAt accusationOf accusationsOf syndromeOf votersOf judgementOf outgoingOf charged rewarded accounted accountAt accountedAt countersOf rowFits penaltyFits rewardFits ownNumberOk ownOk rowOk syndromeOk penaltyOk rewardOk checkTail checkImage stateTidy checkState stateVerdict fresh blank checkOpening openOf placeOf markOf ownSyndrome alignedFor judgementFor outgoingFor afterRound refusedStep acceptedStep testedStep readStep stepOf imageOf stateOf roomFor refusedCall wrote openCall stepCall causeCall joined cleared shared openedWord pageOpened causeWord putCauses somebodyCharged raised pageStepped pageWritten interruptOn host.readCall host.wrote host.writeCall host.interruptCall withPage pageOpenCall pageStepCall
+unfolding wordAt putWord bytesOf bit pack count any all lowest array clearFrom bounded andThen outcome thenTests runsOf runWord setupOf setupBytes blankSetup moduleFits markFits whole headOk limitOk moduleOk markOk moduleTest checkHead checkWords checkSetup setupRoomy roomVerdict setupVerdict skewed busWord receptionOf isHeard rowIn causeIn entryOf readingOf causesOf alignedOf decision tally voteOf healthOf differsAt accusationOf accusationsOf syndromeOf votersOf judgementOf outgoingOf charged rewarded accounted accountAt accountedAt countersOf rowFits penaltyFits rewardFits ownNumberOk ownOk rowOk syndromeOk readingIn rowsRoomy countersIn countersRoomy checkTail checkImage roomy stateVerdict fresh blank checkOpening openOf placeOf markOf ownSyndrome alignedFor judgementFor outgoingFor afterRound refusedStep acceptedStep testedStep readStep stepOf imageOf stateOf roomFor refusedCall wrote openCall stepCall causeCall joined cleared shared openedWord pageOpened causeWord putCauses somebodyCharged raised pageStepped pageWritten interruptOn host.readCall host.wrote host.writeCall host.interruptCall withPage pageOpenCall pageStepCall
 cases-right = refl

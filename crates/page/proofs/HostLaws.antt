@@ -14,7 +14,7 @@ use Rattle.words.proofs.Truth.{which, clash, cond-true, cond-false, cond-both, 
 use Rattle.page.specs.Flags.{cleared}
 use Rattle.page.specs.Page.{isPage, startsWord, pageWritten, interruptOn}
 use Rattle.page.specs.Host.{tell, readCall, Written, written, wrote, writeCall, interruptCall}
-use Rattle.presence.specs.declared.WordAnswer.{WordAnswer}
+use Rattle.calls.specs.declared.WordAnswer.{WordAnswer}
 
 -- neither of two, or one of them
 neither : (a b : Bool) → not a && not b ≡ true → a || b ≡ false

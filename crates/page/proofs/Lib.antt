@@ -5,9 +5,9 @@ pub mod PageWords
 pub mod HostLaws
 pub mod WithPageLaws
 pub mod Refusals
-pub mod CallLaws
+pub mod PageCallLaws
 pub mod OpenLaws
-pub mod StepLaws
+pub mod PageStepLaws
 pub mod ChargeLaws
 pub mod Promise
 pub mod Cases

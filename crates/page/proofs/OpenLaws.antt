@@ -10,24 +10,25 @@ use lib.Dec.{eqb}
 use borrow.Author.Tests.{eq-eqb, ne-eqb, eqb-false}
 use Rattle.words.specs.Word.{wordAt}
 use Rattle.words.proofs.Truth.{which, cond-true, cond-false}
-use Rattle.setup.specs.Verdict.{isAccepted}
+use Rattle.words.specs.Verdict.{isAccepted}
 use Rattle.setup.specs.Setup.{sizeIn, setupOf}
 use Rattle.setup.specs.Check.{checkSetup}
-use Rattle.setup.proofs.CheckLaws.{BytesFit, setup-pass}
-use Rattle.image.specs.Words.{viewIn, imageLength}
+use Rattle.setup.proofs.SetupCheckLaws.{BytesFit, setup-pass}
+use Rattle.image.specs.Layout.{ownAt, imageLength}
+use Rattle.image.specs.Words.{viewIn}
 use Rattle.presence.specs.Valid.{Valid}
 use Rattle.presence.specs.Opening.{fresh, blank, openOf}
 use Rattle.presence.specs.Image.{imageOf, roomFor}
-use Rattle.presence.specs.Calls.{Called, called, refusedCall, wrote, openCall}
-use Rattle.presence.specs.declared.Answer.{Answer}
+use Rattle.calls.specs.Calls.{Called, called, refusedCall, wrote, openCall}
+use Rattle.calls.specs.declared.Answer.{Answer}
 use Rattle.presence.specs.declared.State.{State}
 use Rattle.presence.specs.declared.Opened.{Opened}
-use Rattle.presence.proofs.StepLaws.{open-valid}
-use Rattle.presence.proofs.CallAnswers.{open-writes, open-passed}
+use Rattle.presence.proofs.StateStepLaws.{open-valid}
+use Rattle.calls.proofs.CallAnswers.{open-writes, open-passed}
 use Rattle.page.specs.Page.{pageOpened}
 use Rattle.page.specs.Calls.{pageCalled, pageOpenCall}
 use Rattle.page.proofs.WithPageLaws.{with-accepted, with-refused, with-before, with-nine}
-use Rattle.page.proofs.CallLaws.{moved, refused-by, no-room, image-view, image-length}
+use Rattle.page.proofs.PageCallLaws.{moved, refused-by, no-room, image-view, image-length}
 
 module _ (setup : List ℕ) (own : ℕ) where
   abbrev opened : Opened
@@ -114,17 +115,16 @@ module _ (setup : List ℕ) (own : ℕ) where
             ∙ ap (λ (x : State). x .setup .n)
             (sym (cond-true (fresh (setupOf setup) own) blank (eq-eqb (opened .number) 0 (open-passed setup own out answered .1))))
 
-        pub in-fresh : (n ≤ 16) × ((n + 3) * 4 + 4 ≤ length b)
+        pub in-fresh : (n ≤ 16) × (length b ≡ imageLength n)
         in-fresh =
             let f = fits .front .most in
-            let l : length b ≡ imageLength n = ap length wrote-image ∙ image-length (opened .state) fresh-valid ∙ ap imageLength (sym size-is) in
-            (omega arith, omega arith)
+            (omega arith, ap length wrote-image ∙ image-length (opened .state) fresh-valid ∙ ap imageLength (sym size-is))
 
-        pub open-paged : (page : List ℕ) {w : ℕ} {p : List ℕ} → length page ≡ 64 → w ≡ viewIn (wordAt b (n + 3)) → p ≡ pageOpened n w
+        pub open-paged : (page : List ℕ) {w : ℕ} {p : List ℕ} → length page ≡ 64 → w ≡ viewIn (wordAt b (ownAt n)) → p ≡ pageOpened n w
             → pageCalled (called r b) p ≡ pageOpenCall setup own out page
         unfolding pageOpenCall
         open-paged page {w} {p} l view h =
             let a : w ≡ opened .state .counters .view =
-            view ∙ ap₂ (λ (x : List ℕ) (k : ℕ). viewIn (wordAt x (k + 3))) wrote-image size-is ∙ image-view (opened .state) fresh-valid
+            view ∙ ap₂ (λ (x : List ℕ) (k : ℕ). viewIn (wordAt x (ownAt k))) wrote-image size-is ∙ image-view (opened .state) fresh-valid
             in
             ap₂ pageCalled e (h ∙ ap₂ pageOpened size-is a) ∙ with-accepted _ (openCall setup own out) out page _ l answered

@@ -12,44 +12,46 @@ use Rattle.words.specs.Word.{wordAt}
 use Rattle.words.specs.Bits.{bit}
 use Rattle.words.proofs.Truth.{which, cond-true, cond-false, or-r}
 use Rattle.words.proofs.WordLaws.{read-put, read-put-other}
-use Rattle.setup.specs.Verdict.{isAccepted}
+use Rattle.words.specs.Verdict.{isAccepted}
 use Rattle.setup.specs.Setup.{setupOf}
 use Rattle.rules.specs.Hearing.{readingOf, causesOf}
 use Rattle.rules.specs.Causes.{causeOf}
 use Rattle.rules.proofs.Causes.{of-read, hears, above as no-module}
+use Rattle.image.specs.Layout.{ownAt}
+use Rattle.image.specs.Counters.{countersIn}
 use Rattle.image.specs.Words.{viewIn}
 use Rattle.image.specs.Check.{checkImage}
 use Rattle.presence.specs.Valid.{Valid}
 use Rattle.presence.specs.Opening.{openOf}
 use Rattle.presence.specs.Step.{acceptedStep, stepOf}
 use Rattle.presence.specs.Image.{imageOf, stateOf}
-use Rattle.presence.specs.Calls.{openCall, stepCall, saveCall}
+use Rattle.calls.specs.Calls.{openCall, stepCall, saveCall}
 use Rattle.presence.specs.declared.State.{State}
 use Rattle.presence.specs.declared.Stepped.{Stepped}
 use Rattle.presence.proofs.ValidLaws.{valid-fits}
-use Rattle.presence.proofs.StepLaws.{step-accepted, step-valid, open-valid}
-use Rattle.presence.proofs.ImageLaws.{load-valid}
-use Rattle.presence.proofs.CallAnswers.{open-writes, open-passed, step-writes, step-passed, save-writes, save-passed}
+use Rattle.presence.proofs.StateStepLaws.{step-accepted, step-valid, open-valid}
+use Rattle.presence.proofs.ImageState.{load-valid}
+use Rattle.calls.proofs.CallAnswers.{open-writes, open-passed, step-writes, step-passed, save-writes, save-passed}
 use Rattle.page.specs.Flags.{cleared}
 use Rattle.page.specs.Page.{isPage, pageOpened, causeAt, somebodyCharged, raised, pageStepped, pageWritten, interruptOn}
 use Rattle.page.specs.Host.{writeCall}
 use Rattle.page.specs.Calls.{PageCalled, pageCalled, pageOpenCall, pageStepCall}
 use Rattle.page.specs.Refusals.{page-of-opening}
 use Rattle.page.specs.Promise.{Paged, opens, steps, saves, refused-image, refused-page, writes, Unnamed, here, stepped, not-opened, written, Promise}
-use Rattle.page.proofs.CallLaws.{image-view, image-size}
+use Rattle.page.proofs.PageCallLaws.{image-view, image-size}
 use Rattle.page.proofs.RaisedLaws.{raised-kept, raised-0, raised-1, raised-above, cleared-kept, cleared-bit, turns-on, on-by}
 use Rattle.page.proofs.PageWords.{opened-1, written-1, opened-cause, word-0, word-1, word-2, word-other, cause-of}
 use Rattle.page.proofs.HostLaws.{write-either, write-8, write-12, write-none}
-use Rattle.page.proofs.StepLaws.{codes-of}
+use Rattle.page.proofs.PageStepLaws.{codes-of}
 use Rattle.page.proofs.WithPageLaws.{lent, goes-on, with-zero, with-either}
 use Rattle.page.proofs.Refusals.{refusals}
 use Rattle.page.proofs.ChargeLaws.{charged-grows}
 
 -- the view of a state is read back from its image
 view-read : (st : State) → Valid st → stateOf (imageOf st) .counters .view ≡ st .counters .view
-unfolding stateOf
+unfolding stateOf countersIn
 view-read st v =
-    ap (λ (k : ℕ). viewIn (wordAt (imageOf st) (k + 3))) (image-size st v) ∙ image-view st v
+    ap (λ (k : ℕ). viewIn (wordAt (imageOf st) (ownAt k))) (image-size st v) ∙ image-view st v
 
 -- ---- an accepted step
 

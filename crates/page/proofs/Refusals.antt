@@ -3,31 +3,31 @@ use Prim.Native.Nat.{ℕ, _*_, _^_, _≤_, _<_}
 use mathlib.Core.Path.{_≡_, refl, sym, ap, _∙_, subst}
 use mathlib.Core.Bool.{Bool, true, false, cond, not, _&&_, _||_}
 use mathlib.Core.Logic.{_≢_, ⊎-elim}
-use mathlib.Core.List.{List}
+use mathlib.Core.List.{List, [], _∷_}
 use lib.ListN.{length}
 use lib.Dec.{eqb, ltb}
 use borrow.Author.Tests.{eq-eqb, eqb-true, ne-eqb, lt-ltb}
 use Rattle.words.specs.Bits.{full}
 use Rattle.words.proofs.Truth.{which, clash, cond-true, cond-false, and-true}
-use Rattle.setup.specs.Verdict.{verdict, accepted, isAccepted, check, between}
+use Rattle.words.specs.Verdict.{verdict, accepted, isAccepted, between, single, andThen}
 use Rattle.setup.specs.Setup.{setupOf}
 use Rattle.setup.specs.Check.{checkSetup}
-use Rattle.setup.specs.declared.Verdict.{Verdict}
-use Rattle.setup.proofs.VerdictLaws.{check-ok, between-of}
+use Rattle.words.specs.declared.Verdict.{Verdict}
+use Rattle.words.proofs.VerdictLaws.{Passed, between-of, tests-ok}
 use Rattle.rules.specs.Hearing.{readingOf, causesOf}
-use Rattle.image.specs.Words.{imageLength}
+use Rattle.image.specs.Layout.{imageLength}
 use Rattle.image.specs.Check.{checkImage}
 use Rattle.presence.specs.Opening.{fresh, openOf}
 use Rattle.presence.specs.Step.{judgementFor, afterRound, acceptedStep, stepOf}
 use Rattle.presence.specs.Image.{stateOf}
-use Rattle.presence.specs.Calls.{Called, refusedCall, wrote, openCall, stepCall}
-use Rattle.presence.specs.Refusals.{sizeOf, hasRoom, openVerdict as openWithout, stepVerdict as stepWithout, answering as answeringWithout}
+use Rattle.calls.specs.Calls.{Called, refusedCall, wrote, openCall, stepCall}
+use Rattle.calls.specs.Refusals.{sizeOf, hasRoom, answering as answeringWithout}
 use Rattle.rules.specs.declared.Reading.{Reading}
 use Rattle.presence.specs.declared.State.{State}
 use Rattle.presence.specs.declared.Stepped.{Stepped}
-use Rattle.presence.proofs.CallAnswers.{open-passed, open-keeps, step-passed, step-keeps, save-keeps}
-use Rattle.presence.proofs.StepLaws.{step-accepted as step-of-struct, open-fresh}
-use Rattle.presence.proofs.Refusals.{refusals as without-page, both-accept}
+use Rattle.calls.proofs.CallAnswers.{open-passed, open-keeps, step-passed, step-keeps, save-keeps}
+use Rattle.presence.proofs.StateStepLaws.{step-accepted as step-of-struct, open-fresh}
+use Rattle.calls.proofs.Refusals.{refusals as without-page, both-accept, two-answers, open-verdict as open-without, step-verdict as step-without}
 use Rattle.page.specs.Page.{isPage, startsWord, pageOpened, pageStepped, pageWritten}
 use Rattle.page.specs.Host.{tell, written, wrote as wrote-page, writeCall}
 use Rattle.page.specs.Calls.{PageCalled, pageCalled, withPage, pageOpenCall, pageStepCall}
@@ -104,16 +104,25 @@ module _ (setup : List ℕ) (own : ℕ) (out page : List ℕ) where
   abbrev opened : State
   opened = openOf (setupOf setup) own .state
 
+  open-verdict : openVerdict setup own out page
+      ≡ cond (isAccepted (checkSetup setup))
+      (cond (between 1 (sizeOf setup) own) (cond (hasRoom (sizeOf setup) out && isPage page) accepted (verdict 9 0)) (verdict 7 0)) (checkSetup setup)
+  unfolding openVerdict andThen
+  open-verdict =
+      ap (λ (v : Verdict). cond (isAccepted (checkSetup setup)) v (checkSetup setup))
+      (two-answers 7 9 refl (between 1 (sizeOf setup) own) (hasRoom (sizeOf setup) out && isPage page))
+
   opens : pageOpenCall setup own out page
       ≡ answering (openVerdict setup own out page) 0 (fresh (setupOf setup) own) out (pageOpened (opened .setup .n) (opened .counters .view)) page
-  unfolding pageOpenCall withPage with-by openWithout openVerdict check
+  unfolding pageOpenCall withPage with-by
   opens =
       ap
       (λ (c : Called).
       with-by 0 (fresh (setupOf setup) own) out page (pageOpened (opened .setup .n) (opened .counters .view)) (eqb (c .answer .number) 0) (isPage page) c)
-      (without-page .opening setup own out)
+      (without-page .opening setup own out ∙ ap (λ (v : Verdict). answeringWithout v 0 (fresh (setupOf setup) own) out) (open-without setup own out))
       ∙ open-chain 0 (fresh (setupOf setup) own) out page _ (checkSetup setup) (isAccepted (checkSetup setup)) (between 1 (sizeOf setup) own)
       (hasRoom (sizeOf setup) out) (isPage page) refl
+      ∙ ap (λ (v : Verdict). answering v 0 (fresh (setupOf setup) own) out (pageOpened (opened .setup .n) (opened .counters .view)) page) (sym open-verdict)
 
   -- the module that is opened is fresh
   opened-fresh : openVerdict setup own out page .number ≡ 0 → opened ≡ fresh (setupOf setup) own
@@ -147,16 +156,27 @@ module _ (image read : List ℕ) (controller : ℕ) (out page : List ℕ) where
   abbrev v : Verdict
   v = stepVerdict image read controller out page
 
+  step-verdict : v
+      ≡ cond (isAccepted (checkImage image))
+      (cond (hasRoom (sizeOf image) out && eqb (length read) (sizeOf image * 4) && isPage page) (cond (ltb controller (2 ^ sizeOf image)) accepted (verdict 10 0))
+      (verdict 9 0)) (checkImage image)
+  unfolding stepVerdict andThen
+  step-verdict =
+      ap (λ (v : Verdict). cond (isAccepted (checkImage image)) v (checkImage image))
+      (two-answers 9 10 refl (hasRoom (sizeOf image) out && eqb (length read) (sizeOf image * 4) && isPage page) (ltb controller (2 ^ sizeOf image)))
+
   steps : pageStepCall image read controller out page
       ≡ answering v (judgementFor st this .health) (afterRound st this) out (next (stepOf st read controller)) page
-  unfolding pageStepCall withPage with-by stepWithout stepVerdict check
+  unfolding pageStepCall withPage with-by
   steps =
       ap
       (λ (c : Called).
       with-by (judgementFor st this .health) (afterRound st this) out page (next (stepOf st read controller)) (isAccepted (checkImage image)) (isPage page) c)
-      (without-page .step image read controller out)
+      (without-page .step image read controller out
+      ∙ ap (λ (v : Verdict). answeringWithout v (judgementFor st this .health) (afterRound st this) out) (step-without image read controller out))
       ∙ step-chain (judgementFor st this .health) (afterRound st this) out page _ (checkImage image) (isAccepted (checkImage image))
       (hasRoom (sizeOf image) out) (eqb (length read) (sizeOf image * 4)) (isPage page) (ltb controller (2 ^ sizeOf image)) refl
+      ∙ ap (λ (v : Verdict). answering v (judgementFor st this .health) (afterRound st this) out (next (stepOf st read controller)) page) (sym step-verdict)
 
   -- the step is an accepted one of the struct
   stepped-so : v .number ≡ 0 → stepOf st read controller ≡ acceptedStep st this (causesOf (sizeOf image) read controller)
@@ -180,12 +200,12 @@ module _ (image read : List ℕ) (controller : ℕ) (out page : List ℕ) where
 
 pub open-accepted : (setup : List ℕ) (own : ℕ) (out page : List ℕ) → checkSetup setup .number ≡ 0 → 1 ≤ own → own ≤ sizeOf setup
     → length out ≡ imageLength (sizeOf setup) → length page ≡ 64 → pageOpenCall setup own out page .call .answer .number ≡ 0
-unfolding openVerdict
+unfolding openVerdict Passed
 open-accepted setup own out page z h l room long =
     let e : openVerdict setup own out page ≡ accepted =
     both-accept (checkSetup setup) _ z
-    (check-ok _ 7 0 _ (between-of 1 (sizeOf setup) own h l)
-    ∙ check-ok _ 9 0 accepted (and-true (hasRoom (sizeOf setup) out) _ (eq-eqb _ _ room) (eq-eqb (length page) 64 long)))
+    (tests-ok (single (between 1 (sizeOf setup) own) 7 0 ∷ single (hasRoom (sizeOf setup) out && isPage page) 9 0 ∷ [])
+    (λ _ _. between-of 1 (sizeOf setup) own h l, (λ _ _. and-true (hasRoom (sizeOf setup) out) _ (eq-eqb _ _ room) (eq-eqb (length page) 64 long), tt)))
     in
     ap (λ (c : PageCalled). c .call .answer .number) (opening-is setup own out page) ∙ number-is (openVerdict setup own out page) 0 _ out _ page
     ∙ ap (λ (v : Verdict). v .number) e
@@ -193,14 +213,17 @@ open-accepted setup own out page z h l room long =
 pub step-accepted : (image read : List ℕ) (controller : ℕ) (out page : List ℕ) → checkImage image .number ≡ 0
     → length out ≡ imageLength (sizeOf image) → length read ≡ sizeOf image * 4 → controller < 2 ^ sizeOf image → length page ≡ 64
     → pageStepCall image read controller out page .call .answer .number ≡ 0
-unfolding stepVerdict
+unfolding stepVerdict Passed
 step-accepted image read controller out page z room whole bits long =
     let e : stepVerdict image read controller out page ≡ accepted =
     both-accept (checkImage image) _ z
-    (check-ok _ 9 0 _
-    (and-true (hasRoom (sizeOf image) out && eqb (length read) (sizeOf image * 4)) _
-    (and-true (hasRoom (sizeOf image) out) _ (eq-eqb _ _ room) (eq-eqb _ _ whole)) (eq-eqb (length page) 64 long))
-    ∙ check-ok _ 10 0 accepted (lt-ltb controller _ bits))
+    (tests-ok
+    (single (hasRoom (sizeOf image) out && eqb (length read) (sizeOf image * 4) && isPage page) 9 0 ∷ single (ltb controller (2 ^ sizeOf image)) 10 0 ∷ []) (
+      λ _ _.
+          and-true (hasRoom (sizeOf image) out && eqb (length read) (sizeOf image * 4)) _
+          (and-true (hasRoom (sizeOf image) out) _ (eq-eqb _ _ room) (eq-eqb _ _ whole)) (eq-eqb (length page) 64 long),
+      (λ _ _. lt-ltb controller _ bits, tt),
+    ))
     in
     ap (λ (c : PageCalled). c .call .answer .number) (step-is image read controller out page) ∙ number-is (stepVerdict image read controller out page) _ _ out _ page
     ∙ ap (λ (v : Verdict). v .number) e

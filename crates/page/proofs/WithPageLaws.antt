@@ -9,7 +9,7 @@ use lib.ListN.{length}
 use lib.Dec.{eqb}
 use borrow.Author.Tests.{eq-eqb, ne-eqb, eqb-true}
 use Rattle.words.proofs.Truth.{which, clash, cond-true, cond-false, and-false-l, and-false-r, and-true}
-use Rattle.presence.specs.Calls.{Called, refusedCall}
+use Rattle.calls.specs.Calls.{Called, refusedCall}
 use Rattle.page.specs.Page.{isPage}
 use Rattle.page.specs.Calls.{PageCalled, pageCalled, withPage}
 

@@ -3,13 +3,13 @@ use Prim.Native.Nat.{ℕ}
 use mathlib.Core.Bool.{Bool, cond, not, _&&_}
 use mathlib.Core.List.{List}
 use lib.Dec.{eqb}
-use Rattle.setup.specs.Verdict.{isAccepted}
+use Rattle.words.specs.Verdict.{isAccepted}
 use Rattle.setup.specs.Setup.{setupOf}
 use Rattle.image.specs.Check.{checkImage}
 use Rattle.presence.specs.Opening.{openOf}
 use Rattle.presence.specs.Step.{stepOf}
 use Rattle.presence.specs.Image.{stateOf}
-use Rattle.presence.specs.Calls.{Called, refusedCall, openCall, stepCall}
+use Rattle.calls.specs.Calls.{Called, refusedCall, openCall, stepCall}
 use Rattle.page.specs.Page.{isPage, pageOpened, pageStepped}
 
 -- the call of the module, answer and output at exit, and the page at exit

@@ -8,10 +8,10 @@ use lib.Dec.{eqb}
 use lib.ListN.{getD, replicate}
 use Rattle.words.specs.Word.{bytesOf}
 use Rattle.rules.specs.Hearing.{busWord}
-use Rattle.presence.specs.Calls.{causeCall}
-use Rattle.presence.specs.declared.Answer.{Answer}
-use Rattle.presence.specs.declared.CauseAnswer.{CauseAnswer}
-use Rattle.presence.specs.declared.WordAnswer.{WordAnswer}
+use Rattle.calls.specs.Calls.{causeCall}
+use Rattle.calls.specs.declared.Answer.{Answer}
+use Rattle.calls.specs.declared.CauseAnswer.{CauseAnswer}
+use Rattle.calls.specs.declared.WordAnswer.{WordAnswer}
 use Rattle.page.specs.Page.{putCauses}
 use Rattle.page.specs.Host.{Written, readCall, writeCall, interruptCall}
 use Rattle.page.specs.Calls.{PageCalled, pageOpenCall, pageStepCall}

@@ -6,7 +6,7 @@ use lib.Dec.{eqb}
 use Rattle.words.specs.Word.{wordAt}
 use Rattle.words.specs.Bits.{b2n}
 use Rattle.page.specs.Page.{isPage, startsWord, pageWritten, interruptOn}
-use Rattle.presence.specs.declared.WordAnswer.{WordAnswer}
+use Rattle.calls.specs.declared.WordAnswer.{WordAnswer}
 
 -- an answer with a word; the index is 0
 abbrev pub tell : ℕ → ℕ → WordAnswer

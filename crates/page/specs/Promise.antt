@@ -14,7 +14,7 @@ use Rattle.rules.specs.Causes.{causeOf}
 use Rattle.rules.specs.Account.{countersOf}
 use Rattle.image.specs.Check.{checkImage}
 use Rattle.presence.specs.Image.{stateOf}
-use Rattle.presence.specs.Calls.{openCall, stepCall, saveCall}
+use Rattle.calls.specs.Calls.{openCall, stepCall, saveCall}
 use Rattle.page.specs.Page.{causeAt, somebodyCharged, interruptOn}
 use Rattle.page.specs.Host.{writeCall}
 use Rattle.page.specs.Calls.{pageOpenCall, pageStepCall}

@@ -1,25 +1,25 @@
 -- Which calls with a page are refused, by which number, and that every other one is accepted; and what a refused call of any kind leaves of a
--- buffer that it was lent: the bytes that were there. (demand 1; document 02, E1, "Checks") As presence/specs/Refusals.antt says it
+-- buffer that it was lent: the bytes that were there. (demand 1; document 02, E1, "Checks") As calls/specs/Refusals.antt says it
 -- of the calls without a page. Proved in proofs/Refusals.antt.
 use Prim.Native.Nat.{ℕ, _*_, _^_}
 use mathlib.Core.Path.{_≡_}
 use mathlib.Core.Logic.{_≢_}
 use mathlib.Core.Bool.{cond, _&&_}
-use mathlib.Core.List.{List}
+use mathlib.Core.List.{List, [], _∷_}
 use lib.ListN.{length}
 use lib.Dec.{eqb, ltb}
 use Rattle.words.specs.Bits.{full}
-use Rattle.setup.specs.Verdict.{accepted, isAccepted, andThen, check, between}
+use Rattle.words.specs.Verdict.{isAccepted, between, single, andThen, firstRefusal}
 use Rattle.setup.specs.Setup.{setupOf}
 use Rattle.setup.specs.Check.{checkSetup}
-use Rattle.setup.specs.declared.Verdict.{Verdict}
+use Rattle.words.specs.declared.Verdict.{Verdict}
 use Rattle.rules.specs.Hearing.{readingOf, causesOf}
 use Rattle.image.specs.Check.{checkImage}
 use Rattle.presence.specs.Opening.{fresh}
 use Rattle.presence.specs.Step.{judgementFor, afterRound}
 use Rattle.presence.specs.Image.{stateOf}
-use Rattle.presence.specs.Calls.{refusedCall, wrote, openCall, stepCall, saveCall}
-use Rattle.presence.specs.Refusals.{sizeOf, hasRoom}
+use Rattle.calls.specs.Calls.{refusedCall, wrote, openCall, stepCall, saveCall}
+use Rattle.calls.specs.Refusals.{sizeOf, hasRoom}
 use Rattle.presence.specs.declared.State.{State}
 use Rattle.page.specs.Page.{isPage, pageOpened, pageStepped}
 use Rattle.page.specs.Host.{writeCall}
@@ -30,14 +30,17 @@ use Rattle.page.specs.Calls.{PageCalled, pageCalled, pageOpenCall, pageS
 -- opening: 1 to 6 for the setup, 7 for the own number, 9 for the output or the page
 unfoldable pub openVerdict : List ℕ → ℕ → List ℕ → List ℕ → Verdict
 openVerdict setup own out page =
-    andThen (checkSetup setup) (check (between 1 (sizeOf setup) own) 7 0 (check (hasRoom (sizeOf setup) out && isPage page) 9 0 accepted))
+    andThen (checkSetup setup)
+    (firstRefusal (single (between 1 (sizeOf setup) own) 7 0 ∷ single (hasRoom (sizeOf setup) out && isPage page) 9 0 ∷ []))
 
 -- step: 1 to 8 for the image, 9 for the output, the read or the page, 10 for a controller bit at N or above
 unfoldable pub stepVerdict : List ℕ → List ℕ → ℕ → List ℕ → List ℕ → Verdict
 stepVerdict image read controller out page =
     andThen (checkImage image)
-    (check (hasRoom (sizeOf image) out && eqb (length read) (sizeOf image * 4) && isPage page) 9 0
-    (check (ltb controller (2 ^ sizeOf image)) 10 0 accepted))
+    (firstRefusal
+    (single (hasRoom (sizeOf image) out && eqb (length read) (sizeOf image * 4) && isPage page) 9 0
+    ∷ single (ltb controller (2 ^ sizeOf image)) 10 0
+    ∷ []))
 
 -- accepted, a call writes the image of st and the next page; refused, it answers the verdict and leaves output and page as they were
 unfoldable pub answering : Verdict → ℕ → State → List ℕ → List ℕ → List ℕ → PageCalled

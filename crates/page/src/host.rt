@@ -2,7 +2,7 @@
 // The answer's word is one of the page, or the interrupt as 1 or 0.
 use crate::registers::interrupt_on;
 use crate::registers::write_page;
-use presence::WordAnswer;
+use calls::WordAnswer;
 use words::bits::flag;
 use words::word::word_at;
 ghost use mathlib.Core.Path.{_≡_};

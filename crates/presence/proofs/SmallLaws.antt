@@ -1,18 +1,22 @@
--- Every field of a valid state fits the place that a word has for it.
-use mathlib.Core.Path.{_≡_, ap}
-use Prim.Native.Nat.{ℕ, _+_, _^_, _<_, _≤_}
+-- Every field of a state that has room in its word is small.
+use mathlib.Core.Path.{_≡_}
+use mathlib.Core.Bool.{true, _&&_}
+use Prim.Native.Nat.{ℕ, _^_, _<_, _≤_}
 use native.Mathlib.Omega.{arith}
-use lib.ListN.{getD}
-use lib.Pow.{pow-mono}
-use Rattle.words.specs.Bits.{bit}
+use lib.Dec.{leb, ltb}
+use borrow.Author.Tests.{leb-true, ltb-true, le-leb, lt-ltb}
+use Rattle.words.specs.Runs.{runWord}
+use Rattle.words.proofs.Truth.{and-l, and-r, and-true}
+use Rattle.words.proofs.VerdictLaws.{and-then-pass, single-pass}
 use Rattle.setup.specs.Check.{setupVerdict}
-use Rattle.setup.specs.declared.Verdict.{Verdict}
-use Rattle.setup.proofs.AnswerLaws.{fits-verdict}
-use Rattle.rules.specs.Account.{accountAt}
-use Rattle.image.proofs.ImageWords.{row-small}
-use Rattle.presence.specs.Valid.{Valid}
+use Rattle.setup.proofs.SetupLaws.{verdict-fits}
+use Rattle.image.specs.Rows.{rowsRoomy}
+use Rattle.image.specs.Check.{checkTail}
+use Rattle.image.proofs.RowLaws.{RowsSmall, roomy-rows, rows-roomy}
+use Rattle.image.proofs.CounterLaws.{CountersSmall, roomy-counters, counters-roomy}
+use Rattle.presence.specs.Image.{imageRuns}
+use Rattle.presence.specs.Valid.{roomy, stateVerdict, Valid}
 use Rattle.presence.specs.declared.State.{State}
-use Rattle.presence.proofs.ValidLaws.{StateFits, valid-fits}
 
 pub record Small (st : State) : Type 0 where
   pub size : st .setup .n ≤ 16
@@ -20,39 +24,50 @@ pub record Small (st : State) : Type 0 where
   pub view : st .counters .view < 2 ^ 16
   pub latest : st .latest < 2 ^ 16
   pub earlier : st .earlier < 2 ^ 16
-  pub row : (j : ℕ) → j < st .setup .n → getD (st .previous .rows) j 0 < 2 ^ 16
-  pub penalty : (j : ℕ) → j < st .setup .n → getD (st .counters .penalty) j 0 < 2 ^ 23
-  pub reward : (j : ℕ) → j < st .setup .n → getD (st .counters .reward) j 0 < 2 ^ 23
+  pub rows : RowsSmall (st .setup .n) (st .previous)
+  pub counters : CountersSmall (st .setup .n) (st .counters)
 
--- the sum of a limit and a criticality, and what is below a limit
-sum-small : (v p k : ℕ) → v ≤ p + k → p ≤ 1000000 → k ≤ 100000 → v < 2 ^ 23
-sum-small v p k h a b = omega arith
-
-limit-small : (v r : ℕ) → v < r → r ≤ 8000000 → v < 2 ^ 23
-limit-small v r h l = omega arith
-
-below : (v n : ℕ) → v < 2 ^ n → n ≤ 16 → v < 2 ^ 16
-below v n h l = omega (arith, pow-mono {i = n} {j = 16} l)
-
-pub fits-small : (st : State) → StateFits st → Small st
-unfolding accountAt
-fits-small st f =
+pub roomy-small : (st : State) → st .setup .n ≤ 16 → roomy st ≡ true → Small st
+unfolding roomy
+roomy-small st l e =
     let n = st .setup .n in
-    let k : n ≤ 16 = f .setup .most in
+    let alone = and-l ((leb (st .own) 16 && ltb (st .counters .view) (2 ^ 16)) && (ltb (st .latest) (2 ^ 16) && ltb (st .earlier) (2 ^ 16))) _ e in
+    let parts = and-r ((leb (st .own) 16 && ltb (st .counters .view) (2 ^ 16)) && (ltb (st .latest) (2 ^ 16) && ltb (st .earlier) (2 ^ 16))) _ e in
+    let a = and-l (leb (st .own) 16 && ltb (st .counters .view) (2 ^ 16)) _ alone in
+    let b = and-r (leb (st .own) 16 && ltb (st .counters .view) (2 ^ 16)) _ alone in
     record {
-      size = k;
-      own = omega (arith, f .last);
-      view = below _ n (f .view) k;
-      latest = below _ n (f .latest) k;
-      earlier = below _ n (f .earlier) k;
-      row = λ j h. row-small n (bit (st .previous .heard) j) _ (f .rows j h) (pow-mono {i = n} {j = 16} k);
-      penalty = λ j h. sum-small _ (st .setup .p) _ (f .accounts j h .penalty) (f .setup .p-most) (f .setup .each j h .most);
-      reward = λ j h. limit-small _ (st .setup .r) (f .accounts j h .reward) (f .setup .r-most);
+      size = l;
+      own = leb-true (st .own) 16 (and-l (leb (st .own) 16) _ a);
+      view = ltb-true (st .counters .view) (2 ^ 16) (and-r (leb (st .own) 16) _ a);
+      latest = ltb-true (st .latest) (2 ^ 16) (and-l (ltb (st .latest) (2 ^ 16)) _ b);
+      earlier = ltb-true (st .earlier) (2 ^ 16) (and-r (ltb (st .latest) (2 ^ 16)) _ b);
+      rows = roomy-rows n (st .previous) l (and-l (rowsRoomy n (st .previous)) _ parts);
+      counters = roomy-counters n (st .counters) l (and-r (rowsRoomy n (st .previous)) _ parts);
     }
 
-pub valid-small : (st : State) → Valid st → Small st
-valid-small st e = fits-small st (valid-fits st e)
+pub small-roomy : (st : State) → Small st → roomy st ≡ true
+unfolding roomy
+small-roomy st m =
+    and-true _ _
+    (and-true _ _ (and-true _ _ (le-leb (st .own) 16 (m .own)) (lt-ltb (st .counters .view) (2 ^ 16) (m .view)))
+    (and-true _ _ (lt-ltb (st .latest) (2 ^ 16) (m .latest)) (lt-ltb (st .earlier) (2 ^ 16) (m .earlier))))
+    (and-true _ _ (rows-roomy (st .setup .n) (st .previous) (m .rows)) (counters-roomy (st .setup .n) (st .counters) (m .counters)))
 
--- and its setup is accepted
+-- what a valid state is: an accepted setup, room for every field, and words that pass
 pub valid-setup : (st : State) → Valid st → setupVerdict (st .setup) .number ≡ 0
-valid-setup st e = ap (λ (v : Verdict). v .number) (fits-verdict (st .setup) (valid-fits st e .setup))
+unfolding stateVerdict
+valid-setup st e = and-then-pass (setupVerdict (st .setup)) _ e .0
+
+pub valid-roomy : (st : State) → Valid st → roomy st ≡ true
+unfolding stateVerdict
+valid-roomy st e = single-pass (roomy st) 8 0 (omega arith) (and-then-pass _ _ (and-then-pass (setupVerdict (st .setup)) _ e .1) .0)
+
+pub valid-tail : (st : State) → Valid st → checkTail (runWord (imageRuns st)) (st .setup .n) .number ≡ 0
+unfolding stateVerdict
+valid-tail st e = and-then-pass _ (checkTail (runWord (imageRuns st)) (st .setup .n)) (and-then-pass (setupVerdict (st .setup)) _ e .1) .1
+
+pub valid-size : (st : State) → Valid st → st .setup .n ≤ 16
+valid-size st e = verdict-fits (st .setup) (valid-setup st e) .most
+
+pub valid-small : (st : State) → Valid st → Small st
+valid-small st e = roomy-small st (valid-size st e) (valid-roomy st e)

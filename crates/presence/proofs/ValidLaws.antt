@@ -2,31 +2,39 @@
 use mathlib.Core.Path.{_≡_, ap, _∙_, sym}
 use mathlib.Core.Bool.{true}
 use mathlib.Core.List.{List}
-use Prim.Native.Nat.{ℕ, _+_, _*_, _^_, _<_, _≤_}
+use Prim.Native.Nat.{ℕ, _+_, _^_, _<_, _≤_}
 use native.Mathlib.Omega.{arith}
 use lib.ListN.{getD, getD-replicate, replicate}
-use lib.Dec.{ltb}
-use borrow.Author.Tests.{ltb-true, le-leb, lt-ltb}
+use lib.Pow.{pow-mono}
+use borrow.Author.Tests.{le-leb, lt-ltb}
 use Rattle.words.specs.Bits.{bit, full}
 use Rattle.words.specs.Array.{clearFrom}
-use Rattle.words.proofs.Truth.{and-true}
+use Rattle.words.specs.Verdict.{accepted, single, outcome}
+use Rattle.words.specs.Runs.{runWord}
+use Rattle.words.specs.declared.Verdict.{Verdict}
 use Rattle.words.proofs.BitLaws.{pack-lt, full-lt, bit-full}
-use Rattle.words.proofs.ArrayLaws.{array-at, array-clear, clear-of}
-use Rattle.setup.specs.Verdict.{accepted, between}
+use Rattle.words.proofs.ArrayLaws.{array-at, array-clear}
+use Rattle.words.proofs.VerdictLaws.{and-then-next, single-ok}
+use Rattle.setup.specs.Check.{setupVerdict}
 use Rattle.setup.specs.declared.Setup.{Setup}
-use Rattle.setup.specs.declared.Verdict.{Verdict}
-use Rattle.setup.proofs.VerdictLaws.{check-ok, check-pass, each-ok, each-pass, between-is, between-of}
-use Rattle.setup.proofs.SetupLaws.{SetupFits, fields-pass, fields-ok}
+use Rattle.setup.proofs.SetupLaws.{SetupFits, verdict-fits, fits-verdict as setup-accepted}
 use Rattle.rules.specs.Hearing.{readingOf}
 use Rattle.rules.specs.Account.{accountAt, countersOf}
-use Rattle.image.specs.Fits.{rowFits, penaltyFits, rewardFits}
-use Rattle.image.proofs.FieldLaws.{account-is, penalty-of, reward-of, reading-fits}
-use Rattle.presence.specs.Valid.{stateTidy, checkState, stateVerdict, Valid}
+use Rattle.rules.proofs.SyndromeLaws.{syndrome-lt}
+use Rattle.rules.proofs.AccountLaws.{AccountFits, counters-fit}
+use Rattle.image.specs.Layout.{ownAt}
+use Rattle.image.specs.Rows.{rowFits}
+use Rattle.image.proofs.TailLaws.{TailFits, tail-pass, tail-ok}
+use Rattle.image.proofs.SingleWords.{own-made, syndrome-made, own-number-right, own-right, syndrome-right}
+use Rattle.image.proofs.RowLaws.{RowsSmall, row-small, rows-ok, rows-pass, reading-fits}
+use Rattle.image.proofs.CounterLaws.{CountersClear, small-clear, counters-small, counters-ok, counters-pass, zeros-clear, round-clear}
+use Rattle.presence.specs.Image.{imageRuns}
+use Rattle.presence.specs.Valid.{roomy, stateVerdict, Valid}
 use Rattle.presence.specs.Opening.{fresh}
 use Rattle.presence.specs.Step.{judgementFor, afterRound}
 use Rattle.presence.specs.declared.State.{State}
-use Rattle.rules.proofs.SyndromeLaws.{syndrome-lt}
-use Rattle.rules.proofs.AccountLaws.{AccountFits, counters-fit}
+use Rattle.presence.proofs.SmallLaws.{Small, small-roomy, valid-setup, valid-small, valid-tail}
+use Rattle.presence.proofs.StateWords.{stands, state-read}
 
 pub record StateFits (st : State) : Type 0 where
   pub setup : SetupFits (st .setup)
@@ -38,68 +46,92 @@ pub record StateFits (st : State) : Type 0 where
   pub earlier : st .earlier < 2 ^ st .setup .n
   pub accounts : (j : ℕ) → j < st .setup .n
       → AccountFits (st .setup .p) (st .setup .r) (getD (st .setup .criticality) j 0) (accountAt (st .counters) j)
-  pub tidy : stateTidy st ≡ true
+  pub heard : st .previous .heard < 2 ^ st .setup .n
+  pub no-rows : clearFrom (st .setup .n) (st .previous .rows) ≡ true
+  pub clear : CountersClear (st .setup .n) (st .counters)
 
 pub valid-fits : (st : State) → Valid st → StateFits st
-unfolding stateVerdict checkState accountAt
+unfolding accountAt
 valid-fits st e =
     let n = st .setup .n in
-    let c = st .counters in
-    let (setup, e₀) = fields-pass (st .setup) (checkState st) e in
-    let (own, e₁) = check-pass (between 1 n (st .own)) 7 (n + 3) _ (omega arith) e₀ in
-    let (view, e₂) = check-pass (ltb (c .view) (2 ^ n)) 8 (n + 3) _ (omega arith) e₁ in
-    let (rows, e₃) = each-pass n (λ j. rowFits n (bit (st .previous .heard) j) (getD (st .previous .rows) j 0)) 8 (n + 3) _ (omega arith) e₂ in
-    let (latest, e₄) = check-pass (ltb (st .latest) (2 ^ n)) 8 (2 * n + 4) _ (omega arith) e₃ in
-    let (earlier, e₅) = check-pass (ltb (st .earlier) (2 ^ n)) 8 (2 * n + 5) _ (omega arith) e₄ in
-    let (penalties, e₆) =
-    each-pass n
-    (λ j. penaltyFits (st .setup .p) (getD (st .setup .criticality) j 0) (bit (c .view) j) (getD (c .penalty) j 0)) 8 (2 * n + 5) _
-    (omega arith) e₅
-    in
-    let (rewards, e₇) =
-    each-pass n (λ j. rewardFits (st .setup .r) (getD (c .penalty) j 0) (getD (c .reward) j 0)) 8 (3 * n + 5) _ (omega arith) e₆
-    in
-    let (tidy, e₈) = check-pass (stateTidy st) 8 0 accepted (omega arith) e₇ in
+    let w = runWord (imageRuns st) in
+    let f = verdict-fits (st .setup) (valid-setup st e) in
+    let m = valid-small st e in
+    let d = stands st in
+    let b = state-read st w f m d in
+    let t = tail-pass w n (valid-tail st e) in
+    let own = own-made n (w (ownAt n)) (t .number) (t .own) in
     record {
-      setup = setup;
-      first = between-is 1 n (st .own) own .0;
-      last = between-is 1 n (st .own) own .1;
-      view = ltb-true (c .view) (2 ^ n) view;
-      rows = rows;
-      latest = ltb-true (st .latest) (2 ^ n) latest;
-      earlier = ltb-true (st .earlier) (2 ^ n) earlier;
-      accounts = λ j h. account-is _ _ _ _ _ _ (penalties j h) (rewards j h);
-      tidy = tidy;
+      setup = f;
+      first = rw (b .own) at (own .first);
+      last = rw (b .own) at (own .last);
+      view = rw (b .before .view-there) at (own .view);
+      rows = rows-pass w n (st .previous) (m .rows) (d .rows) (t .rows);
+      latest = rw (b .latest) at (syndrome-made n _ (t .latest) .1);
+      earlier = rw (b .earlier) at (syndrome-made n _ (t .earlier) .1);
+      accounts = counters-pass w n (st .counters) (m .counters) (d .counters) (st .setup .p) (st .setup .r) (st .setup .criticality) (b .before) (t .counters);
+      heard = m .rows .heard;
+      no-rows = m .rows .no-rows;
+      clear = small-clear n (st .counters) (m .counters);
+    }
+
+below : (v n : ℕ) → v < 2 ^ n → n ≤ 16 → v < 2 ^ 16
+below v n h l = omega (arith, pow-mono {i = n} {j = 16} l)
+
+fits-small : (st : State) → StateFits st → Small st
+unfolding accountAt
+fits-small st f =
+    let n = st .setup .n in
+    let k : n ≤ 16 = f .setup .most in
+    record {
+      size = k;
+      own = omega (arith, f .last);
+      view = below _ n (f .view) k;
+      latest = below _ n (f .latest) k;
+      earlier = below _ n (f .earlier) k;
+      rows =
+          record {
+            row = λ j h. row-small n (bit (st .previous .heard) j) _ (f .rows j h) (pow-mono {i = n} {j = 16} k);
+            heard = f .heard;
+            no-rows = f .no-rows;
+          };
+      counters =
+          counters-small n (st .counters) (st .setup .p) (st .setup .r) (st .setup .criticality) (f .setup .p-most) (f .setup .r-most)
+          (λ j h. f .setup .each j h .most) (f .accounts) (f .clear);
+    }
+
+-- the words of its image are right
+tail-fits : (st : State) → StateFits st → TailFits (runWord (imageRuns st)) (st .setup .n)
+unfolding accountAt
+tail-fits st f =
+    let n = st .setup .n in
+    let w = runWord (imageRuns st) in
+    let m = fits-small st f in
+    let d = stands st in
+    let b = state-read st w (f .setup) m d in
+    record {
+      number = rw (d .own) (own-number-right (st .own) (st .counters .view) (m .own) (m .view) n (f .first) (f .last));
+      own = rw (d .own) (own-right (st .own) (st .counters .view) (m .own) (m .view) n (f .view));
+      rows = rows-ok w n (st .previous) (m .rows) (d .rows) (f .rows);
+      latest = rw (d .latest) (syndrome-right n (st .latest) (m .latest) (f .latest));
+      earlier = rw (d .earlier) (syndrome-right n (st .earlier) (m .earlier) (f .earlier));
+      counters = counters-ok w n (st .counters) (m .counters) (d .counters) (st .setup .p) (st .setup .r) (st .setup .criticality) (b .before) (f .accounts);
     }
 
 pub fits-verdict : (st : State) → StateFits st → stateVerdict st ≡ accepted
-unfolding stateVerdict checkState accountAt
+unfolding stateVerdict
 fits-verdict st f =
-    let n = st .setup .n in
-    let c = st .counters in
-    fields-ok (st .setup) (checkState st) (f .setup)
-    ∙ check-ok (between 1 n (st .own)) 7 (n + 3) _ (between-of 1 n (st .own) (f .first) (f .last))
-    ∙ check-ok (ltb (c .view) (2 ^ n)) 8 (n + 3) _ (lt-ltb (c .view) (2 ^ n) (f .view))
-    ∙ each-ok n (λ j. rowFits n (bit (st .previous .heard) j) (getD (st .previous .rows) j 0)) 8 (n + 3) _ (f .rows)
-    ∙ check-ok (ltb (st .latest) (2 ^ n)) 8 (2 * n + 4) _ (lt-ltb (st .latest) (2 ^ n) (f .latest))
-    ∙ check-ok (ltb (st .earlier) (2 ^ n)) 8 (2 * n + 5) _ (lt-ltb (st .earlier) (2 ^ n) (f .earlier))
-    ∙ each-ok n
-    (λ j. penaltyFits (st .setup .p) (getD (st .setup .criticality) j 0) (bit (c .view) j) (getD (c .penalty) j 0)) 8 (2 * n + 5) _
-    (λ j h. penalty-of (st .setup .p) (st .setup .r) _ _ _ (getD (c .reward) j 0) (f .accounts j h))
-    ∙ each-ok n (λ j. rewardFits (st .setup .r) (getD (c .penalty) j 0) (getD (c .reward) j 0)) 8 (3 * n + 5) _
-    (λ j h. reward-of (st .setup .p) (st .setup .r) (getD (st .setup .criticality) j 0) (bit (c .view) j) _ _ (f .accounts j h))
-    ∙ check-ok (stateTidy st) 8 0 accepted (f .tidy)
+    and-then-next (setupVerdict (st .setup)) _ (ap (λ (v : Verdict). v .number) (setup-accepted (st .setup) (f .setup)))
+    ∙ and-then-next (outcome (single (roomy st) 8 0)) _ (ap (λ (v : Verdict). v .number) (single-ok (roomy st) 8 0 (small-roomy st (fits-small st f))))
+    ∙ tail-ok (runWord (imageRuns st)) (st .setup .n) (tail-fits st f)
 
 pub fits-valid : (st : State) → StateFits st → Valid st
 fits-valid st f = ap (λ (v : Verdict). v .number) (fits-verdict st f)
 
 -- ---- opening
 
-zeros-clear : (n : ℕ) → clearFrom n (replicate 16 0) ≡ true
-zeros-clear n = clear-of n (replicate 16 0) (λ i h l. getD-replicate {A = ℕ} 16 i 0 0 l)
-
 pub fresh-fits : (s : Setup) (own : ℕ) → SetupFits s → 1 ≤ own → own ≤ s .n → StateFits (fresh s own)
-unfolding fresh accountAt stateTidy rowFits
+unfolding fresh accountAt rowFits
 fresh-fits s own f h l =
     let zero-at : (j : ℕ) → j < s .n → getD {A = ℕ} (replicate 16 0) j 0 ≡ 0 = λ j k. getD-replicate {A = ℕ} 16 j 0 0 (omega (arith, f .most)) in
     record {
@@ -117,17 +149,16 @@ fresh-fits s own f h l =
         reward = rw (zero-at j k) (omega (arith, f .r-least));
         unowed = λ z. zero-at j k;
       };
-      tidy =
-          and-true _ _
-          (and-true _ _ (and-true _ _ (lt-ltb (full (s .n)) (2 ^ s .n) (full-lt (s .n))) (array-clear (s .n) (λ j. full (s .n)))) (zeros-clear (s .n)))
-          (zeros-clear (s .n));
+      heard = full-lt (s .n);
+      no-rows = array-clear (s .n) (λ j. full (s .n));
+      clear = zeros-clear (s .n) (full (s .n));
     }
 
 -- ---- a round
 
 pub after-fits : (st : State) (read : List ℕ) (controller : ℕ) → StateFits st
     → StateFits (afterRound st (readingOf (st .setup .n) read controller))
-unfolding afterRound judgementFor stateTidy readingOf countersOf
+unfolding afterRound judgementFor readingOf countersOf
 after-fits st read controller f =
     let n = st .setup .n in
     record {
@@ -139,7 +170,7 @@ after-fits st read controller f =
       latest = syndrome-lt n _ _ _;
       earlier = f .latest;
       accounts = counters-fit (st .setup) _ (st .counters) (f .setup .most) (f .accounts);
-      tidy =
-          and-true _ _
-          (and-true _ _ (and-true _ _ (lt-ltb _ (2 ^ n) (pack-lt n _)) (array-clear n _)) (array-clear n _)) (array-clear n _);
+      heard = pack-lt n _;
+      no-rows = array-clear n _;
+      clear = round-clear (st .setup) _ (st .counters);
     }

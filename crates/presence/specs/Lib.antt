@@ -1,7 +1,5 @@
-pub mod Valid
 pub mod Opening
-pub mod Step
 pub mod Image
-pub mod Calls
+pub mod Valid
+pub mod Step
 pub mod RoundTrip
-pub mod Refusals

@@ -5,10 +5,10 @@ use mathlib.Core.List.{List}
 use lib.ListN.{replicate}
 use Rattle.words.specs.Bits.{full}
 use Rattle.words.specs.Array.{array}
-use Rattle.setup.specs.Verdict.{accepted, isAccepted, check, between}
+use Rattle.words.specs.Verdict.{isAccepted, between, single, andThen, outcome}
 use Rattle.setup.specs.Setup.{blankSetup}
-use Rattle.setup.specs.Check.{checkFields}
-use Rattle.setup.specs.declared.Verdict.{Verdict}
+use Rattle.setup.specs.Check.{setupVerdict}
+use Rattle.words.specs.declared.Verdict.{Verdict}
 use Rattle.setup.specs.declared.Setup.{Setup}
 use Rattle.presence.specs.declared.State.{State}
 use Rattle.presence.specs.declared.Opened.{Opened}
@@ -39,7 +39,7 @@ blank =
 
 -- numbers 2 and 4 to 6 of the setup, then 7 with index 0
 unfoldable pub checkOpening : Setup → ℕ → Verdict
-checkOpening s own = checkFields s (check (between 1 (s .n) own) 7 0 accepted)
+checkOpening s own = andThen (setupVerdict s) (outcome (single (between 1 (s .n) own) 7 0))
 
 -- what an opening answers: the fresh module, or blank where it is refused
 unfoldable pub openOf : Setup → ℕ → Opened

@@ -3,7 +3,7 @@ use Prim.Native.Nat.{ℕ, _<_}
 use mathlib.Core.Path.{_≡_}
 use mathlib.Core.List.{List}
 use lib.ListN.{getD, length}
-use Rattle.setup.specs.Verdict.{accepted}
+use Rattle.words.specs.Verdict.{accepted}
 use Rattle.setup.specs.RoundTrip.{Shaped as ShapedSetup}
 use Rattle.setup.specs.declared.Setup.{Setup}
 use Rattle.image.specs.Check.{checkImage}

@@ -5,7 +5,7 @@ use mathlib.Core.List.{List}
 use lib.ListN.{getD, length, replicate}
 use lib.Dec.{eqb, ltb}
 use Rattle.words.specs.Bits.{bit}
-use Rattle.setup.specs.Verdict.{isAccepted}
+use Rattle.words.specs.Verdict.{isAccepted}
 use Rattle.rules.specs.Lag.{skewed}
 use Rattle.rules.specs.Hearing.{wordHeard, readingOf, causesOf}
 use Rattle.rules.specs.Alignment.{alignedOf}

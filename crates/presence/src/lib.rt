@@ -2,10 +2,9 @@
 //
 // This file has what a module holds and what its opening and its step answer. Entries and bits of module j + 1 stand at j;
 // those from n on are 0.
-pub mod calls;
-mod load;
+pub mod load;
 mod open;
-mod save;
+pub mod save;
 mod step;
 mod verdict;
 mod view;
@@ -40,29 +39,4 @@ pub struct Stepped {
     pub word: u32,
     pub causes: [u32; 16],
     pub state: State,
-}
-
-// What a call from C answers; health is 0 but after an accepted step.
-#[repr(C)]
-pub struct Answer {
-    pub number: u32,
-    pub index: u32,
-    pub health: u32,
-}
-
-// What a call from C answers that asks for a word; the word is 0 where the call is refused.
-#[repr(C)]
-pub struct WordAnswer {
-    pub number: u32,
-    pub index: u32,
-    pub word: u32,
-}
-
-// What reading one word answers to C: the cause by its code, 0 for heard, and the row of a heard word, else 0; both are 0 where the call is refused.
-#[repr(C)]
-pub struct CauseAnswer {
-    pub number: u32,
-    pub index: u32,
-    pub cause: u32,
-    pub row: u32,
 }

@@ -2,65 +2,82 @@
 use crate::Opened;
 use crate::State;
 use image::check::check_image;
-use image::read::load_counters;
-use image::read::load_rows;
-use image::read::load_setup;
-use image::read::single_ok;
+use image::counters::load_counters;
+use image::layout::image_length;
+use image::read::load_words;
+use image::rows::load_rows;
 use setup::check::check_head;
 use setup::check::size_at;
-use words::word::KIND;
-use words::word::field;
-use words::word::word_at;
+use setup::read::load_setup;
 ghost use mathlib.Core.Path.{_≡_};
-ghost use Prim.Native.Nat.{_+_, _*_, _≤_};
+ghost use mathlib.Core.Bool.{true, false};
+ghost use Prim.Native.Nat.{_≤_};
 ghost use lib.ListN.{length};
 ghost use Rattle.words.specs.Word.{wordAt};
-ghost use Rattle.setup.specs.Verdict.{isAccepted};
+ghost use Rattle.words.specs.Verdict.{isAccepted, allRight};
 ghost use Rattle.setup.specs.Setup.{sizeIn};
-ghost use Rattle.setup.specs.Check.{checkWords};
-ghost use Rattle.image.specs.Words.{imageLength};
-ghost use Rattle.image.specs.Check.{checkTail, checkImage};
+ghost use Rattle.image.specs.Layout.{imageLength};
+ghost use Rattle.image.specs.Check.{imageTests, checkImage};
 ghost use Rattle.presence.specs.Opening.{blank as blankState};
 ghost use Rattle.presence.specs.Image.{stateOf, loadOf};
 
-// The state of an image, and whether all its words are right.
+// The state of an image, and whether the image is accepted.
 pub struct Loaded {
     pub good: bool,
     pub state: State,
 }
 
 // The state, whatever the words are, and whether all of them are right.
-pub fn load(s: &[u8], n: usize) -> Loaded
+fn load_state(s: &[u8], n: usize) -> Loaded
     requires { ⌜ (n ≤ 16) × (length (now s) ≡ imageLength n) × (n ≡ sizeIn (wordAt (now s) 0)) ⌝ }
-    ensures { λ r. ⌜ (r .good ≡ isAccepted (checkWords (now (s .entry)) n (checkTail (now (s .entry)) n)))
-        × (r .state ≡ stateOf (now (s .entry))) ⌝ }
+    ensures { λ r. ⌜ (r .good ≡ allRight (imageTests (now (s .entry)) n)) × (r .state ≡ stateOf (now (s .entry))) ⌝ }
 {
     let first = load_setup(s, n);
     let setup = first.setup;
-    let own = word_at(s, n + 3);
-    let latest = word_at(s, 2 * n + 4);
-    let earlier = word_at(s, 2 * n + 5);
-    let single = single_ok(n, own, latest, earlier);
+    let alone = load_words(s, n);
     let read = load_rows(s, n);
     let previous = read.previous;
     let criticality = setup.criticality;
-    let last = load_counters(s, n, setup.p, setup.r, criticality, own % 65536);
+    let last = load_counters(s, n, setup.p, setup.r, criticality, alone.view);
     let counters = last.counters;
     Loaded {
-        good: first.good & single & read.good & last.good,
+        good: first.good & (alone.good & (read.good & last.good)),
         state: State {
             setup,
-            own: field(own, 16, 5) as usize,
+            own: alone.own,
             counters,
             previous,
-            latest: latest % KIND,
-            earlier: earlier % KIND,
+            latest: alone.latest,
+            earlier: alone.earlier,
         },
     }
 }
 
+// Head, length, then the words in one pass: whether the image is accepted, and its state if it is.
+pub fn load(image: &[u8]) -> Loaded
+    ensures { λ r. ⌜ (r .good ≡ isAccepted (checkImage (now (image .entry)))) × (r .good ≡ true → r .state ≡ stateOf (now (image .entry))) ⌝ }
+{
+    let head = check_head(image);
+    if head.number != 0 {
+        return not_loaded();
+    }
+    let n = size_at(image);
+    if image.len() != image_length(n) {
+        return not_loaded();
+    }
+    load_state(image, n)
+}
+
+// Nothing was read.
+fn not_loaded() -> Loaded
+    ensures { λ r. ⌜ r .good ≡ false ⌝ }
+{
+    let state = State::blank();
+    Loaded { good: false, state }
+}
+
 // The answer of the exact check, with no state.
-fn not_loaded(image: &[u8]) -> Opened
+fn refused(image: &[u8]) -> Opened
     ensures { λ r. ⌜ (r .number ≡ checkImage (now (image .entry)) .number) × (r .index ≡ checkImage (now (image .entry)) .index)
         × (r .state ≡ blankState) ⌝ }
 {
@@ -78,17 +95,9 @@ impl State {
     pub fn load(image: &[u8]) -> Opened
         ensures { λ r. ⌜ r ≡ loadOf (now (image .entry)) ⌝ }
     {
-        let head = check_head(image);
-        if head.number != 0 {
-            return not_loaded(image);
-        }
-        let n = size_at(image);
-        if image.len() != (4 * n + 6) * 4 {
-            return not_loaded(image);
-        }
-        let loaded = load(image, n);
+        let loaded = load(image);
         if !loaded.good {
-            return not_loaded(image);
+            return refused(image);
         }
         let state = loaded.state;
         Opened {

@@ -1,89 +1,55 @@
 // Writing a state as words.
 use crate::State;
-use image::own_word;
-use image::syndrome_word;
-use image::write::save_counter;
-use image::write::save_rows;
-use image::write::save_word;
-use setup::Verdict;
-use setup::check::answer;
+use image::counters::save_counters;
+use image::layout::earlier_at;
+use image::layout::image_length;
+use image::layout::latest_at;
+use image::layout::own_at;
+use image::layout::rows_at;
+use image::rows::save_rows;
+use image::word::own_word;
+use image::word::save_word;
+use image::word::syndrome_word;
+use setup::layout::setup_length;
 use setup::write::write_words;
+use words::Verdict;
+use words::check::accept;
+use words::check::refusal;
 ghost use mathlib.Core.Path.{_≡_};
-ghost use Prim.Native.Nat.{_+_, _*_};
+ghost use mathlib.Core.Bool.{true};
+ghost use Prim.Native.Nat.{_≤_};
 ghost use lib.ListN.{length};
-ghost use Rattle.image.specs.Words.{imageLength};
-ghost use Rattle.presence.specs.Valid.{Valid};
-ghost use Rattle.presence.specs.Image.{countersPart, earlierPart, latestPart, previousPart, ownPart, imageOf, saveVerdict, savedOut};
+ghost use Rattle.words.specs.Runs.{putRuns};
+ghost use Rattle.setup.specs.Check.{setupVerdict};
+ghost use Rattle.image.specs.Layout.{ownAt, imageLength};
+ghost use Rattle.presence.specs.Image.{stateRuns, imageOf};
+ghost use Rattle.presence.specs.Valid.{roomy, saveVerdict, savedOut};
 
-// Writes the penalties and the rewards.
-fn save_counters(state: State, out: &mut [u8])
-    requires { ⌜ Valid state × (length (now out) ≡ state .setup .n * 8) ⌝ }
-    ensures { λ _. ⌜ now (out .exit) ≡ countersPart state ⌝ }
-{
-    let n = state.setup.n;
-    let counters = state.counters;
-    let penalty = counters.penalty;
-    let reward = counters.reward;
-    let k = n * 4;
-    save_counter(13, n, penalty, &mut out[..k]);
-    save_counter(14, n, reward, &mut out[k..]);
-}
-
-// Writes the syndrome before the latest, and what follows it.
-fn save_earlier(state: State, out: &mut [u8])
-    requires { ⌜ Valid state × (length (now out) ≡ 4 + state .setup .n * 8) ⌝ }
-    ensures { λ _. ⌜ now (out .exit) ≡ earlierPart state ⌝ }
-{
-    let k: usize = 4;
-    let w = syndrome_word(state.earlier);
-    save_word(w, &mut out[..k]);
-    save_counters(state, &mut out[k..]);
-}
-
-// Writes the latest syndrome, and what follows it.
-fn save_latest(state: State, out: &mut [u8])
-    requires { ⌜ Valid state × (length (now out) ≡ 8 + state .setup .n * 8) ⌝ }
-    ensures { λ _. ⌜ now (out .exit) ≡ latestPart state ⌝ }
-{
-    let k: usize = 4;
-    let w = syndrome_word(state.latest);
-    save_word(w, &mut out[..k]);
-    save_earlier(state, &mut out[k..]);
-}
-
-// Writes the rows, and what follows them.
-fn save_previous(state: State, out: &mut [u8])
-    requires { ⌜ Valid state × (length (now out) ≡ 8 + state .setup .n * 12) ⌝ }
-    ensures { λ _. ⌜ now (out .exit) ≡ previousPart state ⌝ }
+// Writes the words after the setup's, section by section.
+fn save_sections(state: State, out: &mut [u8])
+    requires { ⌜ (state .setup .n ≤ 16) × (roomy state ≡ true) × (length (now out) ≡ imageLength (state .setup .n)) ⌝ }
+    ensures { λ _. ⌜ now (out .exit) ≡ putRuns (now (out .entry)) (ownAt (state .setup .n)) (stateRuns state) ⌝ }
 {
     let n = state.setup.n;
     let previous = state.previous;
+    let counters = state.counters;
     let rows = previous.rows;
-    let k = n * 4;
-    save_rows(n, previous.heard, rows, &mut out[..k]);
-    save_latest(state, &mut out[k..]);
-}
-
-// Writes the own number and the view, and what follows them.
-fn save_own(state: State, out: &mut [u8])
-    requires { ⌜ Valid state × (length (now out) ≡ 12 + state .setup .n * 12) ⌝ }
-    ensures { λ _. ⌜ now (out .exit) ≡ ownPart state ⌝ }
-{
-    let k: usize = 4;
-    let w = own_word(state.own, state.counters.view);
-    save_word(w, &mut out[..k]);
-    save_previous(state, &mut out[k..]);
+    save_word(own_word(state.own, counters.view), out, own_at(n));
+    save_rows(n, previous.heard, rows, out, rows_at(n));
+    save_word(syndrome_word(state.latest), out, latest_at(n));
+    save_word(syndrome_word(state.earlier), out, earlier_at(n));
+    save_counters(n, counters, out);
 }
 
 // Writes all words of a state.
 pub fn save_words(state: State, out: &mut [u8])
-    requires { ⌜ Valid state × (length (now out) ≡ imageLength (state .setup .n)) ⌝ }
+    requires { ⌜ (setupVerdict (state .setup) .number ≡ 0) × (roomy state ≡ true) × (length (now out) ≡ imageLength (state .setup .n)) ⌝ }
     ensures { λ _. ⌜ now (out .exit) ≡ imageOf state ⌝ }
 {
     let setup = state.setup;
-    let k = (setup.n + 3) * 4;
+    let k = setup_length(setup.n);
     write_words(setup, &mut out[..k]);
-    save_own(state, &mut out[k..]);
+    save_sections(state, out);
 }
 
 impl State {
@@ -95,10 +61,10 @@ impl State {
         if v.number != 0 {
             return v;
         }
-        if out.len() != (4 * self.setup.n + 6) * 4 {
-            return answer(9, 0);
+        if out.len() != image_length(self.setup.n) {
+            return refusal(9, 0);
         }
         save_words(self, out);
-        answer(0, 0)
+        accept()
     }
 }

@@ -1,90 +1,45 @@
-// The check of a state that is already a struct, by the numbers and indexes that its words would get.
+// The check of a state that is already a struct: by its image, and by what no image shows.
 use crate::State;
-use image::wrong_penalties;
-use image::wrong_rewards;
-use image::wrong_rows;
-use setup::Verdict;
-use setup::check::answer;
-use words::array::all_clear;
-use words::bits::power;
+use crate::save::save_words;
+use image::check::check_tail;
+use image::counters::counters_roomy;
+use image::layout::image_length;
+use image::rows::rows_roomy;
+use image::word::VECTOR;
+use setup::layout::MOST_MODULES;
+use words::Verdict;
+use words::check::refusal;
 ghost use mathlib.Core.Path.{_≡_};
+ghost use mathlib.Core.Bool.{true};
 ghost use Prim.Native.Nat.{_≤_};
+ghost use lib.ListN.{length};
+ghost use Rattle.words.specs.Runs.{runWord};
 ghost use Rattle.setup.specs.Check.{setupVerdict};
-ghost use Rattle.presence.specs.Valid.{stateTidy, checkCounters, checkRows, checkState, stateVerdict};
+ghost use Rattle.image.specs.Layout.{imageLength};
+ghost use Rattle.image.specs.Check.{checkTail};
+ghost use Rattle.presence.specs.Image.{imageRuns};
+ghost use Rattle.presence.specs.Valid.{roomy as roomyOf, stateVerdict};
 
-// Whether nothing stands in the entries from n on.
-fn tidy(state: State) -> bool
+// Whether every field has room in its word, and nothing stands in the entries from n on.
+fn roomy(state: State) -> bool
     requires { ⌜ state .setup .n ≤ 16 ⌝ }
-    ensures { λ r. ⌜ r ≡ stateTidy state ⌝ }
+    ensures { λ r. ⌜ r ≡ roomyOf state ⌝ }
 {
     let n = state.setup.n;
     let previous = state.previous;
     let counters = state.counters;
-    let rows = previous.rows;
-    let penalty = counters.penalty;
-    let reward = counters.reward;
-    (previous.heard < power(n)) & all_clear(n, rows) & all_clear(n, penalty) & all_clear(n, reward)
+    let own = (state.own <= MOST_MODULES) & (counters.view < VECTOR);
+    let alone = own & ((state.latest < VECTOR) & (state.earlier < VECTOR));
+    alone & (rows_roomy(n, previous) & counters_roomy(n, counters))
 }
 
-// Number 8 in the counters, then in the entries from n on.
-fn counters_verdict(state: State) -> Verdict
-    requires { ⌜ (state .setup .n ≤ 16) × (setupVerdict (state .setup) .number ≡ 0) ⌝ }
-    ensures { λ r. ⌜ r ≡ checkCounters state ⌝ }
+// Numbers 7 and 8 of a state's image, which is written to `out`.
+fn image_verdict(state: State, out: &mut [u8]) -> Verdict
+    requires { ⌜ (setupVerdict (state .setup) .number ≡ 0) × (roomyOf state ≡ true) × (length (now out) ≡ imageLength (state .setup .n)) ⌝ }
+    ensures { λ r. ⌜ r ≡ checkTail (runWord (imageRuns state)) (state .setup .n) ⌝ }
 {
-    let setup = state.setup;
-    let n = setup.n;
-    let counters = state.counters;
-    let criticality = setup.criticality;
-    let penalty = counters.penalty;
-    let reward = counters.reward;
-    let first = wrong_penalties(n, setup.p, criticality, counters.view, penalty);
-    if first != 0 {
-        return answer(8, (2 * n + 5 + first) as u32);
-    }
-    let second = wrong_rewards(n, setup.r, penalty, reward);
-    if second != 0 {
-        return answer(8, (3 * n + 5 + second) as u32);
-    }
-    if !tidy(state) {
-        return answer(8, 0);
-    }
-    answer(0, 0)
-}
-
-// Number 8 in the rows and what follows them.
-fn rows_verdict(state: State) -> Verdict
-    requires { ⌜ (state .setup .n ≤ 16) × (setupVerdict (state .setup) .number ≡ 0) ⌝ }
-    ensures { λ r. ⌜ r ≡ checkRows state ⌝ }
-{
-    let n = state.setup.n;
-    let previous = state.previous;
-    let rows = previous.rows;
-    let first = wrong_rows(n, previous.heard, rows);
-    if first != 0 {
-        return answer(8, (n + 3 + first) as u32);
-    }
-    if !(state.latest < power(n)) {
-        return answer(8, (2 * n + 4) as u32);
-    }
-    if !(state.earlier < power(n)) {
-        return answer(8, (2 * n + 5) as u32);
-    }
-    counters_verdict(state)
-}
-
-// Numbers 7 and 8.
-fn state_verdict(state: State) -> Verdict
-    requires { ⌜ (state .setup .n ≤ 16) × (setupVerdict (state .setup) .number ≡ 0) ⌝ }
-    ensures { λ r. ⌜ r ≡ checkState state ⌝ }
-{
-    let n = state.setup.n;
-    if !((1 <= state.own) & (state.own <= n)) {
-        return answer(7, (n + 3) as u32);
-    }
-    if !(state.counters.view < power(n)) {
-        return answer(8, (n + 3) as u32);
-    }
-    rows_verdict(state)
+    save_words(state, out);
+    check_tail(out, state.setup.n)
 }
 
 impl State {
@@ -97,6 +52,12 @@ impl State {
         if v.number != 0 {
             return v;
         }
-        state_verdict(self)
+        if !roomy(self) {
+            return refusal(8, 0);
+        }
+        // room for the longest image
+        let mut out = [0u8; 280];
+        let k = image_length(setup.n);
+        image_verdict(self, &mut out[..k])
     }
 }

@@ -1,3 +1,4 @@
+pub mod LagLaws
 pub mod ReceptionLaws
 pub mod Causes
 pub mod AlignmentLaws

@@ -233,6 +233,25 @@ module _ (n : ℕ) (t : List Event) (st : Locks) (k : Kept n t st) where
   next (Finished b) = next-finished b
   next (Stopped b) = next-stopped b
 
+-- ---- the joystick, by the axes
+
+all-ext : (m : ℕ) (p q : ℕ → Bool) → ((i : ℕ) → i < m → p i ≡ q i) → all m p ≡ all m q
+unfolding all
+all-ext zero p q h = refl
+all-ext (suc m) p q h = rw (all-ext m p q (λ i l. h i (omega arith)), h m (omega arith)) refl
+
+-- axes that show what a history leaves make the joystick as live as the history does
+live-is : (n : ℕ) (h : List Event) (axes : List Axis)
+    → ((a : ℕ) → 1 ≤ a → a ≤ 8 → Shows a (acceptedEvents n h) (getD axes (a - 1) free))
+    → all 8 (λ i. idleAxis (getD axes i free)) ≡ live n h
+unfolding live idleAxis
+live-is n h axes shown =
+    all-ext 8 _ _
+    (λ i l.
+    let z : i + 1 - 1 ≡ i = omega arith in
+    let s = rw z at (shown (i + 1) (omega arith) (omega arith)) in
+    ap₂ (λ (d : ℕ) (q : Bool). eqb d 0 && not q) (sym (shows-depth (i + 1) _ _ s)) (s .stop))
+
 -- ---- every history
 
 at-first : (n : ℕ) → Kept n [] (freshLocks n)
@@ -251,20 +270,9 @@ unfolding acceptedEvents locksAfter
 kept n [] = at-first n
 kept n (e ∷ h) = next n (acceptedEvents n h) (locksAfter n h) (kept n h) e .kept
 
-all-ext : (m : ℕ) (p q : ℕ → Bool) → ((i : ℕ) → i < m → p i ≡ q i) → all m p ≡ all m q
-unfolding all
-all-ext zero p q h = refl
-all-ext (suc m) p q h = rw (all-ext m p q (λ i l. h i (omega arith)), h m (omega arith)) refl
-
 shown-live : (n : ℕ) (h : List Event) → joystickOf (locksAfter n h) ≡ live n h
-unfolding joystickOf live idleAxis
-shown-live n h =
-    let k = kept n h in
-    all-ext 8 _ _
-    (λ i l.
-    let z : i + 1 - 1 ≡ i = omega arith in
-    let s = rw z at (k .each (i + 1) (omega arith) (omega arith)) in
-    ap₂ (λ (d : ℕ) (q : Bool). eqb d 0 && not q) (sym (shows-depth (i + 1) _ _ s)) (s .stop))
+unfolding joystickOf
+shown-live n h = live-is n h (locksAfter n h .axes) (kept n h .each)
 
 pub by-history : ByHistory
 by-history n h =

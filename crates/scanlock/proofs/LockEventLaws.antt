@@ -1,5 +1,5 @@
 -- How the answer of a function follows from the way that its tests came out.
-use mathlib.Core.Path.{_≡_, refl, sym, ap, _∙_}
+use mathlib.Core.Path.{_≡_, refl, sym, ap, ap₂, _∙_}
 use mathlib.Core.Bool.{Bool, true, false, cond, _&&_}
 use Prim.Native.Nat.{ℕ, _-_, _^_, _≤_, _<_}
 use native.Mathlib.Omega.{arith}
@@ -8,15 +8,15 @@ use borrow.Author.Tests.{leb-true, leb-false, lt-ltb}
 use mathlib.Core.List.{List}
 use native.Mathlib.Nat.{le-refl}
 use lib.Dec.{eqb, leb, ltb}
-use lib.ListN.{getD}
+use lib.ListN.{getD, replicate}
 use lib.Pow.{pow-mono}
-use Rattle.words.specs.Bits.{bit}
+use Rattle.words.specs.Bits.{bit, full}
 use Rattle.words.proofs.Truth.{which, and-l, and-r, cond-true, cond-false}
 use Rattle.words.specs.Table.{updated}
 use Rattle.words.proofs.BitLaws.{bit-high}
 use Rattle.words.proofs.TableLaws.{updated-above}
 use Rattle.scanlock.specs.Axis.{free, axis, axisAnswer, present, onAxis, shallower}
-use Rattle.scanlock.specs.Locks.{admits, axisAt, settledOf, putOf}
+use Rattle.scanlock.specs.Locks.{locks, freshLocks, blankLocks, admits, axisAt, settledOf, putOf}
 use Rattle.scanlock.specs.declared.Axis.{Axis}
 use Rattle.scanlock.specs.declared.AxisAnswer.{AxisAnswer}
 use Rattle.scanlock.specs.declared.Locks.{Locks}
@@ -61,8 +61,8 @@ unfolding admits
 admitted st by a e = on-axis a (and-l (onAxis a) _ (and-l (onAxis a && leb by (st .n)) _ e))
 
 -- every view is below a large enough power of 2
-pub names-all : (v n : ℕ) → v < 2 ^ 32 → 32 ≤ n → true ≡ ltb v (2 ^ n)
-names-all v n h k = sym (lt-ltb v (2 ^ n) (omega (arith, pow-mono {i = 32} {j = n} k)))
+pub every-view-fits : (v n : ℕ) → v < 2 ^ 32 → 32 ≤ n → true ≡ ltb v (2 ^ n)
+every-view-fits v n h k = sym (lt-ltb v (2 ^ n) (omega (arith, pow-mono {i = 32} {j = n} k)))
 
 -- ---- the axis that an event names
 
@@ -83,3 +83,14 @@ end-made x e = ap (λ (h : ℕ). axisAnswer 0 (axis h (x .depth - 1) (x .moving)
 -- an axis that a loop has not come to is as it was
 pub not-yet-seen : (i : ℕ) (f : ℕ → Axis) (l : List Axis) {m : List Axis} → m ≡ updated i f l → getD m i free ≡ getD l i free
 not-yet-seen i f l e = rw e (updated-above i f l i free (le-refl i))
+
+-- ---- opening
+
+-- eight axes that are all the same free one
+pub fresh-locks-made : (n : ℕ) {x : Axis} {v : ℕ} → x ≡ free → v ≡ full n → locks n v (replicate 8 x) ≡ freshLocks n
+unfolding freshLocks
+fresh-locks-made n e h = ap₂ (λ (x : Axis) (v : ℕ). locks n v (replicate 8 x)) e h
+
+pub blank-locks-made : {x : Axis} → x ≡ free → locks 0 0 (replicate 8 x) ≡ blankLocks
+unfolding blankLocks
+blank-locks-made e = ap (λ (x : Axis). locks 0 0 (replicate 8 x)) e

@@ -1,5 +1,5 @@
 -- Document 02, E2, sentence by sentence: a table of what the definitions give and what the sentence says, of a backplane of four modules.
--- Each line asks the state (`locksAfter`, specs/Locks.antt) and the history (specs/History.antt). The checker computes it whole, in proofs/Cases.antt.
+-- Each line asks the state (`locksAfter`, specs/ByHistory.antt) and the history (specs/History.antt). The checker computes it whole, in proofs/Cases.antt.
 use Prim.Native.Nat.{ℕ}
 use mathlib.Core.Path.{_≡_}
 use mathlib.Core.Bool.{Bool, true, false, _&&_, Bool·beq}

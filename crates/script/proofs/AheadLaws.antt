@@ -10,12 +10,12 @@ use borrow.Author.Tests.{eqb-true, eqb-false, ltb-true}
 use Rattle.words.specs.Word.{wordAt}
 use Rattle.words.specs.Bits.{bit}
 use Rattle.words.proofs.Truth.{and-l, and-r, not-both, cond-true, cond-false}
-use Rattle.setup.specs.declared.Verdict.{Verdict}
-use Rattle.setup.specs.Verdict.{accepted, check, between}
-use Rattle.setup.proofs.VerdictLaws.{check-pass, between-is}
+use Rattle.words.specs.declared.Verdict.{Verdict}
+use Rattle.words.specs.Verdict.{verdict, between}
+use Rattle.words.proofs.VerdictLaws.{between-is, and-then-pass, single-pass}
 use Rattle.script.specs.declared.Scan.{Scan}
-use Rattle.script.specs.Words.{kindOf, senderIn, roundsIn, eventOk, playOk}
-use Rattle.script.specs.Check.{playRefusal, eventRefusal, refusal, scanned, finished, scan}
+use Rattle.script.specs.Words.{mostRounds, kindOf, senderIn, roundsIn, eventOk, playOk}
+use Rattle.script.specs.Check.{playRefusal, eventRefusal, wordRefusal, scanned, finished, scan}
 use Rattle.script.specs.Rounds.{lastScan}
 use Rattle.script.proofs.ScanLaws.{play-rounds, taken-rounds, scan-step}
 
@@ -25,7 +25,7 @@ pub play-taken : (rounds w : ℕ) → playRefusal rounds w ≡ 0 → 1 ≤ round
 unfolding playRefusal
 play-taken rounds w e = go (playOk w) refl e
   where
-    go : (p : Bool) → playOk w ≡ p → _≡_ {A = ℕ} (cond p (cond (leb (rounds + roundsIn w) 100000) 0 15) 12) 0 → 1 ≤ roundsIn w
+    go : (p : Bool) → playOk w ≡ p → _≡_ {A = ℕ} (cond p (cond (leb (rounds + roundsIn w) mostRounds) 0 15) 12) 0 → 1 ≤ roundsIn w
     go true t q = play-rounds w t .0
     go false t q = absurd (omega arith)
 
@@ -67,12 +67,12 @@ module _ (sc : Scan) (w : ℕ) where
   pub rounds-of : {x : Scan} → scanned sc w ≡ x → scanned sc w .rounds ≡ x .rounds
   rounds-of y = ap (λ (x : Scan). x .rounds) y
 
-  pub refusal-play : (n cast : ℕ) → sc .told ≡ false → eqb (kindOf w) 9 ≡ true → refusal n cast sc w ≡ playRefusal (sc .rounds) w
-  unfolding refusal
+  pub refusal-play : (n cast : ℕ) → sc .told ≡ false → eqb (kindOf w) 9 ≡ true → wordRefusal n cast sc w ≡ playRefusal (sc .rounds) w
+  unfolding wordRefusal
   refusal-play n cast f t = cond-false _ _ f ∙ cond-true _ _ t
 
-  pub refusal-event : (n cast : ℕ) → sc .told ≡ false → eqb (kindOf w) 9 ≡ false → refusal n cast sc w ≡ eventRefusal n cast w
-  unfolding refusal
+  pub refusal-event : (n cast : ℕ) → sc .told ≡ false → eqb (kindOf w) 9 ≡ false → wordRefusal n cast sc w ≡ eventRefusal n cast w
+  unfolding wordRefusal
   refusal-event n cast f t = cond-false _ _ f ∙ cond-false _ _ t
 
   pub rounds-grow : sc .rounds ≤ scanned sc w .rounds
@@ -94,15 +94,6 @@ finished-is sc t =
 
 -- ---- all that lies ahead
 
-number-pass : (number index : ℕ) (next : Verdict) → check (eqb number 0) number index next .number ≡ 0 → (number ≡ 0) × (next .number ≡ 0)
-unfolding check
-number-pass number index next e = go (eqb number 0) refl e
-  where
-    go : (b : Bool) → eqb number 0 ≡ b → (cond {A = Verdict} b next (record { number = number; index = index })) .number ≡ 0
-        → (number ≡ 0) × (next .number ≡ 0)
-    go true t q = (eqb-true number 0 t, q)
-    go false f q = absurd (eqb-false number 0 f q)
-
 module _ (s : List ℕ) (n cast count total : ℕ) where
   pub record Ahead (at : ℕ) (sc : Scan) : Type 0 where
     pub within : at ≤ count
@@ -115,9 +106,9 @@ module _ (s : List ℕ) (n cast count total : ℕ) where
       let z : count - at ≡ suc (count - (at + 1)) = omega arith in
       rw z
 
-  pub ahead-next : (at : ℕ) (sc : Scan) → at < count → Ahead at sc → (refusal n cast sc (wordAt s at) ≡ 0) × Ahead (at + 1) (scanned sc (wordAt s at))
+  pub ahead-next : (at : ℕ) (sc : Scan) → at < count → Ahead at sc → (wordRefusal n cast sc (wordAt s at) ≡ 0) × Ahead (at + 1) (scanned sc (wordAt s at))
   ahead-next at sc h a =
-      let (z, q) = number-pass (refusal n cast sc (wordAt s at)) at _ (rw (scan-step s n cast count at sc h) at (a .taken)) in (
+      let (z, q) = and-then-pass (verdict (wordRefusal n cast sc (wordAt s at)) at) _ (rw (scan-step s n cast count at sc h) at (a .taken)) in (
         z,
         record { within = omega arith; taken = q; last = ap (λ (x : Scan). x .rounds) (sym (last-step at sc h)) ∙ a .last },
       )
@@ -126,7 +117,7 @@ module _ (s : List ℕ) (n cast count total : ℕ) where
   unfolding scan lastScan
   ahead-ends sc a =
       let z : count - count ≡ 0 = omega arith in
-      let (t, q) = check-pass (finished sc) 14 count accepted (omega arith) (rw z at (a .taken)) in
+      let t = single-pass (finished sc) 14 count (omega arith) (rw z at (a .taken)) in
       let (f, p) = finished-is sc t in
       (f, p, rw z at (a .last))
 
@@ -142,7 +133,7 @@ module _ (s : List ℕ) (n cast count total : ℕ) where
       let g = rounds-grow sc (wordAt s at) in
       (omega arith, p)
 
-  pub ahead-most : (words at : ℕ) (sc : Scan) → at + words ≡ count → Ahead at sc → sc .rounds ≤ 100000 → total ≤ 100000
+  pub ahead-most : (words at : ℕ) (sc : Scan) → at + words ≡ count → Ahead at sc → sc .rounds ≤ mostRounds → total ≤ mostRounds
   ahead-most zero at sc h a m =
       let e : at ≡ count = omega arith in
       let (f, p, q) = ahead-ends sc (rw e at a) in

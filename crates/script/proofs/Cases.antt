@@ -4,15 +4,15 @@ use Rattle.words.specs.Word.{wordAt, bytesOf}
 use Rattle.words.specs.Bits.{bit}
 use Rattle.words.specs.Count.{lowest}
 use Rattle.words.specs.Table.{updated, table}
-use Rattle.setup.specs.Verdict.{check, checkEach}
-use Rattle.setup.specs.Check.{moduleFits, markFits, whole, headOk, limitOk, moduleOk, markOk, checkHead, checkWords, checkFront}
+use Rattle.words.specs.Verdict.{andThen, outcome, thenTests}
+use Rattle.setup.specs.Check.{moduleFits, markFits, whole, headOk, limitOk, moduleOk, markOk, moduleTest, checkHead, checkWords, checkFront}
 use Rattle.script.specs.Words.{castOk, eventOk, playOk}
-use Rattle.script.specs.Check.{playRefusal, eventRefusal, refusal, scanned, finished, scan, checkPlay, checkScript}
+use Rattle.script.specs.Check.{playRefusal, eventRefusal, wordRefusal, scanned, finished, scan, checkCast, checkPlay, checkScript}
 use Rattle.script.specs.Events.{none, concerns, withEvent}
 use Rattle.script.specs.Cursor.{isPlay, lieAfter, eventsAfter, gather, start, advanced, cursorAt}
 use Rattle.script.specs.Rounds.{lastScan, roundsOf}
 use Rattle.script.specs.Cases.{CasesRight}
 
 pub cases-right : CasesRight
-unfolding wordAt bytesOf bit lowest updated table check checkEach moduleFits markFits whole headOk limitOk moduleOk markOk checkHead checkWords checkFront castOk eventOk playOk playRefusal eventRefusal refusal scanned finished scan checkPlay checkScript none concerns withEvent isPlay lieAfter eventsAfter gather start advanced cursorAt lastScan roundsOf
+unfolding wordAt bytesOf bit lowest updated table andThen outcome thenTests moduleFits markFits whole headOk limitOk moduleOk markOk moduleTest checkHead checkWords checkFront castOk eventOk playOk playRefusal eventRefusal wordRefusal scanned finished scan checkCast checkPlay checkScript none concerns withEvent isPlay lieAfter eventsAfter gather start advanced cursorAt lastScan roundsOf
 cases-right = record { verdicts = refl; fates = refl }

@@ -2,7 +2,7 @@
 use mathlib.Core.Path.{_≡_, refl, sym, ap, _∙_}
 use mathlib.Core.Logic.{inl, ⊎-elim}
 use mathlib.Core.Bool.{true, false}
-use mathlib.Core.List.{List}
+use mathlib.Core.List.{List, [], _∷_}
 use Prim.Native.Nat.{ℕ, zero, suc, _+_, _-_, _/_, _≤_, _<_}
 use native.Mathlib.Omega.{arith}
 use native.Mathlib.Numerals.{add-one}
@@ -10,14 +10,16 @@ use lib.Dec.{eqb, leb, ltb}
 use lib.ListN.{length}
 use borrow.Author.Tests.{eqb-true, eqb-false, ltb-true, leb-true, leb-false}
 use Rattle.words.specs.Word.{wordAt}
+use Rattle.words.specs.Verdict.{single, outcome}
 use Rattle.words.proofs.Truth.{which}
+use Rattle.words.proofs.VerdictLaws.{Passed, numbered, and-then-pass, single-pass, tests-pass}
 use Rattle.setup.specs.Setup.{sizeIn}
-use Rattle.setup.proofs.VerdictLaws.{check-pass}
-use Rattle.setup.proofs.CheckLaws.{front-pass}
+use Rattle.setup.specs.Check.{checkFront}
+use Rattle.setup.proofs.SetupCheckLaws.{FrontFits, front-pass}
 use Rattle.script.specs.declared.Scan.{Scan}
 use Rattle.script.specs.declared.Cursor.{Cursor}
-use Rattle.script.specs.Words.{castOk}
-use Rattle.script.specs.Check.{begun, scanned, scan, checkPlay, checkScript}
+use Rattle.script.specs.Words.{castAt, eventsAt, mostBytes, castOk}
+use Rattle.script.specs.Check.{begun, scanned, scan, checkCast, checkPlay, checkScript}
 use Rattle.script.specs.Cursor.{start, advanced, cursorAt}
 use Rattle.script.specs.Told.{castOf, OnlyCast}
 use Rattle.script.specs.Rounds.{roundsOf, PlaysAll}
@@ -28,24 +30,42 @@ use Rattle.script.proofs.EffectLaws.{Linked, linked-next, told-first, r
 use Rattle.script.proofs.GatherLaws.{next-round, next-play}
 use Rattle.script.proofs.PlaceLaws.{Running, Placed, placed-round, placed-play}
 
-play-pass : (s : List ℕ) → checkScript s .number ≡ 0 → checkPlay s (sizeIn (wordAt s 0)) .number ≡ 0
-unfolding checkScript
-play-pass s e =
-    let (t, f) = check-pass (leb (length s) 65536) 16 0 _ (omega arith) e in
-    front-pass s (checkPlay s (sizeIn (wordAt s 0))) f .1
+-- what the check of a script has asked
+pub record ScriptFits (s : List ℕ) : Type 0 where
+  pub bytes : length s ≤ mostBytes
+  pub front : FrontFits s
+  pub cast : castAt (sizeIn (wordAt s 0)) < length s / 4
+  pub cast-ok : castOk (sizeIn (wordAt s 0)) (wordAt s (castAt (sizeIn (wordAt s 0)))) ≡ true
+  pub words : scan s (sizeIn (wordAt s 0)) (castOf s) (length s / 4 - eventsAt (sizeIn (wordAt s 0))) (eventsAt (sizeIn (wordAt s 0))) begun .number ≡ 0
+
+pub script-pass : (s : List ℕ) → checkScript s .number ≡ 0 → ScriptFits s
+unfolding checkScript checkPlay checkCast Passed numbered
+script-pass s e =
+    let n = sizeIn (wordAt s 0) in
+    let (a, f) = and-then-pass (outcome (single (leb (length s) mostBytes) 16 0)) _ e in
+    let (b, g) = and-then-pass (checkFront s) (checkPlay s n) f in
+    let (c, h) = and-then-pass (checkCast s n) _ g in
+    let (k, (w, _)) =
+    tests-pass (single (ltb (castAt n) (length s / 4)) 14 (length s / 4) ∷ single (castOk n (wordAt s (castAt n))) 12 (castAt n) ∷ []) refl c
+    in
+    record {
+      bytes = leb-true (length s) mostBytes (single-pass (leb (length s) mostBytes) 16 0 (omega arith) a);
+      front = front-pass s b;
+      cast = ltb-true (castAt n) (length s / 4) (k 0 (omega arith));
+      cast-ok = w 0 (omega arith);
+      words = h;
+    }
 
 module _ (s : List ℕ) (ok : checkScript s .number ≡ 0) where
   abbrev n : ℕ
   n = sizeIn (wordAt s 0)
 
   -- all that comes after the cast
-  behind-cast : Ahead s n (castOf s) (length s / 4) (roundsOf s) (n + 4) begun
-  unfolding checkPlay roundsOf
+  behind-cast : Ahead s n (castOf s) (length s / 4) (roundsOf s) (eventsAt n) begun
+  unfolding roundsOf
   behind-cast =
-      let (t, e) = check-pass (ltb (n + 3) (length s / 4)) 14 (length s / 4) _ (omega arith) (play-pass s ok) in
-      let (c, f) = check-pass (castOk n (wordAt s (n + 3))) 12 (n + 3) _ (omega arith) e in
-      let h = ltb-true (n + 3) (length s / 4) t in
-      record { within = omega arith; taken = f; last = refl }
+      let f = script-pass s ok in
+      record { within = omega (arith, f .cast); taken = f .words; last = refl }
 
   abbrev At : ℕ → Cursor → Type 0
   At k c = Placed s (castOf s) (roundsOf s) k c
@@ -61,8 +81,8 @@ module _ (s : List ℕ) (ok : checkScript s .number ≡ 0) where
       rw (sym (next-round s c refl f)) (placed-round s (castOf s) (roundsOf s) k c p f))
       (which (eqb (c .left) 0))
 
-  first-linked : Linked s (n + 4) begun
-  first-linked = record { after = omega arith; told = sym (told-first s); rounds = sym (rounds-first s (n + 4) (omega arith)) }
+  first-linked : Linked s (eventsAt n) begun
+  first-linked = record { after = omega arith; told = sym (told-first s); rounds = sym (rounds-first s (eventsAt n) (omega arith)) }
 
   placed : (k : ℕ) → At k (cursorAt s k)
   unfolding cursorAt start
@@ -89,7 +109,7 @@ module _ (s : List ℕ) (ok : checkScript s .number ≡ 0) where
       let h = p .ahead .within in
       ahead-total s n (castOf s) (length s / 4) (roundsOf s) (length s / 4 - cursorAt s k .at) (cursorAt s k .at) (p .scan) (omega arith) (p .ahead) .0
 
-  within : n + 4 ≤ length s / 4
+  within : eventsAt n ≤ length s / 4
   within = behind-cast .within
 
   -- a round of the script
@@ -110,7 +130,7 @@ module _ (s : List ℕ) (ok : checkScript s .number ≡ 0) where
   rounds-are : roundsBefore s (length s / 4) ≡ roundsOf s
   rounds-are =
       let h = within in
-      all-rounds (length s / 4 - (n + 4)) (n + 4) begun (omega arith) first-linked behind-cast
+      all-rounds (length s / 4 - (eventsAt n)) (eventsAt n) begun (omega arith) first-linked behind-cast
 
 pub only-cast : OnlyCast
 only-cast s ok k = placed s ok k .by-cast
@@ -120,8 +140,8 @@ plays-all s ok =
     let n = sizeIn (wordAt s 0) in
     let h = within s ok in
     record {
-      least = ahead-total s n (castOf s) (length s / 4) (roundsOf s) (length s / 4 - (n + 4)) (n + 4) begun (omega arith) (behind-cast s ok) .1;
-      most = ahead-most s n (castOf s) (length s / 4) (roundsOf s) (length s / 4 - (n + 4)) (n + 4) begun (omega arith) (behind-cast s ok) (omega arith);
+      least = ahead-total s n (castOf s) (length s / 4) (roundsOf s) (length s / 4 - (eventsAt n)) (eventsAt n) begun (omega arith) (behind-cast s ok) .1;
+      most = ahead-most s n (castOf s) (length s / 4) (roundsOf s) (length s / 4 - (eventsAt n)) (eventsAt n) begun (omega arith) (behind-cast s ok) (omega arith);
       playing = λ k l. running s ok k l .playing;
       over = λ k l.
           let m = so-far s ok k in

@@ -18,25 +18,25 @@ use Rattle.script.specs.declared.Events.{Events}
 use Rattle.script.specs.Words.{kindOf, senderIn, receiversIn, roundsIn}
 use Rattle.script.specs.Check.{scanned}
 use Rattle.script.specs.Events.{none, withEvent}
-use Rattle.script.specs.Effect.{firstOf, toldAt, playAt, roundsBefore, Counts, Effect}
+use Rattle.script.specs.Effect.{afterCast, toldAt, playAt, roundsBefore, Counts, Effect}
 use Rattle.script.proofs.EventLaws.{entry-below, replaces}
 use Rattle.script.proofs.AheadLaws.{scanned-told, scanned-play, scanned-event, told-of, rounds-of}
 
 module _ (s : List ℕ) where
   -- ---- the words up to the cast
 
-  pub told-first : toldAt s (firstOf s) ≡ false
+  pub told-first : toldAt s (afterCast s) ≡ false
   unfolding toldAt
   told-first =
-      let e : firstOf s ≡ suc (firstOf s - 1) = omega arith in
-      ap (toldAt s) e ∙ and-false-l (leb (firstOf s) (firstOf s - 1)) _ (lt-leb (firstOf s) (firstOf s - 1) (omega arith))
+      let e : afterCast s ≡ suc (afterCast s - 1) = omega arith in
+      ap (toldAt s) e ∙ and-false-l (leb (afterCast s) (afterCast s - 1)) _ (lt-leb (afterCast s) (afterCast s - 1) (omega arith))
 
-  pub rounds-first : (w : ℕ) → w ≤ firstOf s → roundsBefore s w ≡ 0
+  pub rounds-first : (w : ℕ) → w ≤ afterCast s → roundsBefore s w ≡ 0
   unfolding roundsBefore playAt
   rounds-first zero h = refl
   rounds-first (suc w) h =
       let z = rounds-first w (omega arith) in
-      let f = and-false-l (leb (firstOf s) w) (not (toldAt s w) && eqb (kindOf (wordAt s w)) 9) (lt-leb (firstOf s) w h) in
+      let f = and-false-l (leb (afterCast s) w) (not (toldAt s w) && eqb (kindOf (wordAt s w)) 9) (lt-leb (afterCast s) w h) in
       omega (arith, z, cond-false (roundsIn (wordAt s w)) 0 f)
 
   -- ---- one word more
@@ -67,17 +67,17 @@ module _ (s : List ℕ) where
   -- ---- the scan of the check knows what stands before a word
 
   pub record Linked (at : ℕ) (sc : Scan) : Type 0 where
-    pub after : firstOf s ≤ at
+    pub after : afterCast s ≤ at
     pub told : sc .told ≡ toldAt s at
     pub rounds : sc .rounds ≡ roundsBefore s at
 
-  told-next : (w : ℕ) → firstOf s ≤ w → toldAt s (w + 1) ≡ not (toldAt s w) && eqb (kindOf (wordAt s w)) 8
+  told-next : (w : ℕ) → afterCast s ≤ w → toldAt s (w + 1) ≡ not (toldAt s w) && eqb (kindOf (wordAt s w)) 8
   unfolding toldAt
-  told-next w h = ap (toldAt s) (add-one w) ∙ rw (le-leb (firstOf s) w h)
+  told-next w h = ap (toldAt s) (add-one w) ∙ rw (le-leb (afterCast s) w h)
 
-  play-is : (w : ℕ) → firstOf s ≤ w → playAt s w ≡ not (toldAt s w) && eqb (kindOf (wordAt s w)) 9
+  play-is : (w : ℕ) → afterCast s ≤ w → playAt s w ≡ not (toldAt s w) && eqb (kindOf (wordAt s w)) 9
   unfolding playAt
-  play-is w h = rw (le-leb (firstOf s) w h)
+  play-is w h = rw (le-leb (afterCast s) w h)
 
   module _ (at : ℕ) (sc : Scan) (l : Linked at sc) where
     abbrev w : ℕ
@@ -127,7 +127,7 @@ module _ (s : List ℕ) where
   Tells k m e = (i j : ℕ) → i < 16 → j < 16 → Effect s k i j m (getD (e .fate) (i * 16 + j) 0) (getD (e .told) (i * 16 + j) 0)
 
   -- no event counts so far
-  pub tells-none : (k m : ℕ) → ((w : ℕ) → firstOf s ≤ w → w < m → k ≡ roundsBefore s w + 1 → ⊥) → Tells k m none
+  pub tells-none : (k m : ℕ) → ((w : ℕ) → afterCast s ≤ w → w < m → k ≡ roundsBefore s w + 1 → ⊥) → Tells k m none
   unfolding none
   tells-none k m h i j a b =
       record {
@@ -148,7 +148,7 @@ module _ (s : List ℕ) where
           ⊎-elim (λ (x : ltb w m ≡ true). ltb-true w m x) (λ (x : ltb w m ≡ false). absurd (f w i j (ltb-false w m x) l c)) (which (ltb w m))
 
   -- the event w counts for round k
-  module _ (k w t : ℕ) (e : Events) (h : firstOf s ≤ w) (p : toldAt s w ≡ false) (kind : (kindOf (wordAt s w) ≡ 7) ⊎ (kindOf (wordAt s w) ≡ 8))
+  module _ (k w t : ℕ) (e : Events) (h : afterCast s ≤ w) (p : toldAt s w ≡ false) (kind : (kindOf (wordAt s w) ≡ 7) ⊎ (kindOf (wordAt s w) ≡ 8))
       (r : k ≡ roundsBefore s w + 1) (told : kindOf (wordAt s w) ≡ 8 → t ≡ wordAt s (w + 1)) where
     abbrev here : ℕ → ℕ → Bool
     here i j = eqb (senderIn (wordAt s w)) (j + 1) && bit (receiversIn (wordAt s w)) i

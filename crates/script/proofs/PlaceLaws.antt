@@ -18,11 +18,11 @@ use Rattle.script.specs.declared.Scan.{Scan}
 use Rattle.script.specs.declared.Events.{Events}
 use Rattle.script.specs.declared.Cursor.{Cursor}
 use Rattle.script.specs.Words.{kindOf, senderIn, roundsIn}
-use Rattle.script.specs.Check.{refusal, scanned}
+use Rattle.script.specs.Check.{wordRefusal, scanned}
 use Rattle.script.specs.Events.{none, withEvent}
 use Rattle.script.specs.Cursor.{isPlay, lieAfter, eventsAfter, gather}
 use Rattle.script.specs.Told.{ToldBy}
-use Rattle.script.specs.Effect.{firstOf, toldAt, roundsBefore, Counts}
+use Rattle.script.specs.Effect.{afterCast, toldAt, roundsBefore, Counts}
 use Rattle.script.proofs.EventLaws.{told-none, told-with}
 use Rattle.script.proofs.AheadLaws.{Ahead, ahead-next, ahead-ends, play-taken, event-taken, scanned-told, scanned-play, scanned-event, told-of, rounds-of, refusal-play, refusal-event}
 use Rattle.script.proofs.EffectLaws.{Linked, linked-next, play-kind, rounds-play, rounds-mono, Tells, tells-none, tells-past, tells-event}
@@ -80,7 +80,7 @@ module _ (s : List ℕ) (cast total : ℕ) where
   pub record Running (k : ℕ) (c : Cursor) (sc : Scan) : Type 0 where
     pub playing : c .over ≡ false
     pub time : k + c .left ≡ sc .rounds
-    pub past : (w : ℕ) → firstOf s ≤ w → w < c .at → roundsBefore s w < k
+    pub past : (w : ℕ) → afterCast s ≤ w → w < c .at → roundsBefore s w < k
     pub tells : Tells s k count (c .events)
 
   -- all rounds were played before round k
@@ -107,7 +107,7 @@ module _ (s : List ℕ) (cast total : ℕ) where
     pub word : ℕ
     pub is : lie ≡ wordAt s word
     pub next : at ≡ word + 1
-    pub after : firstOf s ≤ word
+    pub after : afterCast s ≤ word
     pub plain : toldAt s word ≡ false
     pub kind : kindOf lie ≡ 8
     pub inside : bit cast (senderIn lie - 1) ≡ true
@@ -148,7 +148,7 @@ module _ (s : List ℕ) (cast total : ℕ) where
       abbrev w : ℕ
       w = wordAt s at
 
-      zero-answer : refusal n cast sc w ≡ 0
+      zero-answer : wordRefusal n cast sc w ≡ 0
       zero-answer = ahead-next s n cast count total at sc h a .0
 
       next : Ahead s n cast count total (at + 1) (scanned sc w)
@@ -297,7 +297,7 @@ module _ (s : List ℕ) (cast total : ℕ) where
           time = ⊎-elim (λ t. inl (goes-on t)) (λ t. absurd (f (t .left))) (p .time);
         }
       where
-        silent : Running k c (p .scan) → (w : ℕ) → firstOf s ≤ w → k + 1 ≡ roundsBefore s w + 1 → ⊥
+        silent : Running k c (p .scan) → (w : ℕ) → afterCast s ≤ w → k + 1 ≡ roundsBefore s w + 1 → ⊥
         silent t w x e =
             let q = t .time in
             let l = p .linked .rounds in

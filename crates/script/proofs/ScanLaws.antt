@@ -6,24 +6,25 @@ use Prim.Native.Nat.{ℕ, suc, _+_, _-_, _/_, _≤_, _<_}
 use native.Mathlib.Omega.{arith}
 use lib.Dec.{eqb, leb, ltb}
 use lib.ListN.{length}
-use borrow.Author.Tests.{leb-true, eq-eqb, ne-eqb, lt-ltb, not-true, not-false}
+use borrow.Author.Tests.{leb-true, le-leb, lt-leb, lt-ltb, le-ltb, not-true, not-false}
 use Rattle.words.specs.Word.{wordAt}
 use Rattle.words.specs.Bits.{bit}
 use Rattle.words.proofs.Truth.{and-l, and-r, cond-true, cond-false}
-use Rattle.setup.specs.declared.Verdict.{Verdict}
-use Rattle.setup.specs.Verdict.{verdict, accepted, andThen, check, between}
+use Rattle.words.specs.declared.Verdict.{Verdict}
+use Rattle.words.specs.Verdict.{verdict, accepted, between, single, andThen, outcome}
+use Rattle.setup.specs.Setup.{sizeIn}
 use Rattle.setup.specs.Check.{checkFront}
-use Rattle.setup.proofs.VerdictLaws.{check-ok, between-is}
-use Rattle.setup.proofs.NextLaws.{then-next, then-stays, check-refused, front-then}
+use Rattle.words.proofs.VerdictLaws.{between-is, and-then-next, and-then-stays, and-then-stops, and-then-goes, single-ok, single-refused}
+use Rattle.words.proofs.SearchLaws.{begins-refused, begins-well, ends-well}
 use Rattle.script.specs.declared.Scan.{Scan}
-use Rattle.script.specs.Words.{kindOf, castIn, castOk, senderIn, receiversIn, roundsIn, eventOk, playOk}
-use Rattle.script.specs.Check.{playRefusal, eventRefusal, refusal, scanned, finished, scan, begun, checkPlay}
+use Rattle.script.specs.Words.{castAt, eventsAt, mostBytes, mostOfPlay, mostRounds, kindOf, castIn, castOk, senderIn, receiversIn, roundsIn, eventOk, playOk}
+use Rattle.script.specs.Check.{playRefusal, eventRefusal, wordRefusal, scanned, finished, scan, begun, checkCast, checkPlay, checkScript}
 
 -- ---- what a test that passed says
 
-pub play-rounds : (w : ℕ) → playOk w ≡ true → (1 ≤ roundsIn w) × (roundsIn w ≤ 1000)
+pub play-rounds : (w : ℕ) → playOk w ≡ true → (1 ≤ roundsIn w) × (roundsIn w ≤ mostOfPlay)
 unfolding playOk
-play-rounds w t = between-is 1 1000 (roundsIn w) (and-r (eqb (kindOf w) 9) _ t)
+play-rounds w t = between-is 1 mostOfPlay (roundsIn w) (and-r (eqb (kindOf w) 9) _ t)
 
 pub event-sender : (n w : ℕ) → eventOk n w ≡ true → (1 ≤ senderIn w) × (senderIn w ≤ n)
 unfolding eventOk
@@ -51,24 +52,24 @@ module _ {ok : Bool} (n cast w : ℕ) (e : ok ≡ eventOk n w) where
 
 -- ---- the rounds so far
 
-play-sum : (rounds w : ℕ) → playRefusal rounds w ≡ 0 → rounds + roundsIn w ≤ 100000
+play-sum : (rounds w : ℕ) → playRefusal rounds w ≡ 0 → rounds + roundsIn w ≤ mostRounds
 unfolding playRefusal
-play-sum rounds w e = go (playOk w) (leb (rounds + roundsIn w) 100000) refl e
+play-sum rounds w e = go (playOk w) (leb (rounds + roundsIn w) mostRounds) refl e
   where
-    go : (p b : Bool) → leb (rounds + roundsIn w) 100000 ≡ b → _≡_ {A = ℕ} (cond p (cond b 0 15) 12) 0 → rounds + roundsIn w ≤ 100000
-    go true true t q = leb-true _ 100000 t
+    go : (p b : Bool) → leb (rounds + roundsIn w) mostRounds ≡ b → _≡_ {A = ℕ} (cond p (cond b 0 15) 12) 0 → rounds + roundsIn w ≤ mostRounds
+    go true true t q = leb-true _ mostRounds t
     go true false t q = absurd (omega arith)
     go false b t q = absurd (omega arith)
 
 -- a word that is taken keeps the rounds within their limit
-pub taken-rounds : (n cast : ℕ) (sc : Scan) (w : ℕ) → refusal n cast sc w ≡ 0 → sc .rounds ≤ 100000 → scanned sc w .rounds ≤ 100000
-unfolding refusal scanned
+pub taken-rounds : (n cast : ℕ) (sc : Scan) (w : ℕ) → wordRefusal n cast sc w ≡ 0 → sc .rounds ≤ mostRounds → scanned sc w .rounds ≤ mostRounds
+unfolding wordRefusal scanned
 taken-rounds n cast sc w e h = go (sc .told) (eqb (kindOf w) 9) e
   where
     go : (t p : Bool) → cond t 0 (cond p (playRefusal (sc .rounds) w) (eventRefusal n cast w)) ≡ 0
         → (cond {A = Scan} t (record { told = false; pending = true; rounds = sc .rounds })
         (cond p (record { told = false; pending = false; rounds = sc .rounds + roundsIn w })
-        (record { told = eqb (kindOf w) 8; pending = true; rounds = sc .rounds }))) .rounds ≤ 100000
+        (record { told = eqb (kindOf w) 8; pending = true; rounds = sc .rounds }))) .rounds ≤ mostRounds
     go true p q = h
     go false true q = play-sum (sc .rounds) w q
     go false false q = h
@@ -76,49 +77,92 @@ taken-rounds n cast sc w e h = go (sc .told) (eqb (kindOf w) 9) e
 -- ---- a turn of the scan
 
 module _ (s : List ℕ) (n cast : ℕ) where
-  pub scan-ends : {v : Verdict} (count at : ℕ) (sc : Scan) → count ≤ at → v ≡ check (finished sc) 14 at accepted → v ≡ scan s n cast (count - at) at sc
+  pub scan-ends : {v : Verdict} (count at : ℕ) (sc : Scan) → count ≤ at → v ≡ outcome (single (finished sc) 14 at) → v ≡ scan s n cast (count - at) at sc
   unfolding scan
   scan-ends count at sc h e =
       let z : count - at ≡ 0 = omega arith in
       rw z e
 
   pub scan-step : (count at : ℕ) (sc : Scan) → at < count → scan s n cast (count - at) at sc
-      ≡ check (eqb (refusal n cast sc (wordAt s at)) 0) (refusal n cast sc (wordAt s at)) at (scan s n cast (count - (at + 1)) (at + 1) (scanned sc (wordAt s at)))
+      ≡ andThen (verdict (wordRefusal n cast sc (wordAt s at)) at) (scan s n cast (count - (at + 1)) (at + 1) (scanned sc (wordAt s at)))
   unfolding scan
   scan-step count at sc h =
       let z : count - at ≡ suc (count - (at + 1)) = omega arith in
       rw z
 
   -- `w` is the word at `at`, `number` the answer to it
-  module _ {w number : ℕ} (count at : ℕ) (sc : Scan) (h : at < count) (e : w ≡ wordAt s at) (r : number ≡ refusal n cast sc w) where
-    same : number ≡ refusal n cast sc (wordAt s at)
-    same = r ∙ ap (refusal n cast sc) e
+  module _ {w number : ℕ} (count at : ℕ) (sc : Scan) (h : at < count) (e : w ≡ wordAt s at) (r : number ≡ wordRefusal n cast sc w) where
+    same : number ≡ wordRefusal n cast sc (wordAt s at)
+    same = r ∙ ap (wordRefusal n cast sc) e
 
     pub scan-refused : {v : Verdict} → (number ≡ 0 → ⊥) → v ≡ verdict number at → v ≡ scan s n cast (count - at) at sc
     scan-refused f q =
-        q ∙ ap (λ (x : ℕ). verdict x at) same
-        ∙ sym (scan-step count at sc h ∙ check-refused _ _ at _ (ne-eqb _ 0 (λ z. f (same ∙ z))))
+        q ∙ ap (λ (x : ℕ). verdict x at) same ∙ sym (scan-step count at sc h ∙ and-then-stays (verdict _ at) _ (λ z. f (same ∙ z)))
 
     pub scan-next : {next : Scan} → number ≡ 0 → next ≡ scanned sc w → scan s n cast (count - (at + 1)) (at + 1) next ≡ scan s n cast (count - at) at sc
     scan-next z q =
         ap (scan s n cast (count - (at + 1)) (at + 1)) (q ∙ ap (scanned sc) e)
-        ∙ sym (scan-step count at sc h ∙ check-ok _ _ at _ (eq-eqb _ 0 (sym same ∙ z)))
+        ∙ sym (scan-step count at sc h ∙ and-then-next (verdict _ at) _ (sym same ∙ z))
 
-    pub rounds-next : {next : Scan} → number ≡ 0 → next ≡ scanned sc w → sc .rounds ≤ 100000 → next .rounds ≤ 100000
+    pub rounds-next : {next : Scan} → number ≡ 0 → next ≡ scanned sc w → sc .rounds ≤ mostRounds → next .rounds ≤ mostRounds
     rounds-next z q l = rw q (taken-rounds n cast sc w (sym r ∙ z) l)
 
--- ---- behind a right cast w the scan answers
+-- ---- the cast, which the code has found at its place
 
-pub cast-right : {v : Verdict} {w : ℕ} (s : List ℕ) (n : ℕ) → w ≡ wordAt s (n + 3) → n + 3 < length s / 4 → castOk n w ≡ true
-    → v ≡ scan s n (castIn w) (length s / 4 - (n + 4)) (n + 4) begun → v ≡ checkPlay s n
-unfolding checkPlay
-cast-right s n e h t q = (rw e at q) ∙ sym (check-ok _ 14 _ _ (lt-ltb _ _ h) ∙ check-ok _ 12 _ _ (rw e at t))
+module _ {at : ℕ} (s : List ℕ) (n : ℕ) (a : at ≡ castAt n) where
+  abbrev there : Bool
+  there = ltb (castAt n) (length s / 4)
 
--- ---- v is the answer to the setup at the front
+  pub no-cast : {v : Verdict} → length s / 4 ≤ at → v ≡ verdict 14 (length s / 4) → v ≡ checkPlay s n
+  unfolding checkPlay checkCast
+  no-cast {v} h q =
+      let t : not there ≡ true = ap not (le-ltb (castAt n) (length s / 4) (rw a at h)) in
+      q ∙ and-then-stops _ (begins-refused {b = there} 14 (length s / 4) _ refl (omega arith) t refl refl) (λ z. fourteen z)
+    where
+      fourteen : _≡_ {A = ℕ} 14 0 → ⊥
+      fourteen z = omega arith
 
-module _ {v : Verdict} (s : List ℕ) (next : Verdict) (e : v ≡ checkFront s accepted) where
-  pub front-stays : (v .number ≡ 0 → ⊥) → v ≡ checkFront s next
-  front-stays f = sym (then-stays v next f) ∙ ap (λ (x : Verdict). andThen x next) e ∙ sym (front-then s next)
+  module _ {w : ℕ} {b : Bool} (h : at < length s / 4) (e : w ≡ wordAt s at) (o : b ≡ castOk n w) where
+    found : not there ≡ false
+    found = ap not (lt-ltb (castAt n) (length s / 4) (rw a at h))
 
-  pub front-goes : v .number ≡ 0 → next ≡ checkFront s next
-  front-goes z = sym (then-next v next z) ∙ ap (λ (x : Verdict). andThen x next) e ∙ sym (front-then s next)
+    asked : b ≡ castOk n (wordAt s (castAt n))
+    asked = o ∙ ap (castOk n) (e ∙ ap (wordAt s) a)
+
+    pub wrong-cast : {v : Verdict} → not b ≡ true → v ≡ verdict 12 at → v ≡ checkPlay s n
+    unfolding checkPlay checkCast
+    wrong-cast {v} f q =
+        q
+        ∙ and-then-stops _
+        (begins-refused 12 (castAt n) _ asked (omega arith) f a refl ∙ begins-well {b = there} 14 (length s / 4) _ refl found) (λ z. twelve z)
+      where
+        twelve : _≡_ {A = ℕ} 12 0 → ⊥
+        twelve z = omega arith
+
+    pub right-cast : {v : Verdict} {from : ℕ} → not b ≡ false → from ≡ eventsAt n → v ≡ scan s n (castIn w) (length s / 4 - from) from begun → v ≡ checkPlay s n
+    unfolding checkPlay checkCast
+    right-cast {v} f g q =
+        and-then-goes _ (ends-well refl ∙ begins-well 12 (castAt n) _ asked f ∙ begins-well {b = there} 14 (length s / 4) _ refl found) refl
+        (rw (e, a, g) at q)
+
+-- ---- the length, then the setup at the front, then the rest
+
+pub script-long : {v : Verdict} (s : List ℕ) → mostBytes < length s → v ≡ verdict 16 0 → v ≡ checkScript s
+unfolding checkScript
+script-long s h a =
+    a ∙ and-then-stops _ (sym (single-refused (leb (length s) mostBytes) 16 0 (lt-leb (length s) mostBytes h))) (λ y. sixteen y)
+  where
+    sixteen : _≡_ {A = ℕ} 16 0 → ⊥
+    sixteen y = omega arith
+
+module _ {v : Verdict} (s : List ℕ) (h : length s ≤ mostBytes) (e : v ≡ checkFront s) where
+  short : accepted ≡ outcome (single (leb (length s) mostBytes) 16 0)
+  short = sym (single-ok (leb (length s) mostBytes) 16 0 (le-leb (length s) mostBytes h))
+
+  pub front-stays : (v .number ≡ 0 → ⊥) → v ≡ checkScript s
+  unfolding checkScript
+  front-stays f = and-then-goes _ short refl (and-then-stops _ e f)
+
+  pub front-goes : {r : Verdict} → v .number ≡ 0 → r ≡ checkPlay s (sizeIn (wordAt s 0)) → r ≡ checkScript s
+  unfolding checkScript
+  front-goes z q = and-then-goes _ short refl (and-then-goes _ e z q)

@@ -2,31 +2,31 @@
 -- (document 01, "Answers and their order")
 use Prim.Native.Nat.{ℕ, zero, suc, _+_, _-_, _/_}
 use mathlib.Core.Bool.{Bool, true, false, cond, not, _&&_, _||_}
-use mathlib.Core.List.{List}
+use mathlib.Core.List.{List, [], _∷_}
 use lib.ListN.{length}
 use lib.Dec.{eqb, leb, ltb}
 use Rattle.words.specs.Word.{wordAt}
 use Rattle.words.specs.Bits.{bit}
-use Rattle.setup.specs.Verdict.{accepted, check, between}
+use Rattle.words.specs.Verdict.{verdict, between, single, andThen, outcome, firstRefusal}
 use Rattle.setup.specs.Setup.{sizeIn}
 use Rattle.setup.specs.Check.{checkFront}
-use Rattle.setup.specs.declared.Verdict.{Verdict}
-use Rattle.script.specs.Words.{kindOf, castIn, castOk, senderIn, eventOk, roundsIn, playOk}
+use Rattle.words.specs.declared.Verdict.{Verdict}
+use Rattle.script.specs.Words.{castAt, eventsAt, mostBytes, mostRounds, kindOf, castIn, castOk, senderIn, eventOk, roundsIn, playOk}
 use Rattle.script.specs.declared.Scan.{Scan}
 
 -- ---- one word after the cast
 
 -- the number by which a play w is refused after so many rounds, or 0. 12: a wrong count; 15: over 100,000 rounds
 unfoldable pub playRefusal : ℕ → ℕ → ℕ
-playRefusal rounds w = cond (playOk w) (cond (leb (rounds + roundsIn w) 100000) 0 15) 12
+playRefusal rounds w = cond (playOk w) (cond (leb (rounds + roundsIn w) mostRounds) 0 15) 12
 
 -- the number by which a loss or a lie w is refused, or 0. 12: a wrong kind, spare bits, sender or mask; 13: a lie by one outside the cast
 unfoldable pub eventRefusal : ℕ → ℕ → ℕ → ℕ
 eventRefusal n cast w = cond (between 7 8 (kindOf w) && eventOk n w) (cond (eqb (kindOf w) 7 || bit cast (senderIn w - 1)) 0 13) 12
 
 -- the number by which the word w is refused, or 0; a told word is taken as it is
-unfoldable pub refusal : ℕ → ℕ → Scan → ℕ → ℕ
-refusal n cast sc w =
+unfoldable pub wordRefusal : ℕ → ℕ → Scan → ℕ → ℕ
+wordRefusal n cast sc w =
     cond (sc .told) 0
     (cond (eqb (kindOf w) 9) (playRefusal (sc .rounds) w) (eventRefusal n cast w))
 
@@ -45,24 +45,26 @@ finished sc = not (sc .told) && not (sc .pending) && ltb 0 (sc .rounds)
 
 -- 12, 13 and 15 word by word, each at its word; then 14 at the word count
 unfoldable pub scan : List ℕ → ℕ → ℕ → ℕ → ℕ → Scan → Verdict
-scan s n cast zero at sc = check (finished sc) 14 at accepted
+scan s n cast zero at sc = outcome (single (finished sc) 14 at)
 scan s n cast (suc left) at sc =
     let w = wordAt s at in
-    let number = refusal n cast sc w in
-    check (eqb number 0) number at (scan s n cast left (at + 1) (scanned sc w))
+    andThen (verdict (wordRefusal n cast sc w) at) (scan s n cast left (at + 1) (scanned sc w))
 
 -- what is known before the first of these words
 abbrev pub begun : Scan
 begun = record { told = false; pending = false; rounds = 0 }
 
--- the cast stands first, else 12, and without any word 14 at the word count; then the words after it
-unfoldable pub checkPlay : List ℕ → ℕ → Verdict
-checkPlay s n =
+-- the cast stands first, else 12, and without any word 14 at the word count
+unfoldable pub checkCast : List ℕ → ℕ → Verdict
+checkCast s n =
     let count = length s / 4 in
-    let cast = wordAt s (n + 3) in
-    check (ltb (n + 3) count) 14 count
-    (check (castOk n cast) 12 (n + 3) (scan s n (castIn cast) (count - (n + 4)) (n + 4) begun))
+    firstRefusal (single (ltb (castAt n) count) 14 count ∷ single (castOk n (wordAt s (castAt n))) 12 (castAt n) ∷ [])
 
--- the verdict on a run script
+-- the cast, then the words after it
+unfoldable pub checkPlay : List ℕ → ℕ → Verdict
+checkPlay s n = andThen (checkCast s n) (scan s n (castIn (wordAt s (castAt n))) (length s / 4 - eventsAt n) (eventsAt n) begun)
+
+-- the verdict on a run script: its length, the setup at its front, the rest
 unfoldable pub checkScript : List ℕ → Verdict
-checkScript s = check (leb (length s) 65536) 16 0 (checkFront s (checkPlay s (sizeIn (wordAt s 0))))
+checkScript s =
+    andThen (outcome (single (leb (length s) mostBytes) 16 0)) (andThen (checkFront s) (checkPlay s (sizeIn (wordAt s 0))))

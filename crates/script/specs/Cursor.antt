@@ -6,7 +6,7 @@ use lib.Dec.{eqb}
 use lib.ListN.{length}
 use Rattle.words.specs.Word.{wordAt}
 use Rattle.setup.specs.Setup.{sizeIn}
-use Rattle.script.specs.Words.{kindOf, roundsIn}
+use Rattle.script.specs.Words.{eventsAt, kindOf, roundsIn}
 use Rattle.script.specs.Events.{none, withEvent}
 use Rattle.script.specs.declared.Events.{Events}
 use Rattle.script.specs.declared.Cursor.{Cursor}
@@ -37,7 +37,7 @@ gather s (suc words) at lie e =
 
 -- before round 1: the words after the cast come next
 unfoldable pub start : ℕ → Cursor
-start n = record { at = n + 4; left = 0; over = false; events = none }
+start n = record { at = eventsAt n; left = 0; over = false; events = none }
 
 -- The next round: another one of this play, without events, or the first one of the next play.
 unfoldable pub advanced : List ℕ → Cursor → Cursor

@@ -10,7 +10,7 @@ use lib.ListN.{getD, length}
 use Rattle.words.specs.Word.{wordAt}
 use Rattle.words.specs.Bits.{bit}
 use Rattle.setup.specs.Setup.{sizeIn}
-use Rattle.script.specs.Words.{kindOf, senderIn, receiversIn, roundsIn}
+use Rattle.script.specs.Words.{eventsAt, kindOf, senderIn, receiversIn, roundsIn}
 use Rattle.script.specs.Check.{checkScript}
 use Rattle.script.specs.Events.{withEvent}
 use Rattle.script.specs.Cursor.{cursorAt}
@@ -30,17 +30,17 @@ toldIn s k i j = getD (cursorAt s k .events .told) (i * 16 + j) 0
 -- ---- the words of a script, word w counted from 0
 
 -- the first word after the cast
-abbrev pub firstOf : List ℕ → ℕ
-firstOf s = sizeIn (wordAt s 0) + 4
+abbrev pub afterCast : List ℕ → ℕ
+afterCast s = eventsAt (sizeIn (wordAt s 0))
 
 -- word w is a told word: the one before it is a lie after the cast, and no told word itself
 unfoldable pub toldAt : List ℕ → ℕ → Bool
 toldAt s zero = false
-toldAt s (suc w) = leb (firstOf s) w && (not (toldAt s w) && eqb (kindOf (wordAt s w)) 8)
+toldAt s (suc w) = leb (afterCast s) w && (not (toldAt s w) && eqb (kindOf (wordAt s w)) 8)
 
 -- word w is a play after the cast, and no told word
 unfoldable pub playAt : List ℕ → ℕ → Bool
-playAt s w = leb (firstOf s) w && (not (toldAt s w) && eqb (kindOf (wordAt s w)) 9)
+playAt s w = leb (afterCast s) w && (not (toldAt s w) && eqb (kindOf (wordAt s w)) 9)
 
 -- how many rounds are played before word w: those of all plays before it
 unfoldable pub roundsBefore : List ℕ → ℕ → ℕ
@@ -52,7 +52,7 @@ roundsBefore s (suc w) = roundsBefore s w + cond (playAt s w) (roundsIn (wordAt 
 -- Word w is an event that counts in round k for the word from sender j + 1 to receiver i + 1: a loss or a lie after the cast, no told word, with
 -- that sender and that receiver; and round k is the next one played.
 pub record Counts (s : List ℕ) (k i j w : ℕ) : Type 0 where
-  pub after : firstOf s ≤ w
+  pub after : afterCast s ≤ w
   pub plain : toldAt s w ≡ false
   pub kind : (kindOf (wordAt s w) ≡ 7) ⊎ (kindOf (wordAt s w) ≡ 8)
   pub sender : senderIn (wordAt s w) ≡ j + 1

@@ -7,6 +7,7 @@ use mathlib.Core.List.{List}
 use lib.ListN.{length}
 use Rattle.words.specs.Word.{wordAt}
 use Rattle.setup.specs.Setup.{sizeIn}
+use Rattle.script.specs.Words.{eventsAt, mostRounds}
 use Rattle.script.specs.Check.{scanned, begun, checkScript}
 use Rattle.script.specs.Cursor.{cursorAt}
 use Rattle.script.specs.declared.Scan.{Scan}
@@ -19,13 +20,13 @@ lastScan s (suc left) at sc = lastScan s left (at + 1) (scanned sc (wordAt s at)
 -- the rounds of all plays
 unfoldable pub roundsOf : List ℕ → ℕ
 roundsOf s =
-    let from = sizeIn (wordAt s 0) + 4 in
+    let from = eventsAt (sizeIn (wordAt s 0)) in
     lastScan s (length s / 4 - from) from begun .rounds
 
 -- from 1 to 100,000 rounds; the script is not over in any of them, and over after them
 pub record Played (s : List ℕ) : Type 0 where
   pub least : 1 ≤ roundsOf s
-  pub most : roundsOf s ≤ 100000
+  pub most : roundsOf s ≤ mostRounds
   pub playing : (k : ℕ) → k ≤ roundsOf s → cursorAt s k .over ≡ false
   pub over : (k : ℕ) → roundsOf s < k → cursorAt s k .over ≡ true
 

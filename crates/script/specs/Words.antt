@@ -1,17 +1,37 @@
 -- The words of a run script after its setup: one 6, then 7, 8, 9. (document 01, "What runs")
-use Prim.Native.Nat.{ℕ, _/_, _%_, _^_}
+use Prim.Native.Nat.{ℕ, _+_, _/_, _%_, _^_}
 use mathlib.Core.Bool.{Bool, _&&_}
 use lib.Dec.{eqb, ltb}
-use Rattle.words.specs.Word.{field}
-use Rattle.setup.specs.Verdict.{between}
+use Rattle.words.specs.Word.{field, kindUnit, numberUnit}
+use Rattle.words.specs.Verdict.{between}
+use Rattle.setup.specs.Layout.{setupWords}
+
+-- where the cast stands, after the setup of n modules
+abbrev pub castAt : ℕ → ℕ
+castAt n = setupWords n
+
+-- the first word after the cast
+abbrev pub eventsAt : ℕ → ℕ
+eventsAt n = castAt n + 1
+
+-- how many bytes a script has at most
+abbrev pub mostBytes : ℕ
+mostBytes = 65536
+
+-- how many rounds one play has at most, and all plays together
+abbrev pub mostOfPlay : ℕ
+mostOfPlay = 1000
+
+abbrev pub mostRounds : ℕ
+mostRounds = 100000
 
 -- the kind: the top four bits
 abbrev pub kindOf : ℕ → ℕ
-kindOf w = w / 2 ^ 28
+kindOf w = w / kindUnit
 
 -- kind 6: bits 15..0 the rule-breakers, may be 0; here with the spare bits 27..16, which the check refuses
 abbrev pub castIn : ℕ → ℕ
-castIn w = w % 2 ^ 28
+castIn w = w % kindUnit
 
 -- kind 6, no bit at N or above, else number 12
 unfoldable pub castOk : ℕ → ℕ → Bool
@@ -23,7 +43,7 @@ senderIn w = field 23 5 w
 
 -- bits 15..0 the receivers, never empty; here with the spare bits 22..16, which the check refuses
 abbrev pub receiversIn : ℕ → ℕ
-receiversIn w = w % 2 ^ 23
+receiversIn w = w % numberUnit
 
 -- a sender 1..N, receivers that are not empty and have no bit at N or above, else number 12
 unfoldable pub eventOk : ℕ → ℕ → Bool
@@ -31,8 +51,8 @@ eventOk n w = between 1 n (senderIn w) && ltb 0 (receiversIn w) && ltb (receiver
 
 -- kind 9: how many rounds are played
 abbrev pub roundsIn : ℕ → ℕ
-roundsIn w = w % 2 ^ 28
+roundsIn w = w % kindUnit
 
 -- kind 9, 1..1,000 rounds, else number 12
 unfoldable pub playOk : ℕ → Bool
-playOk w = eqb (kindOf w) 9 && between 1 1000 (roundsIn w)
+playOk w = eqb (kindOf w) 9 && between 1 mostOfPlay (roundsIn w)

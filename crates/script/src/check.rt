@@ -1,12 +1,18 @@
 // The check of a run script in lent bytes: 16, then 1 to 6, then 12, 13 and 15 word by word, 14 last.
 use crate::Scan;
-use setup::Verdict;
-use setup::check::answer;
+use crate::layout::MOST_BYTES;
+use crate::layout::MOST_OF_PLAY;
+use crate::layout::MOST_ROUNDS;
+use crate::layout::cast_at;
+use crate::layout::events_at;
 use setup::check::check_front;
 use setup::check::size_at;
+use words::Verdict;
 use words::bits::bit_at;
 use words::bits::pick;
 use words::bits::power;
+use words::check::accept;
+use words::check::refusal;
 use words::word::KIND;
 use words::word::NUMBER;
 use words::word::field;
@@ -14,9 +20,9 @@ use words::word::word_at;
 ghost use mathlib.Core.Path.{_≡_};
 ghost use Prim.Native.Nat.{_-_, _/_, _≤_};
 ghost use lib.ListN.{length};
-ghost use Rattle.setup.specs.Verdict.{check, accepted};
-ghost use Rattle.script.specs.Words.{castOk, eventOk, playOk};
-ghost use Rattle.script.specs.Check.{playRefusal, eventRefusal, refusal, scanned, finished, scan, begun, checkPlay, checkScript};
+ghost use Rattle.words.specs.Verdict.{single, outcome};
+ghost use Rattle.script.specs.Words.{mostBytes, mostRounds, castOk, eventOk, playOk};
+ghost use Rattle.script.specs.Check.{playRefusal, eventRefusal, wordRefusal, scanned, finished, scan, begun, checkPlay, checkScript};
 
 // Kind 6, no bit at n or above.
 fn cast_ok(n: usize, w: u32) -> bool
@@ -41,18 +47,18 @@ fn play_ok(w: u32) -> bool
     ensures { λ r. ⌜ r ≡ playOk w ⌝ }
 {
     let rounds = w % KIND;
-    (w / KIND == 9) & ((1 <= rounds) & (rounds <= 1000))
+    (w / KIND == 9) & ((1 <= rounds) & (rounds <= MOST_OF_PLAY))
 }
 
 // The number by which a play of the word w is refused, or 0: 12, then 15.
 fn play_refusal(rounds: u32, w: u32) -> u32
-    requires { ⌜ rounds ≤ 100000 ⌝ }
+    requires { ⌜ rounds ≤ mostRounds ⌝ }
     ensures { λ r. ⌜ r ≡ playRefusal rounds w ⌝ }
 {
     if !play_ok(w) {
         return 12;
     }
-    pick(rounds + w % KIND <= 100000, 0, 15)
+    pick(rounds + w % KIND <= MOST_ROUNDS, 0, 15)
 }
 
 // The number by which a loss or a lie w is refused, or 0: 12, then 13.
@@ -70,9 +76,9 @@ fn event_refusal(n: usize, cast: u32, w: u32) -> u32
 
 impl Scan {
     // The number by which the word w is refused, or 0.
-    fn refusal(self, n: usize, cast: u32, w: u32) -> u32
-        requires { ⌜ (n ≤ 16) × (self .rounds ≤ 100000) ⌝ }
-        ensures { λ r. ⌜ r ≡ refusal n cast self w ⌝ }
+    fn word_refusal(self, n: usize, cast: u32, w: u32) -> u32
+        requires { ⌜ (n ≤ 16) × (self .rounds ≤ mostRounds) ⌝ }
+        ensures { λ r. ⌜ r ≡ wordRefusal n cast self w ⌝ }
     {
         if self.told {
             return 0;
@@ -85,7 +91,7 @@ impl Scan {
 
     // What is known after the word w.
     fn scanned(self, w: u32) -> Scan
-        requires { ⌜ self .rounds ≤ 100000 ⌝ }
+        requires { ⌜ self .rounds ≤ mostRounds ⌝ }
         ensures { λ r. ⌜ r ≡ scanned self w ⌝ }
     {
         let rounds = self.rounds;
@@ -123,17 +129,17 @@ impl Scan {
 // Number 14, at the word count.
 fn check_end(scan: Scan, at: usize) -> Verdict
     requires { ⌜ at ≤ 16384 ⌝ }
-    ensures { λ r. ⌜ r ≡ check (finished «scan») 14 at accepted ⌝ }
+    ensures { λ r. ⌜ r ≡ outcome (single (finished «scan») 14 at) ⌝ }
 {
     if scan.finished() {
-        return answer(0, 0);
+        return accept();
     }
-    answer(14, at as u32)
+    refusal(14, at as u32)
 }
 
 // Numbers 12, 13 and 15 word by word from `from` on, then 14.
 fn check_tail(s: &[u8], n: usize, cast: u32, from: usize) -> Verdict
-    requires { ⌜ (n ≤ 16) × (length (now s) ≤ 65536) × (from ≤ length (now s) / 4) ⌝ }
+    requires { ⌜ (n ≤ 16) × (length (now s) ≤ mostBytes) × (from ≤ length (now s) / 4) ⌝ }
     ensures { λ r. ⌜ r ≡ scan (now (s .entry)) n cast (length (now (s .entry)) / 4 - from) from begun ⌝ }
 {
     let count = s.len() / 4;
@@ -148,9 +154,9 @@ fn check_tail(s: &[u8], n: usize, cast: u32, from: usize) -> Verdict
             break check_end(so_far, at);
         }
         let w = word_at(s, at);
-        let number = so_far.refusal(n, cast, w);
+        let number = so_far.word_refusal(n, cast, w);
         if number != 0 {
-            break answer(number, at as u32);
+            break refusal(number, at as u32);
         }
         let next = so_far.scanned(w);
         so_far = next;
@@ -160,26 +166,27 @@ fn check_tail(s: &[u8], n: usize, cast: u32, from: usize) -> Verdict
 
 // From the cast on.
 fn check_play(s: &[u8], n: usize) -> Verdict
-    requires { ⌜ (n ≤ 16) × (length (now s) ≤ 65536) ⌝ }
+    requires { ⌜ (n ≤ 16) × (length (now s) ≤ mostBytes) ⌝ }
     ensures { λ r. ⌜ r ≡ checkPlay (now (s .entry)) n ⌝ }
 {
     let count = s.len() / 4;
-    if count <= n + 3 {
-        return answer(14, count as u32);
+    let place = cast_at(n);
+    if count <= place {
+        return refusal(14, count as u32);
     }
-    let w = word_at(s, n + 3);
+    let w = word_at(s, place);
     if !cast_ok(n, w) {
-        return answer(12, n as u32 + 3);
+        return refusal(12, place as u32);
     }
-    check_tail(s, n, w % KIND, n + 4)
+    check_tail(s, n, w % KIND, events_at(n))
 }
 
 // Numbers 16, 1 to 6, 12 to 15 of a run script.
 pub fn check(s: &[u8]) -> Verdict
     ensures { λ r. ⌜ r ≡ checkScript (now (s .entry)) ⌝ }
 {
-    if 65536 < s.len() {
-        return answer(16, 0);
+    if MOST_BYTES < s.len() {
+        return refusal(16, 0);
     }
     let front = check_front(s);
     if front.number != 0 {

@@ -1,6 +1,7 @@
 // Run scripts: their check, and the events and rounds that they tell.
 pub mod check;
 mod event;
+mod layout;
 mod play;
 
 // How far a run script has been checked: whether the next word is a told word, whether an event waits for a play, and the rounds so far.

@@ -1,6 +1,7 @@
 // The place of a round in a run script.
 use crate::Cursor;
 use crate::Events;
+use crate::layout::events_at;
 use words::word::KIND;
 use words::word::word_at;
 ghost use mathlib.Core.Path.{_≡_};
@@ -83,7 +84,7 @@ impl Cursor {
         requires { ⌜ n ≤ 16 ⌝ }
         ensures { λ r. ⌜ r ≡ start n ⌝ }
     {
-        let at = n + 4;
+        let at = events_at(n);
         let events = Events::none();
         Cursor {
             at,

@@ -14,20 +14,22 @@ use Rattle.words.specs.Array.{array}
 use Rattle.words.proofs.BitLaws.{pack-ext}
 use Rattle.words.proofs.ArrayLaws.{array-ext}
 use Rattle.words.proofs.WordLaws.{read-take}
-use Rattle.words.proofs.RunLaws.{bytes-own}
-use Rattle.setup.specs.Setup.{sizeIn, limitIn, markIn, placeIn, criticalityIn, setupLength, setupOf, setupBytes}
+use Rattle.words.proofs.ByteLaws.{bytes-own}
+use Rattle.setup.specs.Setup.{sizeIn, limitIn, markIn, placeIn, criticalityIn, setupOf, setupBytes}
+use Rattle.setup.specs.Layout.{setupWords, setupLength}
+use Rattle.setup.specs.Limits.{mostPenaltyLimit, mostRewardLimit}
 use Rattle.setup.specs.Check.{limitOk, moduleOk, markOk, checkSetup}
-use Rattle.setup.specs.declared.Verdict.{Verdict}
+use Rattle.words.specs.declared.Verdict.{Verdict}
 use Rattle.setup.proofs.SetupLaws.{SetupFits}
-use Rattle.setup.proofs.CheckLaws.{HeadFits, WordsFit, BytesFit, setup-ok}
-use Rattle.setup.proofs.RoundTrip.{read-fits, written-read}
+use Rattle.setup.proofs.SetupCheckLaws.{HeadFits, WordsFit, BytesFit, setup-ok}
+use Rattle.setup.proofs.SetupRoundTrip.{read-fits, written-read}
 
-module _ (a b : List ℕ) (n : ℕ) (same : (i : ℕ) → i < n + 3 → wordAt a i ≡ wordAt b i) where
+module _ (a b : List ℕ) (n : ℕ) (same : (i : ℕ) → i < setupWords n → wordAt a i ≡ wordAt b i) where
   pub words-same : WordsFit a n → WordsFit b n
   words-same f =
       record {
-        p = subst (λ (w : ℕ). limitOk 2 1000000 w ≡ true) (same 1 (omega arith)) (f .p);
-        r = subst (λ (w : ℕ). limitOk 3 8000000 w ≡ true) (same 2 (omega arith)) (f .r);
+        p = subst (λ (w : ℕ). limitOk 2 mostPenaltyLimit w ≡ true) (same 1 (omega arith)) (f .p);
+        r = subst (λ (w : ℕ). limitOk 3 mostRewardLimit w ≡ true) (same 2 (omega arith)) (f .r);
         each = λ j h. subst (λ (w : ℕ). moduleOk n j w ≡ true) (same (3 + j) (omega arith)) (f .each j h);
         marks = λ j h. subst (λ (w : ℕ). markOk j w ≡ true) (same (3 + j) (omega arith)) (f .marks j h);
       }
@@ -68,7 +70,7 @@ module _ (s : List ℕ) (f : HeadFits s) (w : WordsFit s (sizeIn (wordAt s 0))) 
   abbrev front : List ℕ
   front = take (setupLength size) s
 
-  front-same : (i : ℕ) → i < size + 3 → wordAt front i ≡ wordAt s i
+  front-same : (i : ℕ) → i < setupWords size → wordAt front i ≡ wordAt s i
   front-same i h = read-take s i (setupLength size) (omega arith)
 
   front-fits : BytesFit front
@@ -98,10 +100,10 @@ module _ (s : List ℕ) (f : HeadFits s) (w : WordsFit s (sizeIn (wordAt s 0))) 
   pub setup-fits : SetupFits (setupOf s)
   setup-fits = subst SetupFits front-setup (read-fits front front-accepted)
 
-  pub setup-written : ((i : ℕ) → getD s i 0 < 256) → setupBytes (setupOf s) ≡ bytesOf (size + 3) (wordAt s)
+  pub setup-written : ((i : ℕ) → getD s i 0 < 256) → setupBytes (setupOf s) ≡ bytesOf (setupWords size) (wordAt s)
   setup-written b =
-      let l : length front ≡ (size + 3) * 4 = length-take-le (setupLength size) s room in
+      let l : length front ≡ setupLength size = length-take-le (setupLength size) s room in
       ap setupBytes (sym front-setup)
       ∙ written-read front front-accepted (take-small s (setupLength size) room b)
-      ∙ sym (bytes-own front (size + 3) (take-small s (setupLength size) room b) l)
-      ∙ bytes-ext (size + 3) _ _ front-same
+      ∙ sym (bytes-own front (setupWords size) (take-small s (setupLength size) room b) l)
+      ∙ bytes-ext (setupWords size) _ _ front-same

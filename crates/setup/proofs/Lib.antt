@@ -1,10 +1,8 @@
-pub mod VerdictLaws
-pub mod AcceptLaws
-pub mod SetupLaws
-pub mod CheckLaws
-pub mod NextLaws
-pub mod AnswerLaws
 pub mod WordFields
-pub mod RoundTrip
+pub mod SetupCheckLaws
+pub mod SetupWords
+pub mod SetupLaws
+pub mod SetupAnswerLaws
+pub mod SetupReadLaws
+pub mod SetupRoundTrip
 pub mod FrontLaws
-pub mod LoadLaws

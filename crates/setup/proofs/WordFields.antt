@@ -4,10 +4,12 @@ use mathlib.Core.Bool.{Bool, true, false}
 use Prim.Native.Nat.{ℕ, _+_, _*_, _/_, _%_, _^_, _<_, _≤_}
 use native.Mathlib.Omega.{arith}
 use Rattle.words.specs.Bits.{bit, b2n}
+use Rattle.words.specs.Verdict.{between}
+use Rattle.words.proofs.Truth.{iff-eq}
 use Rattle.words.proofs.BitLaws.{b2n-bit, b2n-le}
 use Rattle.setup.specs.Setup.{headWord, sizeIn, limitWord, limitIn, moduleWord, markIn, placeIn, criticalityIn}
 use Rattle.setup.specs.Check.{headOk, limitOk}
-use Rattle.setup.proofs.VerdictLaws.{between-is, between-of}
+use Rattle.words.proofs.VerdictLaws.{between-is, between-of}
 
 -- ---- the head
 
@@ -20,6 +22,16 @@ head-made w e =
 pub head-right : (n : ℕ) → 2 ≤ n → n ≤ 16 → headOk (headWord n) ≡ true
 unfolding headOk
 head-right n h l = between-of (headWord 2) (headWord 16) (headWord n) (omega arith) (omega arith)
+
+-- the test of N that the code makes
+pub head-asked : (n : ℕ) → between 2 16 n ≡ headOk (headWord n)
+unfolding headOk
+head-asked n =
+    iff-eq (between 2 16 n) _
+    (λ t. head-right n (between-is 2 16 n t .0) (between-is 2 16 n t .1))
+    (λ t.
+    let b = between-is (headWord 2) (headWord 16) (headWord n) t in
+    between-of 2 16 n (omega arith) (omega arith))
 
 pub size-back : (n : ℕ) → n ≤ 16 → sizeIn (headWord n) ≡ n
 size-back n h = omega arith

@@ -1,4 +1,5 @@
-pub mod Verdict
+pub mod Layout
+pub mod Limits
 pub mod Setup
 pub mod Check
 pub mod RoundTrip

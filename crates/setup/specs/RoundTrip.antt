@@ -1,9 +1,9 @@
--- Setups are written in one form and read back equal. Proved in proofs/RoundTrip.antt. (demand 2)
+-- Setups are written in one form and read back equal. Proved in proofs/SetupRoundTrip.antt. (demand 2)
 use Prim.Native.Nat.{ℕ, _<_}
 use mathlib.Core.Path.{_≡_}
 use mathlib.Core.List.{List}
 use lib.ListN.{getD, length}
-use Rattle.setup.specs.Verdict.{accepted}
+use Rattle.words.specs.Verdict.{accepted}
 use Rattle.setup.specs.Setup.{setupOf, setupBytes}
 use Rattle.setup.specs.Check.{checkSetup, setupVerdict, readSetup}
 use Rattle.setup.specs.declared.Setup.{Setup}

@@ -2,16 +2,18 @@
 -- A module is its number less one here, as in a vector: module j + 1 is bit j.
 use Prim.Native.Nat.{ℕ, _+_, _*_, _%_, _^_}
 use mathlib.Core.Bool.{Bool}
-use mathlib.Core.List.{List, _++_}
+use mathlib.Core.List.{List, [], _∷_}
 use lib.ListN.{getD, replicate}
-use Rattle.words.specs.Word.{wordAt, wordBytes, bytesOf, field}
+use Rattle.words.specs.Word.{wordAt, field, kindUnit, numberUnit}
+use Rattle.words.specs.Runs.{Run, one, runsOf}
 use Rattle.words.specs.Bits.{b2n, bit, pack}
 use Rattle.words.specs.Array.{array}
+use Rattle.setup.specs.Layout.{headAt, penaltyLimitAt, rewardLimitAt, modulesAt}
 use Rattle.setup.specs.declared.Setup.{Setup}
 
 -- kind 1: bits 4..0 N
 abbrev pub headWord : ℕ → ℕ
-headWord n = 1 * 2 ^ 28 + n
+headWord n = 1 * kindUnit + n
 
 -- the N in a head
 abbrev pub sizeIn : ℕ → ℕ
@@ -19,15 +21,15 @@ sizeIn w = w % 2 ^ 5
 
 -- kinds 2 and 3: bits 27..0 a limit, P or R
 abbrev pub limitWord : ℕ → ℕ → ℕ
-limitWord kind limit = kind * 2 ^ 28 + limit
+limitWord kind limit = kind * kindUnit + limit
 
 -- the limit in such a word
 abbrev pub limitIn : ℕ → ℕ
-limitIn w = w % 2 ^ 28
+limitIn w = w % kindUnit
 
 -- kind 4, of module j + 1: 27..23 number, 22 send mark, 21..17 read place, 16..0 criticality
 abbrev pub moduleWord : ℕ → Bool → ℕ → ℕ → ℕ
-moduleWord j mark place criticality = 4 * 2 ^ 28 + (j + 1) * 2 ^ 23 + b2n mark * 2 ^ 22 + place * 2 ^ 17 + criticality
+moduleWord j mark place criticality = 4 * kindUnit + (j + 1) * numberUnit + b2n mark * 2 ^ 22 + place * 2 ^ 17 + criticality
 
 -- the send mark in such a word
 abbrev pub markIn : ℕ → Bool
@@ -41,28 +43,31 @@ placeIn w = field 17 5 w
 abbrev pub criticalityIn : ℕ → ℕ
 criticalityIn w = w % 2 ^ 17
 
--- the length in bytes of a setup of n modules, N + 3 words
-abbrev pub setupLength : ℕ → ℕ
-setupLength n = (n + 3) * 4
-
 -- the setup that the first N + 3 words of s hold, N by the head; whether they are right is checked apart (`checkSetup`)
 unfoldable pub setupOf : List ℕ → Setup
 setupOf s =
-    let n = sizeIn (wordAt s 0) in
+    let n = sizeIn (wordAt s headAt) in
     record {
       n = n;
-      p = limitIn (wordAt s 1);
-      r = limitIn (wordAt s 2);
-      marks = pack n (λ j. markIn (wordAt s (3 + j)));
-      places = array n (λ j. placeIn (wordAt s (3 + j)));
-      criticality = array n (λ j. criticalityIn (wordAt s (3 + j)));
+      p = limitIn (wordAt s penaltyLimitAt);
+      r = limitIn (wordAt s rewardLimitAt);
+      marks = pack n (λ j. markIn (wordAt s (modulesAt + j)));
+      places = array n (λ j. placeIn (wordAt s (modulesAt + j)));
+      criticality = array n (λ j. criticalityIn (wordAt s (modulesAt + j)));
     }
 
--- the bytes that a setup is written as
+-- the words that a setup is written as: the head, the two limits, the module words
+abbrev pub setupRuns : Setup → List Run
+setupRuns s =
+    one (headWord (s .n))
+    ∷ one (limitWord 2 (s .p))
+    ∷ one (limitWord 3 (s .r))
+    ∷ record { count = s .n; word = λ j. moduleWord j (bit (s .marks) j) (getD (s .places) j 0) (getD (s .criticality) j 0) }
+    ∷ []
+
+-- their bytes
 unfoldable pub setupBytes : Setup → List ℕ
-setupBytes s =
-    wordBytes (headWord (s .n)) ++ (wordBytes (limitWord 2 (s .p)) ++ (wordBytes (limitWord 3 (s .r))
-    ++ bytesOf (s .n) (λ j. moduleWord j (bit (s .marks) j) (getD (s .places) j 0) (getD (s .criticality) j 0))))
+setupBytes s = runsOf (setupRuns s)
 
 -- What is held where no setup was accepted, which document 01 leaves free: all zeros. No accepted setup has N = 0.
 unfoldable pub blankSetup : Setup

@@ -1,98 +1,75 @@
-// The check of a setup that is already a struct, by the numbers and indexes that its words would get.
+// The check of a setup that is already a struct: whether its words have room for it, then its words.
 use crate::Setup;
-use crate::Verdict;
-use crate::check::answer;
-use crate::word::mark_fits;
-use crate::word::module_fits;
-use words::array::all_clear;
-use words::bits::bit_at;
+use crate::check::check_words;
+use crate::layout::LEAST_MODULES;
+use crate::layout::MOST_MODULES;
+use crate::layout::PENALTY_LIMIT_AT;
+use crate::layout::PLACE;
+use crate::layout::REWARD_LIMIT_AT;
+use crate::layout::setup_length;
+use crate::write::write_words;
+use words::Verdict;
+use words::array::bounded;
 use words::bits::power;
+use words::check::accept;
+use words::check::refusal;
+use words::word::KIND;
 ghost use mathlib.Core.Path.{_≡_};
-ghost use mathlib.Core.Bool.{not};
 ghost use Prim.Native.Nat.{_≤_};
-ghost use lib.ListN.{getD};
-ghost use Rattle.words.specs.Bits.{bit};
-ghost use Rattle.words.specs.Count.{lowest};
-ghost use Rattle.setup.specs.Verdict.{accepted};
-ghost use Rattle.setup.specs.Check.{moduleFits, markFits, setupTidy, checkModules, setupVerdict};
+ghost use lib.ListN.{length};
+ghost use Rattle.setup.specs.Layout.{setupLength};
+ghost use Rattle.setup.specs.Setup.{setupBytes};
+ghost use Rattle.setup.specs.Check.{setupRoomy, roomVerdict, checkWords, setupVerdict};
 
-// The first module with a field out of range, or 0.
-fn wrong_fields(n: usize, places: [u32; 16], criticality: [u32; 16]) -> usize
-    requires { ⌜ n ≤ 16 ⌝ }
-    ensures { λ r. ⌜ r ≡ lowest n (λ j. not (moduleFits n (getD places j 0) (getD criticality j 0))) ⌝ }
-{
-    let mut j: usize = 0;
-    loop {
-        if n <= j {
-            break 0;
-        }
-        if !module_fits(n, places[j], criticality[j]) {
-            break j + 1;
-        }
-        j += 1;
-    }
-}
-
-// The first module with a send mark that it may not have, or 0.
-fn wrong_marks(n: usize, marks: u32, places: [u32; 16]) -> usize
-    requires { ⌜ n ≤ 16 ⌝ }
-    ensures { λ r. ⌜ r ≡ lowest n (λ j. not (markFits j (bit marks j) (getD places j 0))) ⌝ }
-{
-    let mut j: usize = 0;
-    loop {
-        if n <= j {
-            break 0;
-        }
-        if !mark_fits(j, bit_at(marks, j), places[j]) {
-            break j + 1;
-        }
-        j += 1;
-    }
-}
-
-// Whether nothing stands in the entries from n on.
-fn tidy(setup: Setup) -> bool
+// Whether read places and criticalities have room in their words, and nothing stands in the entries from n on.
+fn roomy(setup: Setup) -> bool
     requires { ⌜ setup .n ≤ 16 ⌝ }
-    ensures { λ r. ⌜ r ≡ setupTidy setup ⌝ }
+    ensures { λ r. ⌜ r ≡ setupRoomy setup ⌝ }
 {
     let places = setup.places;
     let criticality = setup.criticality;
-    (setup.marks < power(setup.n)) & all_clear(setup.n, places) & all_clear(setup.n, criticality)
+    (setup.marks < power(setup.n))
+        & bounded(setup.n, 31, places)
+        & bounded(setup.n, PLACE - 1, criticality)
 }
 
-// Numbers 5 and 6.
-fn module_verdict(setup: Setup) -> Verdict
-    requires { ⌜ setup .n ≤ 16 ⌝ }
-    ensures { λ r. ⌜ r ≡ checkModules setup accepted ⌝ }
+// Number 2, 4 or 5 where its words have no room for a setup.
+fn room_verdict(setup: Setup) -> Verdict
+    ensures { λ r. ⌜ r ≡ roomVerdict setup ⌝ }
 {
-    let places = setup.places;
-    let criticality = setup.criticality;
-    let first = wrong_fields(setup.n, places, criticality);
-    if first != 0 {
-        return answer(5, 2 + first as u32);
+    if !((LEAST_MODULES <= setup.n) & (setup.n <= MOST_MODULES)) {
+        return refusal(2, 0);
     }
-    if !tidy(setup) {
-        return answer(5, 0);
+    if !(setup.p < KIND) {
+        return refusal(4, PENALTY_LIMIT_AT as u32);
     }
-    let mark = wrong_marks(setup.n, setup.marks, places);
-    if mark != 0 {
-        return answer(6, 2 + mark as u32);
+    if !(setup.r < KIND) {
+        return refusal(4, REWARD_LIMIT_AT as u32);
     }
-    answer(0, 0)
+    if !roomy(setup) {
+        return refusal(5, 0);
+    }
+    accept()
+}
+
+// Numbers 4 to 6 of its words, which are written to `out`.
+fn words_verdict(setup: Setup, out: &mut [u8]) -> Verdict
+    requires { ⌜ (roomVerdict setup .number ≡ 0) × (length (now out) ≡ setupLength (setup .n)) ⌝ }
+    ensures { λ r. ⌜ r ≡ checkWords (setupBytes setup) (setup .n) ⌝ }
+{
+    write_words(setup, out);
+    check_words(out, setup.n)
 }
 
 // Numbers 2 and 4 to 6 of any setup.
 pub fn verdict(setup: Setup) -> Verdict
     ensures { λ r. ⌜ r ≡ setupVerdict setup ⌝ }
 {
-    if !((2 <= setup.n) & (setup.n <= 16)) {
-        return answer(2, 0);
+    let v = room_verdict(setup);
+    if v.number != 0 {
+        return v;
     }
-    if !((1 <= setup.p) & (setup.p <= 1000000)) {
-        return answer(4, 1);
-    }
-    if !((1 <= setup.r) & (setup.r <= 8000000)) {
-        return answer(4, 2);
-    }
-    module_verdict(setup)
+    let mut out = [0u8; 76];
+    let k = setup_length(setup.n);
+    words_verdict(setup, &mut out[..k])
 }

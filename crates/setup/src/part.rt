@@ -1,6 +1,7 @@
 // The setup of a run script as a part of the caller's bytes.
 use crate::check::check_front;
 use crate::check::size_at;
+use crate::layout::setup_length;
 ghost use mathlib.Core.Path.{_≡_};
 ghost use Rattle.setup.specs.Check.{setupPart};
 
@@ -12,6 +13,6 @@ pub fn part(s: &[u8]) -> &[u8]
     if v.number != 0 {
         return &s[..0];
     }
-    let k = (size_at(s) + 3) * 4;
+    let k = setup_length(size_at(s));
     &s[..k]
 }

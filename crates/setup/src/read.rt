@@ -1,8 +1,18 @@
 // Reading a setup from lent bytes.
 use crate::Setup;
+use crate::SetupPart;
 use crate::SetupRead;
 use crate::check::check;
 use crate::check::size_at;
+use crate::layout::MODULES_AT;
+use crate::layout::MOST_PENALTY_LIMIT;
+use crate::layout::MOST_REWARD_LIMIT;
+use crate::layout::PENALTY_LIMIT_AT;
+use crate::layout::PLACE;
+use crate::layout::REWARD_LIMIT_AT;
+use crate::word::limit_ok;
+use crate::word::mark_ok;
+use crate::word::module_ok;
 use words::bits::bit_at;
 use words::bits::with_bit;
 use words::word::KIND;
@@ -12,8 +22,10 @@ ghost use mathlib.Core.Path.{_≡_};
 ghost use Prim.Native.Nat.{_≤_};
 ghost use lib.ListN.{length};
 ghost use Rattle.words.specs.Word.{wordAt};
-ghost use Rattle.setup.specs.Setup.{sizeIn, setupLength, setupOf, blankSetup};
-ghost use Rattle.setup.specs.Check.{readSetup};
+ghost use Rattle.words.specs.Verdict.{allRight};
+ghost use Rattle.setup.specs.Layout.{setupLength};
+ghost use Rattle.setup.specs.Setup.{sizeIn, setupOf, blankSetup};
+ghost use Rattle.setup.specs.Check.{wordTests, readSetup};
 
 // What is answered where no setup was accepted: all zeros.
 pub fn blank() -> Setup
@@ -31,29 +43,35 @@ pub fn blank() -> Setup
     }
 }
 
-// The setup that the head, the limits and n module words hold.
-fn setup_in(s: &[u8], n: usize) -> Setup
+// The setup that the words of n modules hold, and whether those after the head are right, in one pass.
+pub fn load_setup(s: &[u8], n: usize) -> SetupPart
     requires { ⌜ (n ≤ 16) × (setupLength n ≤ length (now s)) × (n ≡ sizeIn (wordAt (now s) 0)) ⌝ }
-    ensures { λ r. ⌜ r ≡ setupOf (now (s .entry)) ⌝ }
+    ensures { λ r. ⌜ (r .good ≡ allRight (wordTests (now (s .entry)) n)) × (r .setup ≡ setupOf (now (s .entry))) ⌝ }
 {
-    let p = word_at(s, 1) % KIND;
-    let r = word_at(s, 2) % KIND;
+    let p = word_at(s, PENALTY_LIMIT_AT);
+    let r = word_at(s, REWARD_LIMIT_AT);
+    let limits = limit_ok(2, MOST_PENALTY_LIMIT, p) & limit_ok(3, MOST_REWARD_LIMIT, r);
+    let mut good = true;
     let mut marks: u32 = 0;
     let mut places = [0u32; 16];
     let mut criticality = [0u32; 16];
     for j in 0..n {
-        let w = word_at(s, 3 + j);
+        let w = word_at(s, MODULES_AT + j);
+        good = good & (module_ok(n, j, w) & mark_ok(j, w));
         marks = with_bit(marks, j, bit_at(w, 22));
         places[j] = field(w, 17, 5);
-        criticality[j] = w % 131072;
+        criticality[j] = w % PLACE;
     }
-    Setup {
-        n,
-        p,
-        r,
-        marks,
-        places,
-        criticality,
+    SetupPart {
+        good: limits & good,
+        setup: Setup {
+            n,
+            p: p % KIND,
+            r: r % KIND,
+            marks,
+            places,
+            criticality,
+        },
     }
 }
 
@@ -70,7 +88,8 @@ pub fn read(s: &[u8]) -> SetupRead
             setup,
         };
     }
-    let setup = setup_in(s, size_at(s));
+    let part = load_setup(s, size_at(s));
+    let setup = part.setup;
     SetupRead {
         number: v.number,
         index: v.index,

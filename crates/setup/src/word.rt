@@ -1,4 +1,8 @@
 // Tests of single words of a setup, and of the fields that they hold.
+use crate::layout::LEAST_MODULES;
+use crate::layout::MOST_CRITICALITY;
+use crate::layout::MOST_MODULES;
+use crate::layout::PLACE;
 use words::bits::bit_at;
 use words::word::KIND;
 use words::word::NUMBER;
@@ -11,7 +15,7 @@ ghost use Rattle.setup.specs.Check.{moduleFits, markFits, headOk, limitO
 pub fn module_fits(n: usize, place: u32, criticality: u32) -> bool
     ensures { λ r. ⌜ r ≡ moduleFits n place criticality ⌝ }
 {
-    (place as usize <= n) & ((1 <= criticality) & (criticality <= 100000))
+    (place as usize <= n) & ((1 <= criticality) & (criticality <= MOST_CRITICALITY))
 }
 
 // No send mark, or one on a module other than 1 whose read place is below its number j + 1. (Compared in 32 bits, as four modules at a time are.)
@@ -26,7 +30,7 @@ pub fn mark_fits(j: usize, mark: bool, place: u32) -> bool
 pub fn head_ok(w: u32) -> bool
     ensures { λ r. ⌜ r ≡ headOk w ⌝ }
 {
-    (KIND + 2 <= w) & (w <= KIND + 16)
+    (KIND + LEAST_MODULES as u32 <= w) & (w <= KIND + MOST_MODULES as u32)
 }
 
 // The kind, a limit from 1 to the most.
@@ -43,7 +47,7 @@ pub fn module_ok(n: usize, j: usize, w: u32) -> bool
     requires { ⌜ j < 16 ⌝ }
     ensures { λ r. ⌜ r ≡ moduleOk n j w ⌝ }
 {
-    (w / NUMBER == 128 + (j as u32 + 1)) & module_fits(n, field(w, 17, 5), w % 131072)
+    (w / NUMBER == 128 + (j as u32 + 1)) & module_fits(n, field(w, 17, 5), w % PLACE)
 }
 
 // The send mark of module j + 1.

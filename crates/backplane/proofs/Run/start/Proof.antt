@@ -1,7 +1,7 @@
 -- The check answers first; what it accepts is begun.
 use mathlib.Core.Path.{sym, ap, _∙_}
 use borrow.Author.Needs.{needs}
-use Rattle.setup.specs.declared.Verdict.{Verdict}
+use Rattle.words.specs.declared.Verdict.{Verdict}
 use Rattle.backplane.specs.Run.{begun, idle}
 use Rattle.backplane.proofs.RunPartLaws.{start-refused, start-begun}
 use Rattle.backplane.proofs.Run.start.Statement.{statement}

@@ -12,7 +12,7 @@ use Rattle.presence.specs.declared.State.{State}
 use Rattle.presence.specs.Valid.{Valid}
 use Rattle.presence.specs.Step.{stepOf}
 use Rattle.presence.specs.declared.Stepped.{Stepped}
-use Rattle.bus.specs.Bus.{readWords, readBits}
+use Rattle.bus.specs.Bus.{wordsRead, bitsRead}
 use Rattle.backplane.specs.Play.{stepAt, steppedStates, answeredHealth}
 use Rattle.backplane.proofs.PlayLaws.{not-yet-stepped}
 use Rattle.backplane.proofs.play.step_all.Statement.{statement}
@@ -21,8 +21,8 @@ use Rattle.backplane.proofs.play.step_all.Tie as tie
 abbrev Inv-loop : tie.InvT-loop
 Inv-loop n places this-bits this-words before-bits before-words states₀ health₀ i₀ states health i =
     (i ≤ n) × (n ≤ 16)
-    × (states ≡ updated i (λ k. (stepOf (getD states₀ k blank) (readWords n (getD places k 0) k this-words before-words) (readBits n (getD places k 0) (getD this-bits k 0) (getD before-bits k 0))) .state) states₀)
-    × (health ≡ array i (λ k. (stepOf (getD states₀ k blank) (readWords n (getD places k 0) k this-words before-words) (readBits n (getD places k 0) (getD this-bits k 0) (getD before-bits k 0))) .health))
+    × (states ≡ updated i (λ k. (stepOf (getD states₀ k blank) (wordsRead n (getD places k 0) k this-words before-words) (bitsRead n (getD places k 0) (getD this-bits k 0) (getD before-bits k 0))) .state) states₀)
+    × (health ≡ array i (λ k. (stepOf (getD states₀ k blank) (wordsRead n (getD places k 0) k this-words before-words) (bitsRead n (getD places k 0) (getD this-bits k 0) (getD before-bits k 0))) .health))
 
 abbrev μ-loop : tie.MeasureT-loop
 μ-loop n places this-bits this-words before-bits before-words states₀ health₀ i₀ states health i = n - i
@@ -100,7 +100,7 @@ loop-again c =
     let g : length (a .held) ≡ 16 = s .good .1 .0 .1 .0 .1 in
     let h : l .i < length (a .held) = omega (arith, g) in
     let e = not-yet-stepped (l .i) _ (a .held) _ _ (l .inv .2) h in
-    let w = readWords (a .setup .n) (getD (a .setup .places) (l .i) 0) (l .i) (a .this .words) (a .before .words) in
+    let w = wordsRead (a .setup .n) (getD (a .setup .places) (l .i) 0) (l .i) (a .this .words) (a .before .words) in
     let q = c .before .step-one .ensures ∙ ap₂ (λ (st : State) (b : ℕ). stepOf st w b) e (c .before .before .before .before .before .read-bits .ensures) in
     (omega arith, omega arith, updated-step _ _ _ (l .inv .2) (ap (λ (t : Stepped). t .state) q), array-step _ _ (l .inv .3) (ap (λ (t : Stepped). t .health) q))
 

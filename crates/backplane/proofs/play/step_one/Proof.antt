@@ -7,7 +7,7 @@ use lib.ListN.{replicate, drop}
 use lib.Seq.{length-take-le}
 use borrow.Author.Needs.{needs}
 use Rattle.presence.specs.Step.{stepOf}
-use Rattle.presence.proofs.CallLaws.{step-of}
+use Rattle.presence.proofs.StateRoundLaws.{step-of}
 use Rattle.backplane.proofs.PlayLaws.{front-fits, front-taken}
 use Rattle.backplane.proofs.play.step_one.Statement.{statement}
 use Rattle.backplane.proofs.play.step_one.Tie as tie

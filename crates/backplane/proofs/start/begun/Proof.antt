@@ -51,7 +51,7 @@ returns c =
     let s = ap (λ (x : SetupRead). x .setup) (c .before .before .before .read .ensures ∙ ap readSetup (c .before .before .before .before .part .ensures)) in
     made (c .before .start .ensures ∙ ap start n)
     (c .«open» .ensures
-    ∙ ap₂ opened s (ap castIn (c .before .before .before .before .before .word-at .ensures ∙ ap (λ (m : ℕ). wordAt (c .before .before .before .before .before .before .before .before .args .s .now) (m + 3)) n)))
+    ∙ ap₂ opened s (ap castIn (c .before .before .before .before .before .word-at .ensures ∙ ap (λ (m : ℕ). wordAt (c .before .before .before .before .before .before .before .before .args .s .now) (3 + m)) n)))
 
 pub begun-spec : {M : Type 1} → statement M
 begun-spec =

@@ -9,7 +9,7 @@ use lib.ListN.{getD, length, drop}
 use borrow.Author.Needs.{needs}
 use Rattle.words.specs.Word.{bytesOf, putWord}
 use Rattle.words.proofs.ByteLaws.{bytes-step, bytes-all}
-use Rattle.bus.specs.Bus.{readWords}
+use Rattle.bus.specs.Bus.{wordsRead}
 use Rattle.bus.proofs.arrivals.put_read.Statement.{statement}
 use Rattle.bus.proofs.arrivals.put_read.Tie as tie
 
@@ -71,7 +71,7 @@ same-length : tie.Need-same-length Inv-loop μ-loop
 same-length c = search needs
 
 returns : tie.Need-returns Inv-loop μ-loop
-unfolding readWords
+unfolding wordsRead
 returns c =
     let a = c .before .before .before .args in
     let e : c .before .loop .j ≡ a .n = omega arith in

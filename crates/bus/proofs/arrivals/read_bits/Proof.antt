@@ -7,7 +7,7 @@ use lib.Dec.{ltb}
 use borrow.Author.Needs.{needs}
 use Rattle.words.specs.Bits.{bit, pack}
 use Rattle.words.proofs.BitLaws.{pack-step, pack-lt, pack-end}
-use Rattle.bus.specs.Bus.{readBits}
+use Rattle.bus.specs.Bus.{bitsRead}
 use Rattle.bus.proofs.arrivals.read_bits.Statement.{statement}
 use Rattle.bus.proofs.arrivals.read_bits.Tie as tie
 
@@ -46,7 +46,7 @@ loop-again c =
     (omega arith, pack-step _ _ (l .inv .1) q (c .with-bit .ensures))
 
 returns : tie.Need-returns Inv-loop μ-loop
-unfolding readBits
+unfolding bitsRead
 returns c =
     let e : c .before .loop .j ≡ c .before .before .args .n = omega arith in
     pack-end _ e (c .before .loop .inv .1)

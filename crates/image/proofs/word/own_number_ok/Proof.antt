@@ -1,5 +1,5 @@
 -- The kind is compared, and the own number is taken out of the word.
-use Rattle.image.specs.Check.{ownNumberOk}
+use Rattle.image.specs.Words.{ownNumberOk}
 use borrow.Author.Needs.{needs}
 use Rattle.image.proofs.word.own_number_ok.Statement.{statement}
 use Rattle.image.proofs.word.own_number_ok.Tie as tie

@@ -1,5 +1,5 @@
 -- The kind is compared, and the syndrome with the power.
-use Rattle.image.specs.Check.{syndromeOk}
+use Rattle.image.specs.Words.{syndromeOk}
 use borrow.Author.Needs.{needs}
 use Rattle.image.proofs.word.syndrome_ok.Statement.{statement}
 use Rattle.image.proofs.word.syndrome_ok.Tie as tie

@@ -3,7 +3,7 @@ use native.Mathlib.Omega.{arith}
 use borrow.Author.Needs.{needs}
 use Rattle.words.proofs.Truth.{not-both, not-neither}
 use Rattle.setup.specs.Check.{whole}
-use Rattle.lockcalls.proofs.LockCheckLaws.{whole-length, not-whole, head-refused, length-refused, first-small, word-refused, words-right}
+use Rattle.lockcalls.proofs.LockCheckLaws.{whole-length, not-whole, head-refused, length-refused, index-small, word-refused, words-right}
 use Rattle.lockcalls.proofs.check.check_lock.Statement.{statement}
 use Rattle.lockcalls.proofs.check.check_lock.Tie as tie
 
@@ -35,7 +35,7 @@ wrong-axis-requires : tie.Need-wrong-axis-requires
 wrong-axis-requires c κs = search needs
 
 cast-t12 : tie.Need-cast-t12
-cast-t12 c = let h = first-small _ _ (c .before .wrong-axis .ensures) in omega (arith, h)
+cast-t12 c = let h = index-small _ _ (c .before .wrong-axis .ensures) in omega (arith, h)
 
 returns-4 : tie.Need-returns-4
 unfolding whole

@@ -1,6 +1,6 @@
 -- By the check.
 use mathlib.Core.Path.{sym, ap, _∙_}
-use Rattle.setup.specs.declared.Verdict.{Verdict}
+use Rattle.words.specs.declared.Verdict.{Verdict}
 use Rattle.lockcalls.proofs.LockCheckLaws.{image-good}
 use Rattle.lockcalls.proofs.LockCallLaws.{read-refused, read-accepted}
 use borrow.Author.Needs.{needs}

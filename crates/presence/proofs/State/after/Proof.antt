@@ -1,5 +1,5 @@
 -- Rule 8 gives the counters, and the rest is as the definition says.
-use Rattle.presence.proofs.RoundLaws.{after-made, in-range}
+use Rattle.presence.proofs.StateRoundLaws.{after-made, in-range}
 use Rattle.presence.proofs.ValidLaws.{valid-fits}
 use Rattle.presence.proofs.State.after.Statement.{statement}
 use Rattle.presence.proofs.State.after.Tie as tie

@@ -1,6 +1,6 @@
 -- The fields are those of a fresh module, one by one.
 use borrow.Author.Needs.{needs}
-use Rattle.presence.proofs.RoundLaws.{fresh-made}
+use Rattle.presence.proofs.StateRoundLaws.{fresh-made}
 use Rattle.presence.proofs.State.fresh.Statement.{statement}
 use Rattle.presence.proofs.State.fresh.Tie as tie
 

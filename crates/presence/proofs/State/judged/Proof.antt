@@ -1,7 +1,7 @@
 -- The parts are those of the rules, and N is at most 16.
 use borrow.Author.Needs.{needs}
 use Rattle.presence.proofs.ValidLaws.{valid-fits}
-use Rattle.presence.proofs.RoundLaws.{judged-made, place-small}
+use Rattle.presence.proofs.StateRoundLaws.{judged-made, place-small}
 use Rattle.presence.proofs.State.judged.Statement.{statement}
 use Rattle.presence.proofs.State.judged.Tie as tie
 

@@ -1,7 +1,7 @@
 -- The setup is tested, then the own number; what passes is a fresh module.
 use borrow.Author.Needs.{needs}
-use Rattle.setup.proofs.AnswerLaws.{struct-fits}
-use Rattle.presence.proofs.RoundLaws.{open-refused, open-other, open-done, not-between, is-between}
+use Rattle.setup.proofs.SetupAnswerLaws.{struct-fits}
+use Rattle.presence.proofs.StateRoundLaws.{open-refused, open-other, open-done, not-between, is-between}
 use Rattle.presence.proofs.State.open.Statement.{statement}
 use Rattle.presence.proofs.State.open.Tie as tie
 

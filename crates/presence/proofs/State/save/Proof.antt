@@ -1,7 +1,8 @@
 -- The answer for the struct, then the length; the bytes are written only where both accept.
-use native.Mathlib.Omega.{arith}
+use mathlib.Core.Path.{_∙_}
 use mathlib.Core.List.{[]}
-use Rattle.presence.proofs.AnswerLaws.{verdict-small, verdict-valid, save-refused, save-short, save-done}
+use Rattle.presence.proofs.StateAnswers.{verdict-small, verdict-valid, save-refused, save-short, save-done}
+use Rattle.presence.proofs.SmallLaws.{valid-setup, valid-roomy}
 use borrow.Author.Needs.{needs}
 use Rattle.presence.proofs.State.save.Statement.{statement}
 use Rattle.presence.proofs.State.save.Tie as tie
@@ -12,46 +13,32 @@ verdict-requires c κs = search needs
 returns : tie.Need-returns
 returns c = save-refused _ _ (c .before .before .verdict .ensures) (c .if1 .taken)
 
-mul-if2 : tie.Need-mul-if2
-mul-if2 c =
-    let f = verdict-small _ [] (c .before .before .before .verdict .ensures) (c .before .if1 .left) in
-    omega (arith, f .size)
+image-length-requires : tie.Need-image-length-requires
+image-length-requires c κs = verdict-small _ [] (c .before .before .verdict .ensures) (c .if1 .left) .size
 
-add-if2 : tie.Need-add-if2
-add-if2 c =
-    let f = verdict-small _ [] (c .before .before .before .verdict .ensures) (c .before .if1 .left) in
-    omega (arith, f .size)
-
-mul-if2-2 : tie.Need-mul-if2-2
-mul-if2-2 c =
-    let f = verdict-small _ [] (c .before .before .before .verdict .ensures) (c .before .if1 .left) in
-    omega (arith, f .size)
-
-answer-requires : tie.Need-answer-requires
-answer-requires c κs = search needs
+refusal-requires : tie.Need-refusal-requires
+refusal-requires c κs = search needs
 
 returns-2 : tie.Need-returns-2
 returns-2 c =
-    let g = c .before .before .before in
-    save-short _ _ (g .before .before .verdict .ensures) (c .answer .ensures) (g .if1 .left) (c .before .if2 .taken)
+    let l = c .before .before .image-length .ensures in
+    save-short _ _ (c .before .before .before .before .before .verdict .ensures) (c .refusal .ensures) (c .before .before .before .if1 .left) (rw l at (c .before .if2 .taken))
 
 save-words-requires : tie.Need-save-words-requires
 save-words-requires c κs =
-    let g = c .before .before .before in
-    (verdict-valid _ [] (g .before .before .verdict .ensures) (g .if1 .left), c .before .if2 .left)
+    let v = verdict-valid _ [] (c .before .before .before .before .before .verdict .ensures) (c .before .before .before .if1 .left) in
+    (valid-setup _ v, valid-roomy _ v, c .before .if2 .left ∙ c .before .before .image-length .ensures)
 
-answer-requires-2 : tie.Need-answer-requires-2
-answer-requires-2 c κs = search needs
+accept-requires : tie.Need-accept-requires
+accept-requires c κs = search needs
 
 same-length : tie.Need-same-length
 same-length c = search needs
 
 returns-3 : tie.Need-returns-3
 returns-3 c =
-    let h = c .before .before .before .before .before in
-    let g = h .before .before in
-    save-done _ _ (g .before .before .verdict .ensures) (c .answer2 .ensures) (c .before .before .before .save-words .ensures) (g .if1 .left)
-    (h .if2 .left)
+    save-done _ _ (c .before .before .before .before .before .before .before .before .before .verdict .ensures) (c .accept .ensures) (c .before .before .before .save-words .ensures) (c .before .before .before .before .before .before .before .if1 .left)
+    (c .before .before .before .before .before .if2 .left ∙ c .before .before .before .before .before .before .image-length .ensures)
 
 pub save-spec : {M : Type 1} → statement M
 save-spec =
@@ -59,12 +46,10 @@ save-spec =
     (tie.spec
     verdict-requires
     returns
-    mul-if2
-    add-if2
-    mul-if2-2
-    answer-requires
+    image-length-requires
+    refusal-requires
     returns-2
     save-words-requires
-    answer-requires-2
+    accept-requires
     same-length
     returns-3)

@@ -1,8 +1,8 @@
 -- The verdict on the state decides; a valid state makes the round.
 use borrow.Author.Needs.{needs}
 use mathlib.Core.Path.{ap, sym, _∙_}
-use Rattle.setup.specs.declared.Verdict.{Verdict}
-use Rattle.presence.proofs.RoundLaws.{step-goes, step-stops}
+use Rattle.words.specs.declared.Verdict.{Verdict}
+use Rattle.presence.proofs.StateRoundLaws.{step-goes, step-stops}
 use Rattle.presence.proofs.State.step.Statement.{statement}
 use Rattle.presence.proofs.State.step.Tie as tie
 

@@ -5,7 +5,7 @@ use mathlib.Core.Path.{ap₂, _∙_, subst}
 use Prim.Native.Nat.{ℕ, _≤_, _<_}
 use Rattle.presence.specs.Step.{testedStep}
 use Rattle.presence.proofs.ValidLaws.{valid-fits}
-use Rattle.presence.proofs.RoundLaws.{read-length, read-controller, read-taken}
+use Rattle.presence.proofs.StateRoundLaws.{read-length, read-controller, read-taken}
 use Rattle.presence.proofs.State.stepped.Statement.{statement}
 use Rattle.presence.proofs.State.stepped.Tie as tie
 

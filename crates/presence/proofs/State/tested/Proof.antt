@@ -4,7 +4,7 @@ use borrow.Author.Needs.{needs}
 use mathlib.Core.Path.{sym, ap, _∙_}
 use Rattle.rules.specs.Hearing.{isHeard}
 use Rattle.presence.proofs.ValidLaws.{valid-fits}
-use Rattle.presence.proofs.RoundLaws.{tested-accepted, tested-refused}
+use Rattle.presence.proofs.StateRoundLaws.{tested-accepted, tested-refused}
 use Rattle.presence.proofs.State.tested.Statement.{statement}
 use Rattle.presence.proofs.State.tested.Tie as tie
 

@@ -1,9 +1,9 @@
--- The answer for the setup, then that for the rest of the state.
-use mathlib.Core.Path.{_∙_}
-use Rattle.setup.proofs.NextLaws.{first-stays, second-answers, fields-then}
-use Rattle.setup.proofs.AnswerLaws.{struct-fits, struct-verdict}
-use Rattle.setup.specs.Check.{setupVerdict}
-use Rattle.presence.specs.Valid.{stateVerdict}
+-- The answer for the setup, then the room of the fields, then the answer for the image.
+use native.Mathlib.Omega.{arith}
+use mathlib.Core.Path.{_≡_, _∙_, sym}
+use lib.Seq.{length-take-le}
+use Rattle.setup.proofs.SetupAnswerLaws.{struct-fits, struct-verdict}
+use Rattle.presence.proofs.StateAnswers.{setup-stays, room-lacks, image-answers, room-is}
 use borrow.Author.Needs.{needs}
 use Rattle.presence.proofs.State.verdict.Statement.{statement}
 use Rattle.presence.proofs.State.verdict.Tie as tie
@@ -12,19 +12,61 @@ verdict-requires : tie.Need-verdict-requires
 verdict-requires c κs = search needs
 
 returns : tie.Need-returns
-unfolding stateVerdict setupVerdict
-returns c = first-stays _ (c .before .before .verdict .ensures) (fields-then _ _) (c .if1 .taken)
+returns c = setup-stays _ (c .before .before .verdict .ensures) (c .if1 .taken)
 
-state-verdict-requires : tie.Need-state-verdict-requires
-state-verdict-requires c κs =
-    let e = c .before .before .verdict .ensures in
-    (struct-fits _ e (c .if1 .left) .most, struct-verdict _ e (c .if1 .left))
+roomy-requires : tie.Need-roomy-requires
+roomy-requires c κs = struct-fits _ (c .before .before .verdict .ensures) (c .if1 .left) .most
+
+refusal-requires : tie.Need-refusal-requires
+refusal-requires c κs = search needs
 
 returns-2 : tie.Need-returns-2
-unfolding stateVerdict setupVerdict
 returns-2 c =
-    c .state-verdict .ensures
-    ∙ second-answers _ (c .before .before .before .verdict .ensures) (fields-then _ _) (c .before .if1 .left)
+    let g = c .before .before .before in
+    room-lacks _ (g .before .before .verdict .ensures) (g .if1 .left) (c .before .before .roomy .ensures) (c .before .if2 .taken) (c .refusal .ensures)
+
+image-length-requires : tie.Need-image-length-requires
+image-length-requires c κs =
+    let g = c .before .before in
+    struct-fits _ (g .before .before .verdict .ensures) (g .if1 .left) .most
+
+array-borrow-prefix-out : tie.Need-array-borrow-prefix-out
+array-borrow-prefix-out c =
+    let g = c .before .before .before in
+    let e = c .image-length .ensures in
+    let f = struct-fits _ (g .before .before .verdict .ensures) (g .if1 .left) in
+    omega (arith, f .most)
+
+slice-aggregate-image-verdict : tie.Need-slice-aggregate-image-verdict
+slice-aggregate-image-verdict c =
+    let g = c .before .before .before .before in
+    let e = c .before .image-length .ensures in
+    let f = struct-fits _ (g .before .before .verdict .ensures) (g .if1 .left) in
+    sym (length-take-le _ _ (omega (arith, f .most)))
+
+image-verdict-requires : tie.Need-image-verdict-requires
+image-verdict-requires c κs =
+    let g = c .before .before .before .before in
+    let e = c .before .image-length .ensures in
+    let f = struct-fits _ (g .before .before .verdict .ensures) (g .if1 .left) in
+    (struct-verdict _ (g .before .before .verdict .ensures) (g .if1 .left), room-is _ (c .before .before .before .roomy .ensures) (c .before .before .if2 .left), length-take-le _ _ (omega (arith, f .most)) ∙ e)
+
+returns-3 : tie.Need-returns-3
+returns-3 c =
+    let g = c .before .before .before .before .before .before in
+    image-answers _ (g .before .before .verdict .ensures) (g .if1 .left) (c .before .before .before .before .before .roomy .ensures) (c .before .before .before .before .if2 .left) (c .before .image-verdict .ensures)
 
 pub verdict-spec : {M : Type 1} → statement M
-verdict-spec = tie.close (tie.spec verdict-requires returns state-verdict-requires returns-2)
+verdict-spec =
+    tie.close
+    (tie.spec
+    verdict-requires
+    returns
+    roomy-requires
+    refusal-requires
+    returns-2
+    image-length-requires
+    array-borrow-prefix-out
+    slice-aggregate-image-verdict
+    image-verdict-requires
+    returns-3)

@@ -1,65 +1,51 @@
--- The setup, then the rest of the state.
+-- The setup, then the sections.
 use native.Mathlib.Omega.{arith}
-use Prim.Native.Nat.{_+_, _*_}
-use mathlib.Core.Path.{sym}
+use mathlib.Core.Path.{refl, sym, _∙_}
 use lib.Seq.{length-take-le}
-use Rattle.words.proofs.RunLaws.{two-parts}
-use Rattle.image.proofs.ImageBytes.{setup-length}
-use Rattle.presence.specs.Image.{imageOf}
-use Rattle.presence.proofs.SmallLaws.{valid-setup}
+use Rattle.setup.proofs.SetupLaws.{verdict-fits, verdict-room}
+use Rattle.presence.proofs.SaveLaws.{image-written}
 use borrow.Author.Needs.{needs}
 use Rattle.presence.proofs.save.save_words.Statement.{statement}
 use Rattle.presence.proofs.save.save_words.Tie as tie
 
-add-k : tie.Need-add-k
-add-k c = search needs
-
-mul-k : tie.Need-mul-k
-mul-k c = search needs
+setup-length-requires : tie.Need-setup-length-requires
+setup-length-requires c κs = omega (arith, verdict-fits _ (c .before .before .pre .0) .most)
 
 slice-relend-prefix-write-words : tie.Need-slice-relend-prefix-write-words
 slice-relend-prefix-write-words c = search needs
 
 slice-aggregate-write-words : tie.Need-slice-aggregate-write-words
-slice-aggregate-write-words c = sym (length-take-le _ _ (omega arith))
+slice-aggregate-write-words c =
+    let e = c .before .setup-length .ensures in
+    sym (length-take-le _ _ (omega arith))
 
 write-words-requires : tie.Need-write-words-requires
-write-words-requires c κs = (valid-setup _ (c .before .before .before .before .pre .0), length-take-le _ _ (omega arith))
+write-words-requires c κs =
+    let e = c .before .setup-length .ensures in
+    (verdict-room _ (c .before .before .before .before .pre .0), length-take-le _ _ (omega arith) ∙ e)
 
-sub-save-own : tie.Need-sub-save-own
-sub-save-own c = search needs
-
-part-save-own-start : tie.Need-part-save-own-start
-part-save-own-start c = search needs
-
-part-save-own-end : tie.Need-part-save-own-end
-part-save-own-end c = search needs
-
-save-own-requires : tie.Need-save-own-requires
-save-own-requires c κs = search needs
+save-sections-requires : tie.Need-save-sections-requires
+save-sections-requires c κs =
+    let a = c .before .before .before .before .before .before .before .before .pre in
+    let e = c .before .before .before .before .before .setup-length .ensures in
+    (verdict-fits _ (a .0) .most, a .1, omega arith)
 
 same-length : tie.Need-same-length
 same-length c = search needs
 
 returns : tie.Need-returns
-unfolding imageOf
 returns c =
-    let g = c .before .before .before .before .before .before in
-    let a = g .before .before .before .before .before .args in
-    two-parts (a .out .now) ((a .state .setup .n + 3) * 4) (g .write-words .ensures) (c .before .before .save-own .ensures) (setup-length (a .state .setup))
+    let a = c .before .before .before .before .before .before .before .before .before .before .before in
+    image-written _ (a .args .out .now) _ (c .before .before .before .before .before .before .before .before .setup-length .ensures) (c .before .before .before .before .before .before .write-words .ensures) (c .before .before .save-sections .ensures) (a .pre .2)
 
 pub save-words-spec : {M : Type 1} → statement M
 save-words-spec =
     tie.close
     (tie.spec
-    add-k
-    mul-k
+    setup-length-requires
     slice-relend-prefix-write-words
     slice-aggregate-write-words
     write-words-requires
-    sub-save-own
-    part-save-own-start
-    part-save-own-end
-    save-own-requires
+    save-sections-requires
     same-length
     returns)

@@ -7,7 +7,7 @@ use lib.ListN.{getD}
 use lib.Dec.{eqb}
 use Rattle.words.specs.Count.{any}
 use Rattle.words.proofs.CountLaws.{any-step}
-use Rattle.rules.specs.Lag.{skewed}
+use Rattle.rules.proofs.LagLaws.{skewed-by}
 use Rattle.rules.proofs.lag.is_skewed.Statement.{statement}
 use Rattle.rules.proofs.lag.is_skewed.Tie as tie
 
@@ -40,10 +40,7 @@ loop-again : tie.Need-loop-again Inv-loop μ-loop
 loop-again c = (omega arith, any-step _ _ (c .before .loop .inv .1) refl)
 
 returns : tie.Need-returns Inv-loop μ-loop
-unfolding skewed
-returns c =
-    let e : c .before .loop .j ≡ c .before .before .args .n = omega arith in
-    cc
+returns c = skewed-by _ _ _ (omega arith) (c .before .loop .inv .1)
 
 pub is-skewed-spec : {M : Type 1} → statement M
 is-skewed-spec =

@@ -1,5 +1,5 @@
 -- Eight free axes and a full view.
-use Rattle.scanlock.specs.Locks.{freshLocks}
+use Rattle.scanlock.proofs.LockEventLaws.{fresh-locks-made}
 use borrow.Author.Needs.{needs}
 use Rattle.scanlock.proofs.Locks.fresh.Statement.{statement}
 use Rattle.scanlock.proofs.Locks.fresh.Tie as tie
@@ -11,8 +11,7 @@ full-of-requires : tie.Need-full-of-requires
 full-of-requires c κs = search needs
 
 returns : tie.Need-returns
-unfolding freshLocks
-returns c = cc
+returns c = fresh-locks-made _ (c .before .free .ensures) (c .full-of .ensures)
 
 pub fresh-spec : {M : Type 1} → statement M
 fresh-spec = tie.close (tie.spec free-requires full-of-requires returns)

@@ -3,7 +3,7 @@ use Prim.Native.Nat.{_^_, _<_}
 use mathlib.Core.Path.{ap}
 use native.Mathlib.Omega.{arith}
 use lib.Dec.{ltb}
-use Rattle.scanlock.proofs.LockEventLaws.{names-all}
+use Rattle.scanlock.proofs.LockEventLaws.{every-view-fits}
 use borrow.Author.Needs.{needs}
 use Rattle.scanlock.proofs.fits.view_fits.Statement.{statement}
 use Rattle.scanlock.proofs.fits.view_fits.Tie as tie
@@ -17,7 +17,7 @@ returns c = ap (ltb _) (c .power .ensures)
 returns-2 : tie.Need-returns-2
 returns-2 c =
     let h : c .before .args .view < 2 ^ 32 = omega arith in
-    names-all _ _ h (c .if1 .left)
+    every-view-fits _ _ h (c .if1 .left)
 
 pub view-fits-spec : {M : Type 1} → statement M
 view-fits-spec = tie.close (tie.spec power-requires returns returns-2)

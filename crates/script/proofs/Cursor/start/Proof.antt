@@ -4,8 +4,8 @@ use borrow.Author.Needs.{needs}
 use Rattle.script.proofs.Cursor.start.Statement.{statement}
 use Rattle.script.proofs.Cursor.start.Tie as tie
 
-add-at : tie.Need-add-at
-add-at c = search needs
+events-at-requires : tie.Need-events-at-requires
+events-at-requires c κs = search needs
 
 none-requires : tie.Need-none-requires
 none-requires c κs = search needs
@@ -15,4 +15,4 @@ unfolding start
 returns c = cc
 
 pub start-spec : {M : Type 1} → statement M
-start-spec = tie.close (tie.spec add-at none-requires returns)
+start-spec = tie.close (tie.spec events-at-requires none-requires returns)

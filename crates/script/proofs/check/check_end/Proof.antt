@@ -1,7 +1,6 @@
 -- Accepted where all is played, else 14.
 use mathlib.Core.Path.{sym, _∙_}
-use Rattle.setup.proofs.VerdictLaws.{check-ok}
-use Rattle.setup.proofs.NextLaws.{check-refused}
+use Rattle.words.proofs.VerdictLaws.{single-ok, single-refused}
 use borrow.Author.Needs.{needs}
 use Rattle.script.proofs.check.check_end.Statement.{statement}
 use Rattle.script.proofs.check.check_end.Tie as tie
@@ -9,22 +8,22 @@ use Rattle.script.proofs.check.check_end.Tie as tie
 finished-requires : tie.Need-finished-requires
 finished-requires c κs = search needs
 
-answer-requires : tie.Need-answer-requires
-answer-requires c κs = search needs
+accept-requires : tie.Need-accept-requires
+accept-requires c κs = search needs
 
 returns : tie.Need-returns
-returns c = c .answer .ensures ∙ sym (check-ok _ 14 _ _ (sym (c .before .before .finished .ensures) ∙ c .before .if1 .taken))
+returns c = c .accept .ensures ∙ sym (single-ok _ 14 _ (sym (c .before .before .finished .ensures) ∙ c .before .if1 .taken))
 
-cast-answer : tie.Need-cast-answer
-cast-answer c = search needs
+cast-refusal : tie.Need-cast-refusal
+cast-refusal c = search needs
 
-answer-requires-2 : tie.Need-answer-requires-2
-answer-requires-2 c κs = search needs
+refusal-requires : tie.Need-refusal-requires
+refusal-requires c κs = search needs
 
 returns-2 : tie.Need-returns-2
-returns-2 c = c .answer2 .ensures ∙ sym (check-refused _ 14 _ _ (sym (c .before .before .finished .ensures) ∙ c .before .if1 .left))
+returns-2 c = c .refusal .ensures ∙ sym (single-refused _ 14 _ (sym (c .before .before .finished .ensures) ∙ c .before .if1 .left))
 
 pub check-end-spec : {M : Type 1} → statement M
 check-end-spec =
     tie.close
-    (tie.spec finished-requires answer-requires returns cast-answer answer-requires-2 returns-2)
+    (tie.spec finished-requires accept-requires returns cast-refusal refusal-requires returns-2)

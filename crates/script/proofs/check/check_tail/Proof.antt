@@ -2,6 +2,7 @@
 use Prim.Native.Nat.{_-_, _≤_}
 use mathlib.Core.Path.{_≡_, refl, _∙_}
 use native.Mathlib.Omega.{arith}
+use Rattle.script.specs.Words.{mostRounds}
 use Rattle.script.specs.Check.{begun, scan}
 use Rattle.script.proofs.ScanLaws.{scan-ends, scan-refused, scan-next, rounds-next}
 use borrow.Author.Needs.{needs}
@@ -10,7 +11,7 @@ use Rattle.script.proofs.check.check_tail.Tie as tie
 
 abbrev Inv-loop : tie.InvT-loop
 Inv-loop s n cast from count at₀ so-far₀ at so-far =
-    (at ≤ count) × (so-far .rounds ≤ 100000) × (scan s n cast (count - at) at so-far ≡ scan s n cast (count - from) from begun)
+    (at ≤ count) × (so-far .rounds ≤ mostRounds) × (scan s n cast (count - at) at so-far ≡ scan s n cast (count - from) from begun)
 
 abbrev μ-loop : tie.MeasureT-loop
 μ-loop s n cast from count at₀ so-far₀ at so-far = count - at
@@ -24,14 +25,14 @@ check-end-requires c κs = omega arith
 word-at-requires : tie.Need-word-at-requires Inv-loop μ-loop
 word-at-requires c κs = omega arith
 
+word-refusal-requires : tie.Need-word-refusal-requires Inv-loop μ-loop
+word-refusal-requires c κs = (omega arith, omega arith)
+
+cast-refusal : tie.Need-cast-refusal Inv-loop μ-loop
+cast-refusal c = omega arith
+
 refusal-requires : tie.Need-refusal-requires Inv-loop μ-loop
-refusal-requires c κs = (omega arith, omega arith)
-
-cast-answer : tie.Need-cast-answer Inv-loop μ-loop
-cast-answer c = omega arith
-
-answer-requires : tie.Need-answer-requires Inv-loop μ-loop
-answer-requires c κs = search needs
+refusal-requires c κs = search needs
 
 scanned-requires : tie.Need-scanned-requires Inv-loop μ-loop
 scanned-requires c κs = omega arith
@@ -47,8 +48,8 @@ loop-again c =
     let g = c .before .before .before in
     let l = g .before .before .loop in (
       omega arith,
-      rounds-next _ _ _ _ _ _ (g .before .if1 .left) (g .word-at .ensures) (c .before .before .refusal .ensures) (c .before .if2 .left) (c .scanned .ensures) (l .inv .1),
-      scan-next _ _ _ _ _ _ (g .before .if1 .left) (g .word-at .ensures) (c .before .before .refusal .ensures) (c .before .if2 .left) (c .scanned .ensures) ∙ l .inv .2,
+      rounds-next _ _ _ _ _ _ (g .before .if1 .left) (g .word-at .ensures) (c .before .before .word-refusal .ensures) (c .before .if2 .left) (c .scanned .ensures) (l .inv .1),
+      scan-next _ _ _ _ _ _ (g .before .if1 .left) (g .word-at .ensures) (c .before .before .word-refusal .ensures) (c .before .if2 .left) (c .scanned .ensures) ∙ l .inv .2,
     )
 
 returns : tie.Need-returns Inv-loop μ-loop
@@ -57,7 +58,7 @@ returns c = scan-ends _ _ _ _ _ _ (c .before .if1 .taken) (c .check-end .ensures
 returns-2 : tie.Need-returns-2 Inv-loop μ-loop
 returns-2 c =
     let g = c .before .before .before in
-    scan-refused _ _ _ _ _ _ (g .before .if1 .left) (g .word-at .ensures) (c .before .before .refusal .ensures) (c .before .if2 .taken) (c .answer .ensures)
+    scan-refused _ _ _ _ _ _ (g .before .if1 .left) (g .word-at .ensures) (c .before .before .word-refusal .ensures) (c .before .if2 .taken) (c .refusal .ensures)
     ∙ g .before .before .loop .inv .2
 
 pub check-tail-spec : {M : Type 1} → statement M
@@ -69,9 +70,9 @@ check-tail-spec =
     loop-holds
     check-end-requires
     word-at-requires
+    word-refusal-requires
+    cast-refusal
     refusal-requires
-    cast-answer
-    answer-requires
     scanned-requires
     add-at
     loop-less

@@ -2,7 +2,7 @@
 use mathlib.Core.Path.{sym}
 use native.Mathlib.Omega.{arith}
 use lib.Seq.{length-take-le}
-use Rattle.setup.proofs.AnswerLaws.{part-refused, part-accepted, front-fits}
+use Rattle.setup.proofs.SetupAnswerLaws.{part-refused, part-accepted, front-fits}
 use borrow.Author.Needs.{needs}
 use Rattle.setup.proofs.part.part.Statement.{statement}
 use Rattle.setup.proofs.part.part.Tie as tie
@@ -19,23 +19,21 @@ returns c = part-refused _ (c .before .before .before .check-front .ensures) (c 
 size-at-requires : tie.Need-size-at-requires
 size-at-requires c κs = front-fits _ (c .before .before .check-front .ensures) (c .if1 .left) .front .room
 
-add-k : tie.Need-add-k
-add-k c = search needs
-
-mul-k : tie.Need-mul-k
-mul-k c = search needs
+setup-length-requires : tie.Need-setup-length-requires
+setup-length-requires c κs = search needs
 
 slice-aggregate-result-2 : tie.Need-slice-aggregate-result-2
 slice-aggregate-result-2 c =
-    let g = c .before .before in
+    let g = c .before .before .before in
     let f = front-fits _ (g .before .before .check-front .ensures) (g .if1 .left) in
-    let e = c .before .size-at .ensures in
+    let e = c .before .before .size-at .ensures in
+    let k = c .before .setup-length .ensures in
     sym (length-take-le _ _ (omega arith))
 
 returns-2 : tie.Need-returns-2
 returns-2 c =
-    let g = c .before .before in
-    part-accepted _ (g .before .before .check-front .ensures) (c .before .size-at .ensures) (g .if1 .left)
+    let g = c .before .before .before in
+    part-accepted _ (g .before .before .check-front .ensures) (c .before .before .size-at .ensures) (c .before .setup-length .ensures) (g .if1 .left)
 
 pub part-spec : {M : Type 1} → statement M
 part-spec =
@@ -45,7 +43,6 @@ part-spec =
     slice-aggregate-result
     returns
     size-at-requires
-    add-k
-    mul-k
+    setup-length-requires
     slice-aggregate-result-2
     returns-2)

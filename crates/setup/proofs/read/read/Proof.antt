@@ -1,6 +1,7 @@
 -- The answer of the check, with the setup where it accepts and the blank one where it refuses.
+use mathlib.Core.Path.{_∙_}
 use native.Mathlib.Omega.{arith}
-use Rattle.setup.proofs.AnswerLaws.{read-refused, read-accepted, bytes-fit}
+use Rattle.setup.proofs.SetupAnswerLaws.{read-refused, read-accepted, bytes-fit}
 use borrow.Author.Needs.{needs}
 use Rattle.setup.proofs.read.read.Statement.{statement}
 use Rattle.setup.proofs.read.read.Tie as tie
@@ -17,18 +18,18 @@ returns c = read-refused _ (c .before .before .before .check .ensures) (c .blank
 size-at-requires : tie.Need-size-at-requires
 size-at-requires c κs = bytes-fit _ (c .before .before .check .ensures) (c .if1 .left) .front .room
 
-setup-in-requires : tie.Need-setup-in-requires
-setup-in-requires c κs =
+load-setup-requires : tie.Need-load-setup-requires
+load-setup-requires c κs =
     let f = bytes-fit _ (c .before .before .before .check .ensures) (c .before .if1 .left) in
     let e = c .size-at .ensures in
-    (omega arith, omega arith, e)
+    (omega (arith, f .front .most), omega (arith, f .size), e)
 
 returns-2 : tie.Need-returns-2
 returns-2 c =
-    let g = c .before .before in
-    read-accepted _ (g .before .before .check .ensures) (c .setup-in .ensures) (g .if1 .left)
+    let g = c .before .before .before in
+    read-accepted _ (g .before .before .check .ensures) (c .before .load-setup .ensures .1) (g .if1 .left)
 
 pub read-spec : {M : Type 1} → statement M
 read-spec =
     tie.close
-    (tie.spec check-requires blank-requires returns size-at-requires setup-in-requires returns-2)
+    (tie.spec check-requires blank-requires returns size-at-requires load-setup-requires returns-2)

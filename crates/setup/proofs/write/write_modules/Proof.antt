@@ -1,14 +1,13 @@
 -- After j turns the first j module words are written, and the rest is as it was.
-use Prim.Native.Nat.{_-_, _*_, _≤_}
+use Prim.Native.Nat.{_-_, _≤_}
 use mathlib.Core.Path.{_≡_, refl, _∙_}
-use mathlib.Core.List.{_++_}
 use native.Mathlib.Omega.{arith}
-use lib.ListN.{length, getD, drop}
-use Rattle.words.specs.Word.{bytesOf}
+use lib.ListN.{length, getD}
+use Rattle.words.specs.Runs.{putRun}
 use Rattle.words.specs.Bits.{bit}
-use Rattle.words.proofs.ByteLaws.{run-step, run-end}
+use Rattle.words.proofs.RunLaws.{put-step, put-end}
 use Rattle.setup.specs.Setup.{moduleWord}
-use Rattle.setup.proofs.AnswerLaws.{verdict-fits}
+use Rattle.setup.proofs.SetupWords.{room-pass, place-small, criticality-small}
 use borrow.Author.Needs.{needs}
 use Rattle.setup.proofs.write.write_modules.Statement.{statement}
 use Rattle.setup.proofs.write.write_modules.Tie as tie
@@ -17,45 +16,50 @@ abbrev Inv-loop : tie.InvT-loop
 Inv-loop out₀ n marks places criticality j₀ out j =
     (j ≤ n)
     × (length out ≡ length out₀)
-    × (out ≡ bytesOf j (λ k. moduleWord k (bit marks k) (getD places k 0) (getD criticality k 0)) ++ drop (j * 4) out₀)
+    × (out ≡ putRun out₀ 3 j (λ k. moduleWord k (bit marks k) (getD places k 0) (getD criticality k 0)))
 
 abbrev μ-loop : tie.MeasureT-loop
 μ-loop out₀ n marks places criticality j₀ out j = n - j
 
 loop-holds : tie.Need-loop-holds Inv-loop μ-loop
-unfolding bytesOf
+unfolding putRun
 loop-holds c = (omega arith, refl, refl)
 
 bit-at-requires : tie.Need-bit-at-requires Inv-loop μ-loop
 bit-at-requires c κs =
-    let f = verdict-fits _ (c .before .before .before .before .before .pre .0) in
+    let f = room-pass _ (c .before .before .before .before .before .pre .0) in
     omega arith
 
 mul-module-word : tie.Need-mul-module-word Inv-loop μ-loop
 mul-module-word c =
-    let f = verdict-fits _ (c .before .before .before .before .before .before .pre .0) in
+    let f = room-pass _ (c .before .before .before .before .before .before .pre .0) in
     omega arith
 
 array-read-module-word : tie.Need-array-read-module-word Inv-loop μ-loop
 array-read-module-word c =
-    let f = verdict-fits _ (c .before .before .before .before .before .before .pre .0) in
+    let f = room-pass _ (c .before .before .before .before .before .before .pre .0) in
     omega arith
 
 mul-module-word-2 : tie.Need-mul-module-word-2 Inv-loop μ-loop
 mul-module-word-2 c =
-    let f = verdict-fits _ (c .before .before .before .before .before .before .pre .0) in
+    let f = room-pass _ (c .before .before .before .before .before .before .pre .0) in
     omega arith
 
 array-read-module-word-2 : tie.Need-array-read-module-word-2 Inv-loop μ-loop
 array-read-module-word-2 c =
-    let f = verdict-fits _ (c .before .before .before .before .before .before .pre .0) in
+    let f = room-pass _ (c .before .before .before .before .before .before .pre .0) in
     omega arith
 
 module-word-requires : tie.Need-module-word-requires Inv-loop μ-loop
 module-word-requires c κs =
-    let f = verdict-fits _ (c .before .before .before .before .before .before .pre .0) in
-    let m = f .each (c .before .before .loop .j) (omega arith) in
-    (omega arith, omega arith, omega arith)
+    let f = room-pass _ (c .before .before .before .before .before .before .pre .0) in
+    let h = c .before .loop-test .taken in
+    (omega arith, place-small _ f _ h, criticality-small _ f _ h)
+
+add-put-word : tie.Need-add-put-word Inv-loop μ-loop
+add-put-word c =
+    let f = room-pass _ (c .before .before .before .before .before .before .before .before .pre .0) in
+    omega arith
 
 put-word-requires : tie.Need-put-word-requires Inv-loop μ-loop
 put-word-requires c κs = omega arith
@@ -72,15 +76,14 @@ loop-again c =
     let put = c .before .before .put-word in
     let e = rw (c .before .before .before .before .before .bit-at .ensures) at (c .before .before .before .before .module-word .ensures) in
     let o = c .before .before .before .before .before .before .before .before .before .before .before .args .out .now in
-    (omega arith, put .kept .0 ∙ l .inv .1, run-step o (l .j) _ (omega arith) (l .inv .2) (put .ensures) e)
+    (omega arith, put .kept .0 ∙ l .inv .1, put-step o 3 (l .j) _ (l .inv .2) (put .ensures) e)
 
 same-length : tie.Need-same-length Inv-loop μ-loop
 same-length c = search needs
 
 returns : tie.Need-returns Inv-loop μ-loop
 returns c =
-    let a = c .before .before .before .before .before in
-    run-end (a .args .out .now) _ _ _ (omega arith) (c .before .loop .inv .2) (a .pre .1)
+    put-end _ 3 _ _ _ (omega arith) (c .before .loop .inv .2)
 
 pub write-modules-spec : {M : Type 1} → statement M
 write-modules-spec =
@@ -95,6 +98,7 @@ write-modules-spec =
     mul-module-word-2
     array-read-module-word-2
     module-word-requires
+    add-put-word
     put-word-requires
     add-j
     loop-less

@@ -1,33 +1,45 @@
--- The front part and the module words, one after the other, are the bytes of the setup.
-use mathlib.Core.Path.{refl, sym}
+-- The head, the limits and the module words, each at its place, are the bytes of the setup.
 use native.Mathlib.Omega.{arith}
-use lib.Seq.{length-take-le}
-use Rattle.words.proofs.RunLaws.{two-parts}
-use Rattle.setup.specs.Setup.{setupBytes}
-use Rattle.setup.proofs.AnswerLaws.{verdict-fits}
+use mathlib.Core.Path.{refl}
+use Rattle.setup.proofs.SetupWords.{room-pass, words-written}
 use borrow.Author.Needs.{needs}
 use Rattle.setup.proofs.write.write_words.Statement.{statement}
 use Rattle.setup.proofs.write.write_words.Tie as tie
 
-slice-relend-prefix-write-front : tie.Need-slice-relend-prefix-write-front
-slice-relend-prefix-write-front c = search needs
+cast-put-word : tie.Need-cast-put-word
+cast-put-word c =
+    let f = room-pass _ (c .before .before .before .pre .0) in
+    omega arith
 
-slice-aggregate-write-front : tie.Need-slice-aggregate-write-front
-slice-aggregate-write-front c = sym (length-take-le 12 (c .before .before .args .out .now) (omega arith))
+add-put-word : tie.Need-add-put-word
+add-put-word c =
+    let f = room-pass _ (c .before .before .before .pre .0) in
+    omega arith
 
-write-front-requires : tie.Need-write-front-requires
-write-front-requires c κs =
-    let f = verdict-fits _ (c .before .before .pre .0) in
-    (omega arith, omega arith, omega arith, length-take-le 12 (c .before .before .args .out .now) (omega arith))
+put-word-requires : tie.Need-put-word-requires
+put-word-requires c κs = search needs
 
-sub-write-modules : tie.Need-sub-write-modules
-sub-write-modules c = search needs
+mul-put-word : tie.Need-mul-put-word
+mul-put-word c = search needs
 
-part-write-modules-start : tie.Need-part-write-modules-start
-part-write-modules-start c = search needs
+add-put-word-2 : tie.Need-add-put-word-2
+add-put-word-2 c =
+    let f = room-pass _ (c .before .before .before .before .before .before .before .before .pre .0) in
+    omega arith
 
-part-write-modules-end : tie.Need-part-write-modules-end
-part-write-modules-end c = search needs
+put-word-requires-2 : tie.Need-put-word-requires-2
+put-word-requires-2 c κs = search needs
+
+mul-put-word-2 : tie.Need-mul-put-word-2
+mul-put-word-2 c = search needs
+
+add-put-word-3 : tie.Need-add-put-word-3
+add-put-word-3 c =
+    let f = room-pass _ (c .before .before .before .before .before .before .before .before .before .before .before .before .before .pre .0) in
+    omega arith
+
+put-word-requires-3 : tie.Need-put-word-requires-3
+put-word-requires-3 c κs = search needs
 
 write-modules-requires : tie.Need-write-modules-requires
 write-modules-requires c κs = search needs
@@ -36,21 +48,26 @@ same-length : tie.Need-same-length
 same-length c = search needs
 
 returns : tie.Need-returns
-unfolding setupBytes
 returns c =
-    let f = c .before .before .before .before .before .before in
-    two-parts (f .before .before .before .args .out .now) 12 (f .write-front .ensures) (c .before .before .write-modules .ensures) refl
+    let r = c .before .before .before .before .before .before in
+    let p = r .before .before .before .before .before in
+    let h = p .before .before .before .before .before in
+    let a = h .before .before .before .before in
+    words-written _ _ (a .pre .1) (h .put-word .ensures) (p .put-word2 .ensures) (r .put-word3 .ensures) (c .before .before .write-modules .ensures)
 
 pub write-words-spec : {M : Type 1} → statement M
 write-words-spec =
     tie.close
     (tie.spec
-    slice-relend-prefix-write-front
-    slice-aggregate-write-front
-    write-front-requires
-    sub-write-modules
-    part-write-modules-start
-    part-write-modules-end
+    cast-put-word
+    add-put-word
+    put-word-requires
+    mul-put-word
+    add-put-word-2
+    put-word-requires-2
+    mul-put-word-2
+    add-put-word-3
+    put-word-requires-3
     write-modules-requires
     same-length
     returns)

@@ -1,0 +1,3 @@
+pub mod ModuleCallLaws
+pub mod CallAnswers
+pub mod Refusals

@@ -1,0 +1,362 @@
+-- The answers of the calls in one chain: what the bytes' check has passed the struct's check passes too.
+use Prim.Native.Nat.{ℕ, _+_, _-_, _*_, _^_, _≤_, _<_}
+use mathlib.Core.Path.{_≡_, refl, sym, ap, _∙_}
+use mathlib.Core.Bool.{Bool, true, false, cond, not, _&&_}
+use mathlib.Core.Logic.{⊎-elim}
+use mathlib.Core.List.{List, [], _∷_}
+use lib.ListN.{length}
+use lib.Dec.{eqb, ltb}
+use borrow.Author.Tests.{eq-eqb, eqb-true, lt-ltb}
+use Rattle.words.specs.Count.{lowest}
+use Rattle.words.specs.Verdict.{verdict, accepted, isAccepted, between, Test, single, andThen, outcome, thenTests, firstRefusal}
+use Rattle.words.specs.declared.Verdict.{Verdict}
+use Rattle.words.proofs.Truth.{which, cond-true, cond-false, and-l, and-r, and-true, cond-both}
+use Rattle.words.proofs.VerdictLaws.{Passed, between-is, between-of, and-then-next, single-refused, tests-ok}
+use Rattle.setup.specs.Setup.{setupOf}
+use Rattle.setup.specs.Check.{headTests, wordTests, checkHead, checkWords, checkSetup, setupVerdict}
+use Rattle.setup.specs.declared.Setup.{Setup}
+use Rattle.setup.proofs.SetupLaws.{SetupFits, fits-verdict as setup-accepted}
+use Rattle.setup.proofs.SetupRoundTrip.{read-fits}
+use Rattle.rules.specs.Hearing.{readingOf, causesOf}
+use Rattle.rules.specs.declared.Reading.{Reading}
+use Rattle.image.specs.Layout.{imageLength}
+use Rattle.image.specs.Check.{imageTests, checkImage}
+use Rattle.presence.specs.Opening.{fresh, blank, checkOpening, openOf}
+use Rattle.presence.specs.Step.{judgementFor, afterRound, refusedStep, acceptedStep, testedStep, readStep, stepOf}
+use Rattle.presence.specs.Image.{stateOf, roomFor}
+use Rattle.presence.specs.declared.State.{State}
+use Rattle.presence.specs.declared.Opened.{Opened}
+use Rattle.presence.specs.declared.Stepped.{Stepped}
+use Rattle.presence.proofs.ValidLaws.{StateFits, valid-fits, fits-verdict}
+use Rattle.presence.proofs.StateStepLaws.{outgoing-heard, open-accepts}
+use Rattle.presence.proofs.ImageState.{load-valid}
+use Rattle.calls.specs.Calls.{Called, refusedCall, wrote, checkCall, openCall, stepCall, saveCall, outgoingCall, causeCall}
+use Rattle.calls.specs.Refusals.{sizeOf, hasRoom, openVerdict, stepVerdict, savingVerdict, answering, oneOf, Refusals}
+use Rattle.calls.specs.declared.CauseAnswer.{CauseAnswer}
+
+-- ---- what a call does is what its verdict says
+
+-- where a test passes, what it leads to may be taken by an equal
+cond-then : {A : Type 0} (a : Bool) (x y z : A) → (a ≡ true → x ≡ y) → cond a x z ≡ cond a y z
+cond-then true x y z h = h refl
+cond-then false x y z h = refl
+
+-- the answers of one test, and of two
+one-answer : (k : ℕ) (b : Bool) → firstRefusal (single b k 0 ∷ []) ≡ cond b accepted (verdict k 0)
+unfolding thenTests outcome andThen lowest
+one-answer k true = refl
+one-answer k false = refl
+
+pub two-answers : (k m : ℕ) → eqb k 0 ≡ false → (b c : Bool) → firstRefusal (single b k 0 ∷ single c m 0 ∷ []) ≡ cond b (cond c accepted (verdict m 0)) (verdict k 0)
+unfolding thenTests outcome andThen lowest
+two-answers k m h true true = refl
+two-answers k m h true false = refl
+two-answers k m h false c = rw h
+
+answered : (v : Verdict) (health : ℕ) (st : State) (out : List ℕ) → answering v health st out .answer .number ≡ v .number
+unfolding answering wrote refusedCall
+answered v health st out =
+    ⊎-elim (λ (t : isAccepted v ≡ true). by-number t ∙ sym (eqb-true (v .number) 0 t)) (λ (f : isAccepted v ≡ false). by-refusal f) (which (isAccepted v))
+  where
+    by-number : isAccepted v ≡ true → answering v health st out .answer .number ≡ 0
+    by-number t = ap (λ (c : Called). c .answer .number) (cond-true (wrote health st) _ t)
+
+    by-refusal : isAccepted v ≡ false → answering v health st out .answer .number ≡ v .number
+    by-refusal f = ap (λ (c : Called). c .answer .number) (cond-false (wrote health st) _ f)
+
+-- ---- opening
+
+other-number : (s : Setup) (own : ℕ) → SetupFits s → between 1 (s .n) own ≡ false → openOf s own ≡ record { number = 7; index = 0; state = blank }
+unfolding openOf checkOpening
+other-number s own f e =
+    let v : checkOpening s own ≡ verdict 7 0 =
+    and-then-next (setupVerdict s) _ (ap (λ (v : Verdict). v .number) (setup-accepted s f)) ∙ single-refused (between 1 (s .n) own) 7 0 e
+    in
+    rw v
+
+-- of a setup within the limits only the own number is left to test
+opened-by : (s : Setup) (own : ℕ) → SetupFits s
+    → openOf s own ≡ cond (between 1 (s .n) own) (record { number = 0; index = 0; state = fresh s own }) (record { number = 7; index = 0; state = blank })
+opened-by s own f =
+    ⊎-elim
+    (λ (t : between 1 (s .n) own ≡ true).
+    let (h, l) = between-is 1 (s .n) own t in
+    open-accepts s own f h l ∙ sym (cond-true _ _ t))
+    (λ (e : between 1 (s .n) own ≡ false). other-number s own f e ∙ sym (cond-false _ _ e))
+    (which (between 1 (s .n) own))
+
+module _ (setup : List ℕ) (own : ℕ) (out : List ℕ) where
+  abbrev s : Setup
+  s = setupOf setup
+
+  -- by the tests of the setup, of the own number and of the room
+  open-chain : (v : Verdict) (a b c : Bool) → isAccepted v ≡ a
+      → cond a (cond b (cond c (wrote 0 (fresh s own)) (refusedCall 9 0 out)) (refusedCall 7 0 out)) (refusedCall (v .number) (v .index) out)
+      ≡ answering (cond a (cond b (cond c accepted (verdict 9 0)) (verdict 7 0)) v) 0 (fresh s own) out
+  unfolding answering
+  open-chain v true true true e = refl
+  open-chain v true true false e = refl
+  open-chain v true false c e = refl
+  open-chain v false b c e = sym (cond-false _ _ e)
+
+  -- what an opening makes of the struct
+  writes : Opened → Called
+  writes o =
+      cond (eqb (o .number) 0) (cond (roomFor (o .state) out) (wrote 0 (o .state)) (refusedCall 9 0 out)) (refusedCall (o .number) (o .index) out)
+
+  writes-by : (b : Bool)
+      → writes (cond b (record { number = 0; index = 0; state = fresh s own }) (record { number = 7; index = 0; state = blank }))
+      ≡ cond b (cond (hasRoom (sizeOf setup) out) (wrote 0 (fresh s own)) (refusedCall 9 0 out)) (refusedCall 7 0 out)
+  unfolding writes roomFor fresh setupOf
+  writes-by true = refl
+  writes-by false = refl
+
+  -- the verdict by these tests
+  pub open-verdict : openVerdict setup own out
+      ≡ cond (isAccepted (checkSetup setup)) (cond (between 1 (sizeOf setup) own) (cond (hasRoom (sizeOf setup) out) accepted (verdict 9 0)) (verdict 7 0))
+      (checkSetup setup)
+  unfolding openVerdict andThen
+  open-verdict =
+      ap (λ (v : Verdict). cond (isAccepted (checkSetup setup)) v (checkSetup setup))
+      (two-answers 7 9 refl (between 1 (sizeOf setup) own) (hasRoom (sizeOf setup) out))
+
+  opening : openCall setup own out ≡ answering (openVerdict setup own out) 0 (fresh s own) out
+  unfolding openCall writes setupOf
+  opening =
+      cond-then (isAccepted (checkSetup setup)) _ _ _
+      (λ t. ap writes (opened-by s own (read-fits setup (eqb-true (checkSetup setup .number) 0 t))) ∙ writes-by (between 1 (sizeOf setup) own))
+      ∙ open-chain (checkSetup setup) (isAccepted (checkSetup setup)) (between 1 (sizeOf setup) own) (hasRoom (sizeOf setup) out) refl
+      ∙ ap (λ (v : Verdict). answering v 0 (fresh s own) out) (sym open-verdict)
+
+-- ---- step
+
+-- of a state within the limits only the read and the controller bits are left to test: its word passes
+stepped-by : (st : State) (read : List ℕ) (controller : ℕ) → StateFits st
+    → stepOf st read controller
+    ≡ cond (eqb (length read) (st .setup .n * 4))
+    (cond (ltb controller (2 ^ st .setup .n))
+    (acceptedStep st (readingOf (st .setup .n) read controller) (causesOf (st .setup .n) read controller))
+    (refusedStep st 10 0))
+    (refusedStep st 9 0)
+unfolding stepOf readStep testedStep
+stepped-by st read controller f =
+    cond-true _ _ (ap isAccepted (fits-verdict st f))
+    ∙ ap
+    (λ (t : Stepped). cond (eqb (length read) (st .setup .n * 4)) (cond (ltb controller (2 ^ st .setup .n)) t (refusedStep st 10 0)) (refusedStep st 9 0))
+    (cond-true _ _ (outgoing-heard st (readingOf (st .setup .n) read controller) f))
+
+module _ (image read : List ℕ) (controller : ℕ) (out : List ℕ) where
+  abbrev st : State
+  st = stateOf image
+
+  abbrev this : Reading
+  this = readingOf (sizeOf image) read controller
+
+  abbrev done : Called
+  done = wrote (judgementFor st this .health) (afterRound st this)
+
+  -- by the tests of the image, of the room, of the read and of the controller bits
+  step-chain : (v : Verdict) (a b c d : Bool) → isAccepted v ≡ a
+      → cond a (cond b (cond c (cond d done (refusedCall 10 0 out)) (refusedCall 9 0 out)) (refusedCall 9 0 out)) (refusedCall (v .number) (v .index) out)
+      ≡ answering (cond a (cond (b && c) (cond d accepted (verdict 10 0)) (verdict 9 0)) v) (judgementFor st this .health) (afterRound st this) out
+  unfolding answering
+  step-chain v true true true true e = refl
+  step-chain v true true true false e = refl
+  step-chain v true true false d e = refl
+  step-chain v true false c d e = refl
+  step-chain v false b c d e = sym (cond-false _ _ e)
+
+  -- what a step makes of the struct
+  tells : Stepped → Called
+  tells t = cond (eqb (t .number) 0) (wrote (t .health) (t .state)) (refusedCall (t .number) (t .index) out)
+
+  tells-by : (causes : List ℕ) (c d : Bool)
+      → tells (cond c (cond d (acceptedStep st this causes) (refusedStep st 10 0)) (refusedStep st 9 0))
+      ≡ cond c (cond d done (refusedCall 10 0 out)) (refusedCall 9 0 out)
+  unfolding tells acceptedStep refusedStep
+  tells-by causes true true = refl
+  tells-by causes true false = refl
+  tells-by causes false d = refl
+
+  -- the verdict by these tests
+  pub step-verdict : stepVerdict image read controller out
+      ≡ cond (isAccepted (checkImage image))
+      (cond (hasRoom (sizeOf image) out && eqb (length read) (sizeOf image * 4)) (cond (ltb controller (2 ^ sizeOf image)) accepted (verdict 10 0)) (verdict 9 0))
+      (checkImage image)
+  unfolding stepVerdict andThen
+  step-verdict =
+      ap (λ (v : Verdict). cond (isAccepted (checkImage image)) v (checkImage image))
+      (two-answers 9 10 refl (hasRoom (sizeOf image) out && eqb (length read) (sizeOf image * 4)) (ltb controller (2 ^ sizeOf image)))
+
+  step : stepCall image read controller out ≡ answering (stepVerdict image read controller out) (judgementFor st this .health) (afterRound st this) out
+  unfolding stepCall tells roomFor stateOf setupOf
+  step =
+      cond-then (isAccepted (checkImage image)) _ _ _
+      (λ t.
+      let f = valid-fits st (load-valid image (eqb-true (checkImage image .number) 0 t)) in
+      ap (λ (c : Called). cond (hasRoom (sizeOf image) out) c (refusedCall 9 0 out))
+      (ap tells (stepped-by st read controller f) ∙ tells-by _ (eqb (length read) (sizeOf image * 4)) (ltb controller (2 ^ sizeOf image))))
+      ∙ step-chain (checkImage image) (isAccepted (checkImage image)) (hasRoom (sizeOf image) out) (eqb (length read) (sizeOf image * 4))
+      (ltb controller (2 ^ sizeOf image)) refl
+      ∙ ap (λ (v : Verdict). answering v (judgementFor st this .health) (afterRound st this) out) (sym step-verdict)
+
+-- ---- saving
+
+save-chain : (v : Verdict) (a b : Bool) (st : State) (out : List ℕ) → isAccepted v ≡ a
+    → cond a (cond b (wrote 0 st) (refusedCall 9 0 out)) (refusedCall (v .number) (v .index) out)
+    ≡ answering (cond a (cond b accepted (verdict 9 0)) v) 0 st out
+unfolding answering
+save-chain v true true st out e = refl
+save-chain v true false st out e = refl
+save-chain v false b st out e = sym (cond-false _ _ e)
+
+saving : (image out : List ℕ) → saveCall image out ≡ answering (savingVerdict image out) 0 (stateOf image) out
+unfolding saveCall savingVerdict andThen roomFor stateOf setupOf
+saving image out =
+    save-chain (checkImage image) (isAccepted (checkImage image)) (hasRoom (sizeOf image) out) (stateOf image) out refl
+    ∙ ap (λ (v : Verdict). answering (cond (isAccepted (checkImage image)) v (checkImage image)) 0 (stateOf image) out)
+    (sym (one-answer 9 (hasRoom (sizeOf image) out)))
+
+-- ---- accepted calls
+
+-- one check after another, both of which accept
+pub both-accept : (v next : Verdict) → v .number ≡ 0 → next ≡ accepted → andThen v next ≡ accepted
+both-accept v next z e = and-then-next v next z ∙ e
+
+pub open-accepted : (setup : List ℕ) (own : ℕ) (out : List ℕ) → checkSetup setup .number ≡ 0 → 1 ≤ own → own ≤ sizeOf setup
+    → length out ≡ imageLength (sizeOf setup) → openCall setup own out .answer .number ≡ 0
+unfolding openVerdict Passed
+open-accepted setup own out z h l room =
+    let e : openVerdict setup own out ≡ accepted =
+    both-accept (checkSetup setup) _ z
+    (tests-ok (single (between 1 (sizeOf setup) own) 7 0 ∷ single (hasRoom (sizeOf setup) out) 9 0 ∷ [])
+    (λ _ _. between-of 1 (sizeOf setup) own h l, (λ _ _. eq-eqb (length out) (imageLength (sizeOf setup)) room, tt)))
+    in
+    ap (λ (c : Called). c .answer .number) (opening setup own out) ∙ answered (openVerdict setup own out) 0 _ out ∙ ap (λ (v : Verdict). v .number) e
+
+pub step-accepted : (image read : List ℕ) (controller : ℕ) (out : List ℕ) → checkImage image .number ≡ 0 → length out ≡ imageLength (sizeOf image)
+    → length read ≡ sizeOf image * 4 → controller < 2 ^ sizeOf image → stepCall image read controller out .answer .number ≡ 0
+unfolding stepVerdict Passed
+step-accepted image read controller out z room whole bits =
+    let e : stepVerdict image read controller out ≡ accepted =
+    both-accept (checkImage image) _ z
+    (tests-ok
+    (single (hasRoom (sizeOf image) out && eqb (length read) (sizeOf image * 4)) 9 0 ∷ single (ltb controller (2 ^ sizeOf image)) 10 0 ∷ [])
+    (λ _ _. and-true (hasRoom (sizeOf image) out) _ (eq-eqb _ _ room) (eq-eqb _ _ whole), (λ _ _. lt-ltb controller _ bits, tt)))
+    in
+    ap (λ (c : Called). c .answer .number) (step image read controller out) ∙ answered (stepVerdict image read controller out) _ _ out
+    ∙ ap (λ (v : Verdict). v .number) e
+
+pub save-accepted : (image out : List ℕ) → checkImage image .number ≡ 0 → length out ≡ imageLength (sizeOf image)
+    → saveCall image out .answer .number ≡ 0
+unfolding savingVerdict Passed
+save-accepted image out z room =
+    let e : savingVerdict image out ≡ accepted =
+    both-accept (checkImage image) _ z
+    (tests-ok (single (hasRoom (sizeOf image) out) 9 0 ∷ []) (λ _ _. eq-eqb (length out) (imageLength (sizeOf image)) room, tt))
+    in
+    ap (λ (c : Called). c .answer .number) (saving image out) ∙ answered (savingVerdict image out) 0 (stateOf image) out ∙ ap (λ (v : Verdict). v .number) e
+
+-- ---- the numbers: every check of a chain answers one of these, or the next check does
+
+allAmong : List ℕ → List Test → Bool
+allAmong ns [] = true
+allAmong ns (t ∷ ts) = oneOf ns (t .number) && allAmong ns ts
+
+module _ (ns : List ℕ) where
+  abbrev Among : ℕ → Type 0
+  Among k = oneOf ns k ≡ true
+
+  among-then : (v next : Verdict) → Among (v .number) → Among (next .number) → Among (andThen v next .number)
+  unfolding andThen
+  among-then v next h k = either (isAccepted v)
+    where
+      either : (b : Bool) → Among (cond b next v .number)
+      either true = k
+      either false = h
+
+  -- tests in their order: 0, or the number of one of them
+  among-outcome : (t : Test) → Among 0 → Among (t .number) → Among (outcome t .number)
+  unfolding outcome
+  among-outcome t h k = either (eqb (lowest (t .count) (λ j. not (t .ok j))) 0)
+    where
+      either : (b : Bool) → Among (cond b accepted (verdict (t .number) (t .place + lowest (t .count) (λ j. not (t .ok j)) - 1)) .number)
+      either true = h
+      either false = k
+
+  among-tests : (v : Verdict) (ts : List Test) → Among 0 → Among (v .number) → allAmong ns ts ≡ true → Among (thenTests v ts .number)
+  unfolding thenTests allAmong
+  among-tests v [] h0 h a = h
+  among-tests v (t ∷ ts) h0 h a =
+      among-tests (andThen v (outcome t)) ts h0
+      (among-then v (outcome t) h (among-outcome t h0 (and-l (oneOf ns (t .number)) _ a))) (and-r (oneOf ns (t .number)) _ a)
+
+  among-all : (ts : List Test) → Among 0 → allAmong ns ts ≡ true → Among (firstRefusal ts .number)
+  among-all ts h a = among-tests accepted ts h h a
+
+  among-setup : (s : List ℕ) → Among 0 → ((fits : Bool) → allAmong ns (headTests s fits) ≡ true) → ((n : ℕ) → allAmong ns (wordTests s n) ≡ true)
+      → Among (checkSetup s .number)
+  unfolding checkSetup checkHead checkWords
+  among-setup s h0 a b = among-then _ _ (among-all (headTests s _) h0 (a _)) (among-all (wordTests s _) h0 (b _))
+
+  among-image : (s : List ℕ) → Among 0 → ((fits : Bool) → allAmong ns (headTests s fits) ≡ true) → ((n : ℕ) → allAmong ns (imageTests s n) ≡ true)
+      → Among (checkImage s .number)
+  unfolding checkImage checkHead
+  among-image s h0 a b = among-then _ _ (among-all (headTests s _) h0 (a _)) (among-all (imageTests s _) h0 (b _))
+
+-- the same of what a call answers
+numbered : (ns : List ℕ) {c : Called} (v : Verdict) (health : ℕ) (st : State) (out : List ℕ) → c ≡ answering v health st out
+    → oneOf ns (v .number) ≡ true → oneOf ns (c .answer .number) ≡ true
+numbered ns v health st out e h = ap (λ (c : Called). oneOf ns (c .answer .number)) e ∙ ap (oneOf ns) (answered v health st out) ∙ h
+
+setup-numbers : (setup : List ℕ) → oneOf (0 ∷ 1 ∷ 2 ∷ 3 ∷ 4 ∷ 5 ∷ 6 ∷ []) (checkCall setup .number) ≡ true
+unfolding checkCall oneOf allAmong
+setup-numbers setup = among-setup (0 ∷ 1 ∷ 2 ∷ 3 ∷ 4 ∷ 5 ∷ 6 ∷ []) setup refl (λ _. refl) (λ _. refl)
+
+opening-numbers : (setup : List ℕ) (own : ℕ) (out : List ℕ)
+    → oneOf (0 ∷ 1 ∷ 2 ∷ 3 ∷ 4 ∷ 5 ∷ 6 ∷ 7 ∷ 9 ∷ []) (openCall setup own out .answer .number) ≡ true
+unfolding openVerdict oneOf allAmong
+opening-numbers setup own out =
+    let ns : List ℕ = 0 ∷ 1 ∷ 2 ∷ 3 ∷ 4 ∷ 5 ∷ 6 ∷ 7 ∷ 9 ∷ [] in
+    numbered ns (openVerdict setup own out) 0 (fresh (setupOf setup) own) out (opening setup own out)
+    (among-then ns (checkSetup setup) _ (among-setup ns setup refl (λ _. refl) (λ _. refl))
+    (among-all ns (single (between 1 (sizeOf setup) own) 7 0 ∷ single (hasRoom (sizeOf setup) out) 9 0 ∷ []) refl refl))
+
+step-numbers : (image read : List ℕ) (controller : ℕ) (out : List ℕ)
+    → oneOf (0 ∷ 1 ∷ 2 ∷ 3 ∷ 4 ∷ 5 ∷ 6 ∷ 7 ∷ 8 ∷ 9 ∷ 10 ∷ []) (stepCall image read controller out .answer .number) ≡ true
+unfolding stepVerdict oneOf allAmong
+step-numbers image read controller out =
+    let ns : List ℕ = 0 ∷ 1 ∷ 2 ∷ 3 ∷ 4 ∷ 5 ∷ 6 ∷ 7 ∷ 8 ∷ 9 ∷ 10 ∷ [] in
+    numbered ns (stepVerdict image read controller out) _ _ out (step image read controller out)
+    (among-then ns (checkImage image) _ (among-image ns image refl (λ _. refl) (λ _. refl))
+    (among-all ns (single (hasRoom (sizeOf image) out && eqb (length read) (sizeOf image * 4)) 9 0 ∷ single (ltb controller (2 ^ sizeOf image)) 10 0 ∷ []) refl refl))
+
+saving-numbers : (image out : List ℕ) → oneOf (0 ∷ 1 ∷ 2 ∷ 3 ∷ 4 ∷ 5 ∷ 6 ∷ 7 ∷ 8 ∷ 9 ∷ []) (saveCall image out .answer .number) ≡ true
+unfolding savingVerdict oneOf allAmong
+saving-numbers image out =
+    let ns : List ℕ = 0 ∷ 1 ∷ 2 ∷ 3 ∷ 4 ∷ 5 ∷ 6 ∷ 7 ∷ 8 ∷ 9 ∷ [] in
+    numbered ns (savingVerdict image out) 0 (stateOf image) out (saving image out)
+    (among-then ns (checkImage image) _ (among-image ns image refl (λ _. refl) (λ _. refl)) (among-all ns (single (hasRoom (sizeOf image) out) 9 0 ∷ []) refl refl))
+
+outgoing-numbers : (image : List ℕ) → oneOf (0 ∷ 1 ∷ 2 ∷ 3 ∷ 4 ∷ 5 ∷ 6 ∷ 7 ∷ 8 ∷ []) (outgoingCall image .number) ≡ true
+unfolding outgoingCall oneOf allAmong
+outgoing-numbers image = among-image (0 ∷ 1 ∷ 2 ∷ 3 ∷ 4 ∷ 5 ∷ 6 ∷ 7 ∷ 8 ∷ []) image refl (λ _. refl) (λ _. refl)
+
+cause-numbers : (n controller word : ℕ) → oneOf (0 ∷ 2 ∷ 10 ∷ []) (causeCall n controller word .number) ≡ true
+unfolding causeCall oneOf
+cause-numbers n controller word =
+    cond-both (λ (a : CauseAnswer). oneOf (0 ∷ 2 ∷ 10 ∷ []) (a .number) ≡ true) (between 2 16 n) _ _
+    (cond-both (λ (a : CauseAnswer). oneOf (0 ∷ 2 ∷ 10 ∷ []) (a .number) ≡ true) (ltb controller 2) _ _ refl refl) refl
+
+pub refusals : Refusals
+refusals = record {
+  opening = opening;
+  step = step;
+  saving = saving;
+  setup-numbers = setup-numbers;
+  opening-numbers = opening-numbers;
+  step-numbers = step-numbers;
+  saving-numbers = saving-numbers;
+  outgoing-numbers = outgoing-numbers;
+  cause-numbers = cause-numbers;
+}

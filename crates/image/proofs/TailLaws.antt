@@ -1,0 +1,93 @@
+-- What holds of bytes that pass the check of a saved state.
+use mathlib.Core.Path.{_≡_, refl, ap, _∙_, sym}
+use mathlib.Core.Bool.{true}
+use mathlib.Core.List.{List}
+use Prim.Native.Nat.{ℕ, _<_}
+use native.Mathlib.Omega.{arith}
+use lib.ListN.{length}
+use lib.Dec.{eqb}
+use borrow.Author.Tests.{eqb-true, eq-eqb}
+use Rattle.words.specs.Word.{wordAt}
+use Rattle.words.specs.Verdict.{accepted, andThen, firstRefusal}
+use Rattle.words.specs.declared.Verdict.{Verdict}
+use Rattle.words.proofs.VerdictLaws.{numbered, Passed, tests-pass, tests-ok, tests-join, and-then-pass, and-then-next}
+use Rattle.setup.specs.Setup.{sizeIn}
+use Rattle.setup.specs.Check.{wordTests, checkHead, checkWords}
+use Rattle.setup.proofs.SetupCheckLaws.{HeadFits, WordsFit, head-pass, head-ok, words-pass, words-ok}
+use Rattle.image.specs.Layout.{ownAt, latestAt, earlierAt, imageLength}
+use Rattle.image.specs.Words.{ownNumberOk, ownOk, syndromeOk}
+use Rattle.image.specs.Rows.{rowTest}
+use Rattle.image.specs.Counters.{counterTests}
+use Rattle.image.specs.Check.{tailTests, imageTests, checkTail, checkImage}
+
+-- ---- numbers 7 and 8
+
+pub numbers : (w : ℕ → ℕ) (n : ℕ) → numbered (tailTests w n) ≡ true
+unfolding numbered
+numbers w n = refl
+
+pub record TailFits (w : ℕ → ℕ) (n : ℕ) : Type 0 where
+  pub number : ownNumberOk n (w (ownAt n)) ≡ true
+  pub own : ownOk n (w (ownAt n)) ≡ true
+  pub rows : (j : ℕ) → j < n → rowTest w n j ≡ true
+  pub latest : syndromeOk n (w (latestAt n)) ≡ true
+  pub earlier : syndromeOk n (w (earlierAt n)) ≡ true
+  pub counters : Passed (counterTests w n)
+
+pub tail-pass : (w : ℕ → ℕ) (n : ℕ) → checkTail w n .number ≡ 0 → TailFits w n
+unfolding checkTail Passed
+tail-pass w n e =
+    let (number, (own, (rows, (latest, (earlier, counters))))) = tests-pass (tailTests w n) (numbers w n) e in
+    record {
+      number = number 0 (omega arith);
+      own = own 0 (omega arith);
+      rows = rows;
+      latest = latest 0 (omega arith);
+      earlier = earlier 0 (omega arith);
+      counters = counters;
+    }
+
+pub tail-ok : (w : ℕ → ℕ) (n : ℕ) → TailFits w n → checkTail w n ≡ accepted
+unfolding checkTail Passed
+tail-ok w n f =
+    tests-ok (tailTests w n) (λ _ _. f .number, (λ _ _. f .own, (f .rows, (λ _ _. f .latest, (λ _ _. f .earlier, f .counters)))))
+
+-- ---- all of an image
+
+pub record ImageFits (s : List ℕ) : Type 0 where
+  pub front : HeadFits s
+  pub size : length s ≡ imageLength (sizeIn (wordAt s 0))
+  pub words : WordsFit s (sizeIn (wordAt s 0))
+  pub tail : TailFits (wordAt s) (sizeIn (wordAt s 0))
+
+pub image-numbers : (s : List ℕ) (n : ℕ) → numbered (imageTests s n) ≡ true
+unfolding numbered
+image-numbers s n = refl
+
+-- the setup's words, then the others
+pub tests-parts : (s : List ℕ) (n : ℕ) → firstRefusal (imageTests s n) ≡ andThen (checkWords s n) (checkTail (wordAt s) n)
+unfolding checkWords checkTail
+tests-parts s n = tests-join (wordTests s n) _ _
+
+pub image-pass : (s : List ℕ) → checkImage s .number ≡ 0 → ImageFits s
+unfolding checkImage
+image-pass s e =
+    let n = sizeIn (wordAt s 0) in
+    let (a, b) = and-then-pass (checkHead s (eqb (length s) (imageLength n))) _ e in
+    let (h, f) = head-pass s (eqb (length s) (imageLength n)) a in
+    let (c, d) = and-then-pass (checkWords s n) (checkTail (wordAt s) n) (ap (λ (v : Verdict). v .number) (sym (tests-parts s n)) ∙ b) in
+    record { front = h; size = eqb-true (length s) (imageLength n) f; words = words-pass s n c; tail = tail-pass (wordAt s) n d }
+
+pub image-ok : (s : List ℕ) → ImageFits s → checkImage s ≡ accepted
+unfolding checkImage
+image-ok s f =
+    let n = sizeIn (wordAt s 0) in
+    let h : checkHead s (eqb (length s) (imageLength n)) ≡ accepted = head-ok s _ (f .front) (eq-eqb _ _ (f .size)) in
+    and-then-next (checkHead s (eqb (length s) (imageLength n))) _ (ap (λ (v : Verdict). v .number) h)
+    ∙ tests-parts s n
+    ∙ and-then-next (checkWords s n) _ (ap (λ (v : Verdict). v .number) (words-ok s n (f .words)))
+    ∙ tail-ok (wordAt s) n (f .tail)
+
+-- number 0 carries index 0
+pub image-zero : (s : List ℕ) → checkImage s .number ≡ 0 → checkImage s ≡ accepted
+image-zero s e = image-ok s (image-pass s e)

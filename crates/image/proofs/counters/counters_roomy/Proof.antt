@@ -1,0 +1,25 @@
+-- Each counter in its turn.
+use Rattle.image.specs.Counters.{countersRoomy}
+use borrow.Author.Needs.{needs}
+use Rattle.image.proofs.counters.counters_roomy.Statement.{statement}
+use Rattle.image.proofs.counters.counters_roomy.Tie as tie
+
+sub-bounded : tie.Need-sub-bounded
+sub-bounded c = search needs
+
+bounded-requires : tie.Need-bounded-requires
+bounded-requires c κs = search needs
+
+sub-bounded-2 : tie.Need-sub-bounded-2
+sub-bounded-2 c = search needs
+
+bounded-requires-2 : tie.Need-bounded-requires-2
+bounded-requires-2 c κs = search needs
+
+returns : tie.Need-returns
+unfolding countersRoomy
+returns c = rw (c .before .bounded .ensures, c .bounded2 .ensures)
+
+pub counters-roomy-spec : {M : Type 1} → statement M
+counters-roomy-spec =
+    tie.close (tie.spec sub-bounded bounded-requires sub-bounded-2 bounded-requires-2 returns)

@@ -1,0 +1,75 @@
+-- Each word at its place, its tests and its fields.
+use mathlib.Core.Path.{ap, ap₂, _∙_}
+use mathlib.Core.Bool.{_&&_}
+use Rattle.words.specs.Word.{wordAt}
+use Rattle.image.specs.Words.{ownIn, viewIn, syndromeIn, ownNumberOk, ownOk, syndromeOk}
+use borrow.Author.Needs.{needs}
+use Rattle.image.proofs.read.load_words.Statement.{statement}
+use Rattle.image.proofs.read.load_words.Tie as tie
+
+own-at-requires : tie.Need-own-at-requires
+own-at-requires c κs = search needs
+
+word-at-requires : tie.Need-word-at-requires
+word-at-requires c κs = search needs
+
+latest-at-requires : tie.Need-latest-at-requires
+latest-at-requires c κs = search needs
+
+word-at-requires-2 : tie.Need-word-at-requires-2
+word-at-requires-2 c κs = search needs
+
+earlier-at-requires : tie.Need-earlier-at-requires
+earlier-at-requires c κs = search needs
+
+word-at-requires-3 : tie.Need-word-at-requires-3
+word-at-requires-3 c κs = search needs
+
+own-number-ok-requires : tie.Need-own-number-ok-requires
+own-number-ok-requires c κs = search needs
+
+own-ok-requires : tie.Need-own-ok-requires
+own-ok-requires c κs = search needs
+
+syndrome-ok-requires : tie.Need-syndrome-ok-requires
+syndrome-ok-requires c κs = search needs
+
+syndrome-ok-requires-2 : tie.Need-syndrome-ok-requires-2
+syndrome-ok-requires-2 c κs = search needs
+
+field-requires : tie.Need-field-requires
+field-requires c κs = search needs
+
+cast-t7 : tie.Need-cast-t7
+cast-t7 c = search needs
+
+returns : tie.Need-returns
+returns c =
+    let own = c .before .before .before .before .before .before .before .before .before .word-at .ensures ∙ ap (wordAt _) (c .before .before .before .before .before .before .before .before .before .before .own-at .ensures) in
+    let latest = c .before .before .before .before .before .before .before .word-at2 .ensures ∙ ap (wordAt _) (c .before .before .before .before .before .before .before .before .latest-at .ensures) in
+    let earlier = c .before .before .before .before .before .word-at3 .ensures ∙ ap (wordAt _) (c .before .before .before .before .before .before .earlier-at .ensures) in (
+      ap₂ _&&_ (ap₂ _&&_ (c .before .before .before .before .own-number-ok .ensures ∙ ap (ownNumberOk _) own) (c .before .before .before .own-ok .ensures ∙ ap (ownOk _) own))
+          (ap₂ _&&_ (c .before .before .syndrome-ok .ensures ∙ ap (syndromeOk _) latest) (c .before .syndrome-ok2 .ensures ∙ ap (syndromeOk _) earlier)),
+      c .field .ensures ∙ ap ownIn own,
+      ap viewIn own,
+      ap syndromeIn latest,
+      ap syndromeIn earlier,
+    )
+
+pub load-words-spec : {M : Type 1} → statement M
+load-words-spec =
+    tie.close
+    (tie.spec
+    own-at-requires
+    word-at-requires
+    latest-at-requires
+    word-at-requires-2
+    earlier-at-requires
+    word-at-requires-3
+    own-number-ok-requires
+    own-ok-requires
+    syndrome-ok-requires
+    syndrome-ok-requires-2
+    field-requires
+    cast-t7
+    returns)

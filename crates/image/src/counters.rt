@@ -1,0 +1,175 @@
+// The counters of the modules, kinds 13 and 14: tested, read and written.
+use crate::CountersPart;
+use crate::layout::penalties_at;
+use crate::layout::rewards_at;
+use crate::read::criticality_in;
+use crate::read::limit_in;
+use crate::read::view_in;
+use rules::Counters;
+use setup::layout::PENALTY_LIMIT_AT;
+use setup::layout::REWARD_LIMIT_AT;
+use words::array::bounded;
+use words::bits::bit_at;
+use words::word::KIND;
+use words::word::NUMBER;
+use words::word::put_word;
+use words::word::word_at;
+ghost use mathlib.Core.Path.{_≡_};
+ghost use mathlib.Core.Bool.{true, _&&_};
+ghost use Prim.Native.Nat.{ℕ, _+_, _*_, _^_, _≤_, _<_};
+ghost use lib.ListN.{length, getD};
+ghost use Rattle.words.specs.Word.{wordAt};
+ghost use Rattle.words.specs.Array.{array};
+ghost use Rattle.words.specs.Verdict.{allRight};
+ghost use Rattle.words.specs.Runs.{putRun, putRuns};
+ghost use Rattle.setup.specs.Layout.{penaltyLimitAt, rewardLimitAt, modulesAt};
+ghost use Rattle.setup.specs.Setup.{limitIn, criticalityIn};
+ghost use Rattle.image.specs.Layout.{ownAt, penaltiesAt, imageLength};
+ghost use Rattle.image.specs.Words.{viewIn};
+ghost use Rattle.image.specs.Counters.{counterWord, counterIn, counterOf, penaltyFits, rewardFits, penaltyTest, rewardTest, counterTests, countersIn, counterRuns, countersRoomy};
+
+// A word of this kind, of module j + 1.
+fn counter_of(kind: u32, j: usize, w: u32) -> bool
+    requires { ⌜ (kind < 16) × (j < 16) ⌝ }
+    ensures { λ r. ⌜ r ≡ counterOf kind j w ⌝ }
+{
+    w / NUMBER == kind * 32 + (j as u32 + 1)
+}
+
+// At most p and the criticality; in the view exactly where it is not over p.
+fn penalty_fits(p: u32, criticality: u32, present: bool, penalty: u32) -> bool
+    requires { ⌜ (p < 2 ^ 28) × (criticality < 2 ^ 17) ⌝ }
+    ensures { λ r. ⌜ r ≡ penaltyFits p criticality present penalty ⌝ }
+{
+    (penalty <= p + criticality) & (present == (penalty <= p))
+}
+
+// Below the limit, and 0 where the penalty is 0.
+fn reward_fits(limit: u32, penalty: u32, reward: u32) -> bool
+    ensures { λ r. ⌜ r ≡ rewardFits limit penalty reward ⌝ }
+{
+    (reward < limit) & ((reward == 0) | (penalty != 0))
+}
+
+// Kind 13, the number j + 1, a penalty that fits.
+fn penalty_ok(p: u32, criticality: u32, present: bool, j: usize, w: u32) -> bool
+    requires { ⌜ (p < 2 ^ 28) × (criticality < 2 ^ 17) × (j < 16) ⌝ }
+    ensures { λ r. ⌜ r ≡ counterOf 13 j w && penaltyFits p criticality present (counterIn w) ⌝ }
+{
+    counter_of(13, j, w) & penalty_fits(p, criticality, present, w % NUMBER)
+}
+
+// Kind 14, the number j + 1, a reward that fits.
+fn reward_ok(limit: u32, penalty: u32, j: usize, w: u32) -> bool
+    requires { ⌜ j < 16 ⌝ }
+    ensures { λ r. ⌜ r ≡ counterOf 14 j w && rewardFits limit penalty (counterIn w) ⌝ }
+{
+    counter_of(14, j, w) & reward_fits(limit, penalty, w % NUMBER)
+}
+
+// Whether the penalty of module j + 1 is right.
+pub fn penalty_right(s: &[u8], n: usize, j: usize) -> bool
+    requires { ⌜ (n ≤ 16) × (length (now s) ≡ imageLength n) × (j < n) ⌝ }
+    ensures { λ r. ⌜ r ≡ penaltyTest (wordAt (now (s .entry))) n j ⌝ }
+{
+    let present = bit_at(view_in(s, n), j);
+    let w = word_at(s, penalties_at(n) + j);
+    penalty_ok(
+        limit_in(s, PENALTY_LIMIT_AT),
+        criticality_in(s, j),
+        present,
+        j,
+        w,
+    )
+}
+
+// Whether the reward of module j + 1 is right.
+pub fn reward_right(s: &[u8], n: usize, j: usize) -> bool
+    requires { ⌜ (n ≤ 16) × (length (now s) ≡ imageLength n) × (j < n) ⌝ }
+    ensures { λ r. ⌜ r ≡ rewardTest (wordAt (now (s .entry))) n j ⌝ }
+{
+    let penalty = word_at(s, penalties_at(n) + j) % NUMBER;
+    reward_ok(
+        limit_in(s, REWARD_LIMIT_AT),
+        penalty,
+        j,
+        word_at(s, rewards_at(n) + j),
+    )
+}
+
+// The counters, and whether their words are right, by what the words before them hold.
+pub fn load_counters(
+    s: &[u8],
+    n: usize,
+    p: u32,
+    limit: u32,
+    criticality: [u32; 16],
+    view: u32,
+) -> CountersPart
+    requires { ⌜ (n ≤ 16) × (length (now s) ≡ imageLength n) ⌝ }
+    requires { ⌜ (p ≡ limitIn (wordAt (now s) penaltyLimitAt)) × (limit ≡ limitIn (wordAt (now s) rewardLimitAt)) × (view ≡ viewIn (wordAt (now s) (ownAt n)))
+        × (criticality ≡ array n (λ j. criticalityIn (wordAt (now s) (modulesAt + j)))) ⌝ }
+    ensures { λ r. ⌜ (r .good ≡ allRight (counterTests (wordAt (now (s .entry))) n)) × (r .counters ≡ countersIn (now (s .entry)) n) ⌝ }
+{
+    let i = penalties_at(n);
+    let k = rewards_at(n);
+    let mut good = true;
+    let mut penalty = [0u32; 16];
+    let mut reward = [0u32; 16];
+    for j in 0..n {
+        let w = word_at(s, i + j);
+        let v = word_at(s, k + j);
+        let x = w % NUMBER;
+        let fits = penalty_ok(p, criticality[j], bit_at(view, j), j, w);
+        good = good & (fits & reward_ok(limit, x, j, v));
+        penalty[j] = x;
+        reward[j] = v % NUMBER;
+    }
+    CountersPart {
+        good,
+        counters: Counters {
+            view,
+            penalty,
+            reward,
+        },
+    }
+}
+
+// The word of a counter of module j + 1.
+fn counter_word(kind: u32, j: usize, v: u32) -> u32
+    requires { ⌜ (kind < 16) × (j < 16) × (v < 2 ^ 23) ⌝ }
+    ensures { λ r. ⌜ r ≡ counterWord kind j v ⌝ }
+{
+    kind * KIND + (j as u32 + 1) * NUMBER + v
+}
+
+// Writes one counter of every module.
+fn save_counter(kind: u32, n: usize, values: [u32; 16], out: &mut [u8], at: usize)
+    requires { ⌜ (kind < 16) × (n ≤ 16) × ((j : ℕ) → j < n → getD values j 0 < 2 ^ 23) × (at < 2 ^ 16) × ((at + n) * 4 ≤ length (now out)) ⌝ }
+    ensures { λ _. ⌜ now (out .exit) ≡ putRun (now (out .entry)) at n (λ j. counterWord kind j (getD values j 0)) ⌝ }
+{
+    for j in 0..n {
+        let w = counter_word(kind, j, values[j]);
+        put_word(out, at + j, w);
+    }
+}
+
+// Writes the counters.
+pub fn save_counters(n: usize, counters: Counters, out: &mut [u8])
+    requires { ⌜ (n ≤ 16) × (countersRoomy n counters ≡ true) × (length (now out) ≡ imageLength n) ⌝ }
+    ensures { λ _. ⌜ now (out .exit) ≡ putRuns (now (out .entry)) (penaltiesAt n) (counterRuns n counters) ⌝ }
+{
+    let penalty = counters.penalty;
+    let reward = counters.reward;
+    save_counter(13, n, penalty, out, penalties_at(n));
+    save_counter(14, n, reward, out, rewards_at(n));
+}
+
+// Whether every counter has room in its word, and nothing stands in the entries from n on.
+pub fn counters_roomy(n: usize, counters: Counters) -> bool
+    ensures { λ r. ⌜ r ≡ countersRoomy n counters ⌝ }
+{
+    let penalty = counters.penalty;
+    let reward = counters.reward;
+    bounded(n, NUMBER - 1, penalty) & bounded(n, NUMBER - 1, reward)
+}

@@ -1,0 +1,57 @@
+-- The view in an image, and what an output of no bytes is good for.
+use mathlib.Core.Path.{_≡_, ap, _∙_, sym}
+use mathlib.Core.Bool.{false}
+use mathlib.Core.List.{List, [], _++_}
+use Prim.Native.Nat.{ℕ, _+_}
+use native.Mathlib.Omega.{arith}
+use lib.ListN.{length, getD}
+use borrow.Author.Tests.{ne-eqb}
+use Rattle.words.specs.Word.{wordAt, bytesOf}
+use Rattle.words.specs.Runs.{runsOf}
+use Rattle.words.specs.Bits.{bit}
+use Rattle.words.proofs.ByteLaws.{word-first}
+use Rattle.setup.specs.Setup.{headWord, sizeIn}
+use Rattle.image.specs.Layout.{ownAt, imageLength}
+use Rattle.image.specs.Words.{viewIn}
+use Rattle.image.proofs.SingleWords.{view-back}
+use Rattle.presence.specs.Valid.{Valid}
+use Rattle.presence.specs.Image.{imageOf, roomFor}
+use Rattle.calls.specs.Calls.{Called, called, refusedCall}
+use Rattle.calls.specs.declared.Answer.{Answer}
+use Rattle.presence.specs.declared.State.{State}
+use Rattle.presence.proofs.SmallLaws.{valid-small}
+use Rattle.presence.proofs.StateWords.{stands-bytes, image-length as length-of}
+use Rattle.page.specs.Calls.{pageCalled}
+
+-- a refusal of a call with an output of no bytes is one of the call with the output that was lent
+pub moved : (out page : List ℕ) (number index : ℕ) {r : Answer} {l : List ℕ} → called r l ≡ refusedCall number index []
+    → pageCalled (called r (l ++ out)) page ≡ pageCalled (refusedCall number index out) page
+unfolding refusedCall
+moved out page number index g = ap (λ (c : Called). pageCalled (called (c .answer) (c .out ++ out)) page) g
+
+pub refused-by : (number index : ℕ) (out : List ℕ) {c : Called} → c ≡ refusedCall number index out → (number ≡ 0 → ⊥) → c .answer .number ≡ 0 → ⊥
+unfolding refusedCall
+refused-by number index out g f z = f (ap (λ (x : Called). x .answer .number) (sym g) ∙ z)
+
+-- ---- the view in an image
+
+module _ (st : State) (v : Valid st) where
+  pub image-size : sizeIn (wordAt (imageOf st) 0) ≡ st .setup .n
+  unfolding imageOf runsOf bytesOf
+  image-size = ap sizeIn (word-first (headWord (st .setup .n)) _) ∙ omega (arith, valid-small st v .size)
+
+  pub image-view : viewIn (wordAt (imageOf st) (ownAt (st .setup .n))) ≡ st .counters .view
+  image-view =
+      let s = valid-small st v in
+      ap viewIn (stands-bytes st .own) ∙ view-back (st .own) (st .counters .view) (s .own) (s .view)
+
+  pub image-length : length (imageOf st) ≡ imageLength (st .setup .n)
+  image-length = length-of st
+
+-- an output of no bytes has no room
+pub no-room : (st : State) → roomFor st [] ≡ false
+unfolding roomFor
+no-room st = ne-eqb 0 (imageLength (st .setup .n)) some
+  where
+    some : 0 ≡ imageLength (st .setup .n) → ⊥
+    some e = omega arith

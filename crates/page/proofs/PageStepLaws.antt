@@ -1,0 +1,147 @@
+-- A step with a page, by what the step without one has answered.
+use mathlib.Core.Path.{_≡_, ap, ap₂, _∙_, sym, subst}
+use mathlib.Core.Bool.{true, false}
+use mathlib.Core.Logic.{⊎-elim}
+use mathlib.Core.List.{List, [], _++_}
+use Prim.Native.Nat.{ℕ, _+_, _*_, _^_, _<_, _≤_}
+use native.Mathlib.Omega.{arith}
+use lib.ListN.{length, getD}
+use borrow.Author.Tests.{eqb-false}
+use Rattle.words.specs.Word.{wordAt}
+use Rattle.words.proofs.Truth.{which, cond-true, cond-false}
+use Rattle.words.specs.Verdict.{isAccepted}
+use Rattle.setup.specs.Setup.{sizeIn, setupOf}
+use Rattle.rules.specs.Hearing.{causesOf}
+use Rattle.rules.proofs.Causes.{codes-small}
+use Rattle.image.specs.Layout.{ownAt, imageLength}
+use Rattle.image.specs.Counters.{countersIn}
+use Rattle.image.specs.Words.{viewIn}
+use Rattle.image.specs.Check.{checkImage}
+use Rattle.image.proofs.TailLaws.{ImageFits, image-pass}
+use Rattle.presence.specs.Valid.{Valid}
+use Rattle.presence.specs.Step.{acceptedStep, afterRound, stepOf}
+use Rattle.presence.specs.Image.{imageOf, stateOf}
+use Rattle.calls.specs.Calls.{Called, called, refusedCall, stepCall}
+use Rattle.calls.specs.declared.Answer.{Answer}
+use Rattle.presence.specs.declared.State.{State}
+use Rattle.presence.specs.declared.Stepped.{Stepped}
+use Rattle.presence.proofs.ValidLaws.{valid-fits}
+use Rattle.presence.proofs.StateStepLaws.{step-accepted, step-whole, step-valid}
+use Rattle.presence.proofs.ImageState.{load-valid}
+use Rattle.calls.proofs.CallAnswers.{step-writes, step-passed}
+use Rattle.page.specs.Page.{pageStepped}
+use Rattle.page.specs.Calls.{pageCalled, pageStepCall}
+use Rattle.page.proofs.WithPageLaws.{with-accepted, with-refused, with-before, with-nine}
+use Rattle.page.proofs.PageCallLaws.{moved, refused-by, no-room, image-view, image-length}
+
+-- the causes of a read are codes
+pub codes-of : (n : ℕ) (read : List ℕ) (controller : ℕ) {causes : List ℕ} → n ≤ 16 → causes ≡ causesOf n read controller
+    → (k : ℕ) → k < 16 → getD causes k 0 ≤ 3
+codes-of n read controller small e k h = subst (λ (x : List ℕ). getD x k 0 ≤ 3) (sym e) (codes-small n read controller k small h)
+
+module _ (image read : List ℕ) (controller : ℕ) where
+  bad-image : (out : List ℕ) → isAccepted (checkImage image) ≡ false
+      → stepCall image read controller out ≡ refusedCall (checkImage image .number) (checkImage image .index) out
+  unfolding stepCall
+  bad-image out f = cond-false _ _ f
+
+  no-output : isAccepted (checkImage image) ≡ true → stepCall image read controller [] ≡ refusedCall 9 0 []
+  unfolding stepCall
+  no-output t = cond-true _ _ t ∙ cond-false _ _ (no-room (stateOf image))
+
+  -- asked with an output of no bytes, a step answers what goes before 9, or 9
+  pub step-no-page : (out page : List ℕ) {r : Answer} {l : List ℕ} → called r l ≡ stepCall image read controller [] → (length page ≡ 64 → ⊥)
+      → pageCalled (called r (l ++ out)) page ≡ pageStepCall image read controller out page
+  unfolding pageStepCall
+  step-no-page out page {r} {l} e f =
+      ⊎-elim
+      (λ (t : isAccepted (checkImage image) ≡ true). moved out page 9 0 (e ∙ no-output t) ∙ with-nine _ (stepCall image read controller out) out page _ t f)
+      (λ (n : isAccepted (checkImage image) ≡ false).
+      moved out page _ _ (e ∙ bad-image [] n) ∙ ap (λ (c : Called). pageCalled c page) (sym (bad-image out n))
+      ∙ with-before _ (stepCall image read controller out) out page _ n (refused-by _ _ out (bad-image out n) (eqb-false (checkImage image .number) 0 n))) (which (isAccepted (checkImage image)))
+
+  module _ (out : List ℕ) {r : Answer} {b : List ℕ} (e : called r b ≡ stepCall image read controller out) where
+    pub step-refused : (page : List ℕ) → length page ≡ 64 → (r .number ≡ 0 → ⊥)
+        → pageCalled (called r b) page ≡ pageStepCall image read controller out page
+    unfolding pageStepCall
+    step-refused page l f =
+        ap (λ (c : Called). pageCalled c page) e
+        ∙ with-refused _ (stepCall image read controller out) out page _ l (λ z. f (ap (λ (c : Called). c .answer .number) e ∙ z))
+
+    module _ (z : r .number ≡ 0) where
+      abbrev st : State
+      st = stateOf image
+
+      abbrev s : Stepped
+      s = stepOf st read controller
+
+      answered : stepCall image read controller out .answer .number ≡ 0
+      answered = ap (λ (c : Called). c .answer .number) (sym e) ∙ z
+
+      fits : ImageFits image
+      fits = image-pass image (step-passed image read controller out answered .0)
+
+      accepted : s .number ≡ 0
+      accepted = step-passed image read controller out answered .1
+
+      same-size : s .state .setup .n ≡ st .setup .n
+      unfolding acceptedStep afterRound
+      same-size = ap (λ (x : Stepped). x .state .setup .n) (step-accepted st read controller accepted .1)
+
+      causes-are : s .causes ≡ causesOf (st .setup .n) read controller
+      unfolding acceptedStep
+      causes-are = ap (λ (x : Stepped). x .causes) (step-accepted st read controller accepted .1)
+
+      wrote-image : b ≡ imageOf (s .state)
+      wrote-image = ap (λ (c : Called). c .out) e ∙ step-writes image read controller out answered .0
+
+      next-valid : Valid (s .state)
+      next-valid = step-valid st read controller accepted
+
+      pub image-room : 4 ≤ length image
+      image-room = fits .front .room
+
+      module _ {n : ℕ} (size : n ≡ sizeIn (wordAt image 0)) where
+        size-is : n ≡ st .setup .n
+        unfolding stateOf setupOf
+        size-is = size
+
+        pub in-image : (n ≤ 16) × (length image ≡ imageLength n)
+        in-image =
+            let f = fits .front .most in
+            (omega arith, fits .size ∙ ap imageLength (sym size))
+
+        -- the read has N words
+        pub in-read : (n ≤ 16) × (length read ≡ n * 4)
+        in-read = (in-image .0, step-whole st read controller accepted ∙ ap (λ (k : ℕ). k * 4) (sym size-is))
+
+        pub in-output : (n ≤ 16) × (length b ≡ imageLength n)
+        in-output =
+            (in-image .0, ap length wrote-image ∙ image-length (s .state) next-valid ∙ ap imageLength (same-size ∙ sym size-is))
+
+        module _ {v : ℕ} (before : v ≡ viewIn (wordAt image (ownAt n))) where
+          before-is : v ≡ st .counters .view
+          unfolding stateOf countersIn
+          before-is = before ∙ ap (λ (k : ℕ). viewIn (wordAt image (ownAt k))) size
+
+          pub before-small : v < 2 ^ n
+          before-small =
+              subst (λ (k : ℕ). v < 2 ^ k) (sym size-is)
+              (subst (λ (x : ℕ). x < 2 ^ st .setup .n) (sym before-is) (valid-fits st (load-valid image (step-passed image read controller out answered .0)) .view))
+
+          pub step-paged : (page : List ℕ) {w : ℕ} {p q : List ℕ} → length page ≡ 64 → w ≡ viewIn (wordAt b (ownAt n)) → q ≡ causesOf n read controller
+              → p ≡ pageStepped n v (r .health) w q page
+              → pageCalled (called r b) p ≡ pageStepCall image read controller out page
+          unfolding pageStepCall
+          step-paged page {w} {p} {q} l after cs h =
+              let a : w ≡ s .state .counters .view =
+              after ∙ ap₂ (λ (x : List ℕ) (k : ℕ). viewIn (wordAt x (ownAt k))) wrote-image (size-is ∙ sym same-size) ∙ image-view (s .state) next-valid
+              in
+              let k : r .health ≡ s .health = ap (λ (c : Called). c .answer .health) e ∙ step-writes image read controller out answered .1 in
+              let d : q ≡ s .causes = cs ∙ ap (λ (m : ℕ). causesOf m read controller) size-is ∙ sym causes-are in
+              let g : p ≡ pageStepped (st .setup .n) (st .counters .view) (s .health) (s .state .counters .view) (s .causes) page =
+              h ∙ ap₂ (λ (x y : ℕ). pageStepped x y (r .health) w q page) size-is before-is
+              ∙ ap₂ (λ (x y : ℕ). pageStepped (st .setup .n) (st .counters .view) x y q page) k a
+              ∙ ap (λ (x : List ℕ). pageStepped (st .setup .n) (st .counters .view) (s .health) (s .state .counters .view) x page) d
+              in
+              ap₂ pageCalled e g ∙ with-accepted _ (stepCall image read controller out) out page _ l answered

@@ -1,0 +1,65 @@
+// Opening and step of a module that has a page. A refused call writes neither image nor page.
+use crate::registers::open_page;
+use crate::registers::step_page;
+use calls::Answer;
+use calls::calls::presence_open;
+use calls::calls::presence_step;
+use image::read::view_in;
+use setup::check::size_at;
+ghost use mathlib.Core.Path.{_≡_};
+ghost use Rattle.calls.specs.Calls.{called};
+ghost use Rattle.page.specs.Calls.{pageCalled, pageOpenCall, pageStepCall};
+
+// Opens module `own` of a setup, and writes its image and its page: 1 to 6, 7, 9 for the output or the page.
+#[no_mangle]
+pub extern "C" fn presence_page_open(
+    bytes: &[u8],
+    own: u32,
+    out: &mut [u8],
+    page: &mut [u8],
+) -> Answer
+    ensures { λ r. ⌜ pageCalled (called r (now (out .exit))) (now (page .exit))
+        ≡ pageOpenCall (now (bytes .entry)) own (now (out .entry)) (now (page .entry)) ⌝ }
+{
+    if page.len() != 64 {
+        // an output of no bytes is refused after all that goes before 9
+        let none: usize = 0;
+        return presence_open(bytes, own, &mut out[..none]);
+    }
+    let answer = presence_open(bytes, own, out);
+    if answer.number != 0 {
+        return answer;
+    }
+    let n = size_at(bytes);
+    let view = view_in(out, n);
+    open_page(n, view, page);
+    answer
+}
+
+// One step, from image to image, with the page beside it: 1 to 8, 9 for the read, the output or the page, 10, 11.
+#[no_mangle]
+pub extern "C" fn presence_page_step(
+    image: &[u8],
+    read: &[u8],
+    controller: u32,
+    out: &mut [u8],
+    page: &mut [u8],
+) -> Answer
+    ensures { λ r. ⌜ pageCalled (called r (now (out .exit))) (now (page .exit))
+        ≡ pageStepCall (now (image .entry)) (now (read .entry)) controller (now (out .entry)) (now (page .entry)) ⌝ }
+{
+    if page.len() != 64 {
+        let none: usize = 0;
+        return presence_step(image, read, controller, &mut out[..none]);
+    }
+    let answer = presence_step(image, read, controller, out);
+    if answer.number != 0 {
+        return answer;
+    }
+    let n = size_at(image);
+    let before = view_in(image, n);
+    let after = view_in(out, n);
+    let causes = rules::hearing::causes(n, read, controller);
+    step_page(n, before, answer.health, after, causes, page);
+    answer
+}

@@ -1,0 +1,188 @@
+-- What an opening and a step answer, put together from the answers of their parts.
+use mathlib.Core.Path.{_≡_, refl, ap, ap₂, _∙_, sym}
+use mathlib.Core.Bool.{Bool, true, false, cond, _||_}
+use mathlib.Core.Logic.{⊎-elim}
+use mathlib.Core.List.{List}
+use Prim.Native.Nat.{ℕ, _-_, _*_, _^_, _<_, _≤_}
+use native.Mathlib.Omega.{arith}
+use lib.ListN.{getD, length, replicate}
+use lib.Dec.{leb, ltb}
+use borrow.Author.Tests.{eq-eqb, ne-eqb, lt-ltb, le-ltb, lt-leb, ltb-true, ltb-false}
+use Rattle.words.specs.Bits.{full}
+use Rattle.words.specs.Array.{array}
+use Rattle.words.proofs.Truth.{cond-true, cond-false, and-false-l, and-false-r, or-cases, or-false-l, or-false-r}
+use Rattle.words.specs.Verdict.{verdict, accepted, isAccepted, between}
+use Rattle.setup.specs.Check.{setupVerdict}
+use Rattle.words.specs.declared.Verdict.{Verdict}
+use Rattle.setup.specs.declared.Setup.{Setup}
+use Rattle.words.proofs.VerdictLaws.{between-of, and-then-stops, and-then-goes, single-ok, single-refused}
+use Rattle.rules.specs.Hearing.{wordHeard, readingOf, causesOf}
+use Rattle.rules.specs.Alignment.{alignedOf}
+use Rattle.rules.specs.Syndrome.{judgementOf}
+use Rattle.rules.specs.Account.{accountAt, countersOf}
+use Rattle.rules.specs.Range.{InRange}
+use Rattle.rules.proofs.RangeLaws.{fits-in-range}
+use Rattle.rules.specs.declared.Reading.{Reading}
+use Rattle.rules.specs.declared.Counters.{Counters}
+use Rattle.rules.specs.declared.Judgement.{Judgement}
+use Rattle.presence.specs.Valid.{stateVerdict, Valid}
+use Rattle.presence.specs.Opening.{fresh, blank, checkOpening, openOf}
+use Rattle.presence.specs.Step.{skewOf, placeOf, ownSyndrome, alignedFor, judgementFor, outgoingFor, afterRound, refusedStep, acceptedStep, testedStep, readStep, stepOf}
+use Rattle.presence.specs.declared.State.{State}
+use Rattle.presence.specs.declared.Opened.{Opened}
+use Rattle.presence.specs.declared.Stepped.{Stepped}
+use Rattle.presence.proofs.ValidLaws.{StateFits}
+
+-- ---- rules 1 and 3 to 6
+
+pub judged-made : (st : State) (this : Reading) {skew : Bool} {place own : ℕ} {a : Reading} {j : Judgement}
+    → skew ≡ skewOf st → place ≡ placeOf st → a ≡ alignedOf (st .setup .n) skew place (st .previous) this
+    → own ≡ cond skew (st .earlier) (st .latest) → j ≡ judgementOf (st .setup .n) (st .counters .view) a own → j ≡ judgementFor st this
+unfolding judgementFor alignedFor ownSyndrome
+judged-made st this {skew} {place} {own} {a} {j} s p e o h =
+    let a′ : a ≡ alignedOf (st .setup .n) (skewOf st) (placeOf st) (st .previous) this =
+    e ∙ ap₂ (λ (x : Bool) (y : ℕ). alignedOf (st .setup .n) x y (st .previous) this) s p
+    in
+    let o′ : own ≡ cond (skewOf st) (st .earlier) (st .latest) = o ∙ ap (λ (x : Bool). cond x (st .earlier) (st .latest)) s in
+    h ∙ ap₂ (λ (x : Reading) (y : ℕ). judgementOf (st .setup .n) (st .counters .view) x y) a′ o′
+
+-- a valid state's own read place is at most N
+pub place-small : (st : State) {r : ℕ} → StateFits st → r ≡ placeOf st → r < 31
+unfolding placeOf
+place-small st f e =
+    let h : st .own - 1 < st .setup .n = omega (arith, f .first, f .last) in
+    let w = f .setup .each (st .own - 1) h in
+    omega (arith, w .within, f .setup .most)
+
+-- ---- rule 8
+
+pub after-made : (st : State) (this : Reading) {j : Judgement} {c : Counters} → j ≡ judgementFor st this
+    → c ≡ countersOf (st .setup) (j .health) (st .counters)
+    → _≡_ {A = State}
+    (record { setup = st .setup; own = st .own; counters = c; previous = this; latest = j .syndrome; earlier = st .latest }) (afterRound st this)
+unfolding afterRound
+after-made st this {j} {c} e h =
+    let made : Judgement → Counters → State =
+    λ k d. record { setup = st .setup; own = st .own; counters = d; previous = this; latest = k .syndrome; earlier = st .latest }
+    in
+    ap₂ made e (h ∙ ap (λ (k : Judgement). countersOf (st .setup) (k .health) (st .counters)) e)
+
+-- the accounts of a valid state are small enough to add to
+pub in-range : (st : State) → StateFits st → (j : ℕ) → j < st .setup .n
+    → InRange (getD (st .setup .criticality) j 0) (accountAt (st .counters) j)
+in-range st f j h =
+    fits-in-range (st .setup .p) (st .setup .r) _ _ (f .setup .p-most) (f .setup .r-most) (f .setup .each j h .most) (f .accounts j h)
+
+-- ---- rules 7 to 9
+
+module _ (st : State) (this : Reading) (causes : List ℕ) {j : Judgement} {word : ℕ} (e : j ≡ judgementFor st this) (w : word ≡ outgoingFor st this) where
+  pub tested-accepted : {next : State} → next ≡ afterRound st this → wordHeard (st .setup .n) word ≡ true
+      → _≡_ {A = Stepped} (record { number = 0; index = 0; health = j .health; accusations = j .accusations; word = word; causes = causes; state = next })
+      (testedStep st this causes)
+  unfolding testedStep acceptedStep
+  tested-accepted {next} n t =
+      let made : (k : Judgement) (x : ℕ) (s : State) → Stepped =
+      λ k x s. record { number = 0; index = 0; health = k .health; accusations = k .accusations; word = x; causes = causes; state = s }
+      in
+      ap (λ (k : Judgement). made k word next) e ∙ ap₂ (made (judgementFor st this)) w n
+      ∙ sym (cond-true _ _ (ap (λ (x : ℕ). wordHeard (st .setup .n) x) (sym w) ∙ t))
+
+  pub tested-refused : {r : Stepped} → r ≡ refusedStep st 11 0 → wordHeard (st .setup .n) word ≡ false → r ≡ testedStep st this causes
+  unfolding testedStep
+  tested-refused h f = h ∙ sym (cond-false _ _ (ap (λ (x : ℕ). wordHeard (st .setup .n) x) (sym w) ∙ f))
+
+-- ---- 9 and 10
+
+module _ (st : State) (read : List ℕ) (controller : ℕ) {r : Stepped} where
+  pub read-length : r ≡ refusedStep st 9 0 → (length read ≡ st .setup .n * 4 → ⊥) → r ≡ readStep st read controller
+  unfolding readStep
+  read-length h f = h ∙ sym (cond-false _ _ (ne-eqb (length read) (st .setup .n * 4) f))
+
+  pub read-controller : r ≡ refusedStep st 10 0 → length read ≡ st .setup .n * 4 → 2 ^ st .setup .n ≤ controller → r ≡ readStep st read controller
+  unfolding readStep
+  read-controller h l c =
+      h ∙ sym (cond-true _ _ (eq-eqb (length read) (st .setup .n * 4) l) ∙ cond-false _ _ (le-ltb controller (2 ^ st .setup .n) c))
+
+  pub read-taken : r ≡ testedStep st (readingOf (st .setup .n) read controller) (causesOf (st .setup .n) read controller) → length read ≡ st .setup .n * 4 → controller < 2 ^ st .setup .n
+      → r ≡ readStep st read controller
+  unfolding readStep
+  read-taken h l c =
+      h ∙ sym (cond-true _ _ (eq-eqb (length read) (st .setup .n * 4) l) ∙ cond-true _ _ (lt-ltb controller (2 ^ st .setup .n) c))
+
+  -- ---- the state first
+
+  pub step-goes : {v : Verdict} → v ≡ stateVerdict st → v .number ≡ 0 → r ≡ readStep st read controller → r ≡ stepOf st read controller
+  unfolding stepOf
+  step-goes {v} e z h = h ∙ sym (cond-true _ _ (ap isAccepted (sym e) ∙ eq-eqb (v .number) 0 z))
+
+  pub step-stops : {v : Verdict} → v ≡ stateVerdict st → (v .number ≡ 0 → ⊥) → r ≡ refusedStep st (v .number) (v .index) → r ≡ stepOf st read controller
+  unfolding stepOf
+  step-stops {v} e f h =
+      h ∙ ap (λ (x : Verdict). refusedStep st (x .number) (x .index)) e
+      ∙ sym (cond-false _ _ (ap isAccepted (sym e) ∙ ne-eqb (v .number) 0 f))
+
+-- a step of a valid state is one of that state as it was read
+pub step-of : (st : State) {k : State} (read : List ℕ) (controller : ℕ) {t : Stepped} → k ≡ st → Valid k → t ≡ readStep k read controller
+    → t ≡ stepOf st read controller
+step-of st {k} read controller {t} e v h =
+    step-goes k read controller refl v h ∙ ap (λ (x : State). stepOf x read controller) e
+
+-- ---- opening
+
+pub fresh-made : (s : Setup) (own : ℕ) {v : ℕ} {rows : List ℕ} → v ≡ full (s .n) → rows ≡ array (s .n) (λ j. v)
+    → _≡_ {A = State}
+    (record {
+      setup = s;
+      own = own;
+      counters = record { view = v; penalty = replicate 16 0; reward = replicate 16 0 };
+      previous = record { heard = v; rows = rows };
+      latest = v;
+      earlier = v;
+    }) (fresh s own)
+unfolding fresh
+fresh-made s own {v} {rows} e h =
+    let made : ℕ → List ℕ → State =
+    λ x r. record {
+      setup = s;
+      own = own;
+      counters = record { view = x; penalty = replicate 16 0; reward = replicate 16 0 };
+      previous = record { heard = x; rows = r };
+      latest = x;
+      earlier = x;
+    }
+    in
+    ap₂ made e (h ∙ ap (λ (x : ℕ). array (s .n) (λ j. x)) e)
+
+-- a number is out of range
+pub not-between : (low high v : ℕ) → ltb v low || ltb high v ≡ true → between low high v ≡ false
+not-between low high v t =
+    ⊎-elim (λ a. and-false-l (leb low v) _ (lt-leb low v (ltb-true v low a))) (λ b. and-false-r (leb low v) _ (lt-leb v high (ltb-true high v b)))
+    (or-cases (ltb v low) (ltb high v) t)
+
+-- or in range
+pub is-between : (low high v : ℕ) → ltb v low || ltb high v ≡ false → (low ≤ v) × (v ≤ high)
+is-between low high v f = (ltb-false v low (or-false-l (ltb v low) _ f), ltb-false high v (or-false-r (ltb v low) _ f))
+
+module _ (s : Setup) (own : ℕ) {v : Verdict} (e : v ≡ setupVerdict s) where
+  -- by the verdict w of the opening
+  opens : {w : Verdict} {st : State} → w ≡ checkOpening s own → st ≡ cond (isAccepted w) (fresh s own) blank
+      → _≡_ {A = Opened} (record { number = w .number; index = w .index; state = st }) (openOf s own)
+  unfolding openOf
+  opens {w} {st} h g =
+      ap₂ (λ (x : Verdict) (y : State). record { number = x .number; index = x .index; state = y }) h
+      (g ∙ ap (λ (x : Verdict). cond (isAccepted x) (fresh s own) blank) h)
+
+  pub open-refused : {st : State} → st ≡ blank → (v .number ≡ 0 → ⊥)
+      → _≡_ {A = Opened} (record { number = v .number; index = v .index; state = st }) (openOf s own)
+  unfolding checkOpening
+  open-refused g f = opens {w = v} (and-then-stops _ e f) (g ∙ sym (cond-false (fresh s own) blank (ne-eqb (v .number) 0 f)))
+
+  pub open-other : {st : State} → st ≡ blank → v .number ≡ 0 → between 1 (s .n) own ≡ false
+      → _≡_ {A = Opened} (record { number = 7; index = 0; state = st }) (openOf s own)
+  unfolding checkOpening
+  open-other g z f = opens {w = verdict 7 0} (and-then-goes _ e z (sym (single-refused (between 1 (s .n) own) 7 0 f))) g
+
+  pub open-done : {st : State} → st ≡ fresh s own → v .number ≡ 0 → 1 ≤ own → own ≤ s .n
+      → _≡_ {A = Opened} (record { number = 0; index = 0; state = st }) (openOf s own)
+  unfolding checkOpening
+  open-done g z h l = opens {w = accepted} (and-then-goes _ e z (sym (single-ok (between 1 (s .n) own) 7 0 (between-of 1 (s .n) own h l)))) g

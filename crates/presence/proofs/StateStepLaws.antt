@@ -1,0 +1,169 @@
+-- What an opening and a step answer: accepted, what they give; refused, that the state stays. An accepted call gives a valid state.
+use mathlib.Core.Path.{_≡_, refl, ap, _∙_, sym, subst}
+use mathlib.Core.Bool.{Bool, true, false, cond}
+use mathlib.Core.Logic.{_≢_}
+use mathlib.Core.List.{List}
+use Prim.Native.Nat.{ℕ, _*_, _^_, _<_, _≤_}
+use native.Mathlib.Omega.{arith}
+use lib.ListN.{length}
+use lib.Dec.{eqb, ltb}
+use borrow.Author.Tests.{eq-eqb, eqb-true, eqb-false, lt-ltb}
+use Rattle.words.specs.Count.{lowest}
+use Rattle.words.proofs.Truth.{cond-both, cond-true}
+use Rattle.words.specs.Verdict.{accepted, isAccepted, between, single, andThen, outcome, thenTests}
+use Rattle.words.specs.declared.Verdict.{Verdict}
+use Rattle.words.proofs.VerdictLaws.{between-is, between-of, and-then-next, and-then-pass, single-ok, single-pass}
+use Rattle.setup.specs.Setup.{blankSetup}
+use Rattle.setup.specs.Check.{headOk, roomVerdict, setupVerdict}
+use Rattle.setup.specs.declared.Setup.{Setup}
+use Rattle.setup.proofs.SetupLaws.{SetupFits, verdict-fits, fits-verdict as setup-accepted}
+use Rattle.rules.specs.Hearing.{wordHeard, readingOf, causesOf}
+use Rattle.rules.specs.Syndrome.{outgoingOf}
+use Rattle.presence.specs.Valid.{stateVerdict, Valid}
+use Rattle.presence.specs.Opening.{fresh, blank, checkOpening, openOf}
+use Rattle.presence.specs.Step.{skewOf, markOf, ownSyndrome, judgementFor, outgoingFor, afterRound, refusedStep, acceptedStep, testedStep, readStep, stepOf}
+use Rattle.rules.specs.declared.Reading.{Reading}
+use Rattle.presence.specs.declared.State.{State}
+use Rattle.presence.specs.declared.Opened.{Opened}
+use Rattle.presence.specs.declared.Stepped.{Stepped}
+use Rattle.rules.proofs.ReceptionLaws.{bus-heard}
+use Rattle.rules.proofs.SyndromeLaws.{syndrome-lt}
+use Rattle.presence.proofs.ValidLaws.{StateFits, valid-fits, fits-verdict, fits-valid, fresh-fits, after-fits}
+
+-- ---- rules 4, 7 and 9
+
+-- An empty vote of the next step falls back on the syndrome of one step before the last where u is 1, else on that of the last.
+pub own-after : (st : State) (this : Reading)
+    → ownSyndrome (afterRound st this) ≡ cond (skewOf st) (st .latest) (judgementFor st this .syndrome)
+unfolding ownSyndrome afterRound
+own-after st this = refl
+
+-- A valid state hands out no word that fails its test.
+pub outgoing-heard : (st : State) (this : Reading) → StateFits st → wordHeard (st .setup .n) (outgoingFor st this) ≡ true
+unfolding outgoingFor outgoingOf judgementFor
+outgoing-heard st this f =
+    bus-heard (st .setup .n) _ (f .setup .most)
+    (cond-both (λ v. v < 2 ^ st .setup .n) (markOf st) (st .latest) _ (f .latest) (syndrome-lt (st .setup .n) _ _ _))
+
+-- ---- the step
+
+-- a valid state, N read words and no controller bit at N or above
+pub step-accepts : (st : State) (read : List ℕ) (controller : ℕ) → StateFits st → length read ≡ st .setup .n * 4 → controller < 2 ^ st .setup .n
+    → stepOf st read controller ≡ acceptedStep st (readingOf (st .setup .n) read controller) (causesOf (st .setup .n) read controller)
+unfolding stepOf readStep testedStep
+step-accepts st read controller f l h =
+    let this = readingOf (st .setup .n) read controller in
+    cond-true _ _ (ap isAccepted (fits-verdict st f))
+    ∙ cond-true _ _ (eq-eqb (length read) (st .setup .n * 4) l)
+    ∙ cond-true _ _ (lt-ltb controller (2 ^ st .setup .n) h)
+    ∙ cond-true _ _ (outgoing-heard st this f)
+
+-- by the tests of its state, its read, its controller bits and its word
+answered : State → Reading → List ℕ → Verdict → Bool → Bool → Bool → Bool → Stepped
+answered st this causes v a b c d =
+    cond a (cond b (cond c (cond d (acceptedStep st this causes) (refusedStep st 11 0)) (refusedStep st 10 0)) (refusedStep st 9 0))
+    (refusedStep st (v .number) (v .index))
+
+pub step-refused : (st : State) (read : List ℕ) (controller : ℕ) → stepOf st read controller .number ≢ 0
+    → stepOf st read controller .state ≡ st
+unfolding stepOf readStep testedStep acceptedStep refusedStep answered
+step-refused st read controller no-zero =
+    go (isAccepted v) (eqb (length read) (st .setup .n * 4)) (ltb controller (2 ^ st .setup .n))
+    (wordHeard (st .setup .n) (outgoingFor st this)) no-zero
+  where
+    v : Verdict
+    v = stateVerdict st
+
+    this : Reading
+    this = readingOf (st .setup .n) read controller
+
+    causes : List ℕ
+    causes = causesOf (st .setup .n) read controller
+
+    go : (a b c d : Bool) → answered st this causes v a b c d .number ≢ 0 → answered st this causes v a b c d .state ≡ st
+    go true true true true h = absurd (h refl)
+    go true true true false h = refl
+    go true true false d h = refl
+    go true false c d h = refl
+    go false b c d h = refl
+
+-- an accepted step is one of a valid state
+pub step-accepted : (st : State) (read : List ℕ) (controller : ℕ) → stepOf st read controller .number ≡ 0
+    → Valid st × (stepOf st read controller ≡ acceptedStep st (readingOf (st .setup .n) read controller) (causesOf (st .setup .n) read controller))
+unfolding stepOf readStep testedStep acceptedStep refusedStep answered
+step-accepted st read controller zero =
+    go (isAccepted v) (eqb (length read) (st .setup .n * 4)) (ltb controller (2 ^ st .setup .n))
+    (wordHeard (st .setup .n) (outgoingFor st this)) refl zero
+  where
+    v : Verdict
+    v = stateVerdict st
+
+    this : Reading
+    this = readingOf (st .setup .n) read controller
+
+    causes : List ℕ
+    causes = causesOf (st .setup .n) read controller
+
+    go : (a b c d : Bool) → isAccepted v ≡ a → answered st this causes v a b c d .number ≡ 0
+        → (v .number ≡ 0) × (answered st this causes v a b c d ≡ acceptedStep st this causes)
+    go true true true true e z = (eqb-true (v .number) 0 e, refl)
+    go true true true false e z = absurd (omega arith)
+    go true true false d e z = absurd (omega arith)
+    go true false c d e z = absurd (omega arith)
+    go false b c d e z = absurd (eqb-false (v .number) 0 e z)
+
+-- with N read words
+pub step-whole : (st : State) (read : List ℕ) (controller : ℕ) → stepOf st read controller .number ≡ 0 → length read ≡ st .setup .n * 4
+unfolding stepOf readStep testedStep refusedStep
+step-whole st read controller zero = eqb-true (length read) (st .setup .n * 4) (go _ (isAccepted v) (eqb (length read) (st .setup .n * 4)) refl zero)
+  where
+    v : Verdict
+    v = stateVerdict st
+
+    go : (t : Stepped) (a b : Bool) → isAccepted v ≡ a → cond a (cond b t (refusedStep st 9 0)) (refusedStep st (v .number) (v .index)) .number ≡ 0 → b ≡ true
+    go t true true e z = refl
+    go t true false e z = absurd (omega arith)
+    go t false b e z = absurd (eqb-false (v .number) 0 e z)
+
+-- and gives a valid state
+pub step-valid : (st : State) (read : List ℕ) (controller : ℕ) → stepOf st read controller .number ≡ 0
+    → Valid (stepOf st read controller .state)
+unfolding acceptedStep
+step-valid st read controller zero =
+    let (valid, e) = step-accepted st read controller zero in
+    rw e (fits-valid _ (after-fits st read controller (valid-fits st valid)))
+
+-- ---- opening
+
+pub open-accepts : (s : Setup) (own : ℕ) → SetupFits s → 1 ≤ own → own ≤ s .n
+    → openOf s own ≡ record { number = 0; index = 0; state = fresh s own }
+unfolding openOf checkOpening
+open-accepts s own f h l =
+    let v : checkOpening s own ≡ accepted =
+    and-then-next (setupVerdict s) _ (ap (λ (v : Verdict). v .number) (setup-accepted s f))
+    ∙ single-ok (between 1 (s .n) own) 7 0 (between-of 1 (s .n) own h l)
+    in
+    rw v
+
+-- what an accepted opening has passed
+pub open-passed : (s : Setup) (own : ℕ) → openOf s own .number ≡ 0 → SetupFits s × (1 ≤ own) × (own ≤ s .n)
+unfolding openOf checkOpening
+open-passed s own zero =
+    let (f, e) = and-then-pass (setupVerdict s) (outcome (single (between 1 (s .n) own) 7 0)) zero in
+    let (h, l) = between-is 1 (s .n) own (single-pass (between 1 (s .n) own) 7 0 (omega arith) e) in
+    (verdict-fits s f, h, l)
+
+pub open-fresh : (s : Setup) (own : ℕ) → openOf s own .number ≡ 0 → openOf s own .state ≡ fresh s own
+open-fresh s own zero =
+    let (f, h, l) = open-passed s own zero in
+    ap (λ (o : Opened). o .state) (open-accepts s own f h l)
+
+pub open-valid : (s : Setup) (own : ℕ) → openOf s own .number ≡ 0 → Valid (openOf s own .state)
+open-valid s own zero =
+    let (f, h, l) = open-passed s own zero in
+    subst Valid (sym (open-fresh s own zero)) (fits-valid (fresh s own) (fresh-fits s own f h l))
+
+-- what a refused opening holds cannot be stepped
+pub blank-refused : (read : List ℕ) (controller : ℕ) → stepOf blank read controller ≡ refusedStep blank 2 0
+unfolding stepOf stateVerdict andThen setupVerdict roomVerdict thenTests outcome lowest headOk blank blankSetup
+blank-refused read controller = refl

@@ -1,0 +1,89 @@
+-- Where the words of a state's image stand, and the fields that are read from them.
+use mathlib.Core.Path.{_≡_, refl, ap, _∙_, sym, subst}
+use mathlib.Core.List.{List, []}
+use Prim.Native.Nat.{ℕ, _+_, _<_}
+use native.Mathlib.Omega.{arith}
+use lib.ListN.{getD, length}
+use Rattle.words.specs.Word.{wordAt}
+use Rattle.words.specs.Bits.{bit}
+use Rattle.words.specs.Runs.{total, runsOf, runWord}
+use Rattle.words.proofs.RunLaws.{Follows, runs-length, runs-follow, run-words}
+use Rattle.setup.specs.Setup.{limitWord, limitIn, criticalityIn}
+use Rattle.setup.proofs.SetupLaws.{SetupFits}
+use Rattle.setup.proofs.SetupWords.{moduleOf}
+use Rattle.setup.proofs.WordFields.{limit-back, criticality-back}
+use Rattle.image.specs.Layout.{ownAt, rowsAt, latestAt, earlierAt, penaltiesAt, imageLength}
+use Rattle.image.specs.Words.{ownWord, ownIn, viewIn, syndromeWord, syndromeIn}
+use Rattle.image.specs.Rows.{rowWord}
+use Rattle.image.specs.Counters.{counterRuns}
+use Rattle.image.proofs.SingleWords.{own-back, view-back, syndrome-back}
+use Rattle.image.proofs.CounterLaws.{SetupWords}
+use Rattle.presence.specs.Image.{imageRuns, imageOf}
+use Rattle.presence.specs.declared.State.{State}
+use Rattle.presence.proofs.SmallLaws.{Small}
+
+-- the words of the image's bytes are those of its runs
+pub image-words : (st : State) → wordAt (imageOf st) ≡ runWord (imageRuns st)
+unfolding imageOf
+image-words st = run-words (imageRuns st)
+
+pub image-length : (st : State) → length (imageOf st) ≡ imageLength (st .setup .n)
+unfolding imageOf total
+image-length st = runs-length (imageRuns st) ∙ omega arith
+
+-- w are the words of the image
+pub record Stands (st : State) (w : ℕ → ℕ) : Type 0 where
+  pub p : w 1 ≡ limitWord 2 (st .setup .p)
+  pub r : w 2 ≡ limitWord 3 (st .setup .r)
+  pub modules : (j : ℕ) → j < st .setup .n → w (3 + j) ≡ moduleOf (st .setup) j
+  pub own : w (ownAt (st .setup .n)) ≡ ownWord (st .own) (st .counters .view)
+  pub rows : (j : ℕ) → j < st .setup .n → w (rowsAt (st .setup .n) + j) ≡ rowWord j (bit (st .previous .heard) j) (getD (st .previous .rows) j 0)
+  pub latest : w (latestAt (st .setup .n)) ≡ syndromeWord (st .latest)
+  pub earlier : w (earlierAt (st .setup .n)) ≡ syndromeWord (st .earlier)
+  pub counters : Follows w (penaltiesAt (st .setup .n)) (counterRuns (st .setup .n) (st .counters))
+
+pub stands-bytes : (st : State) → Stands st (wordAt (imageOf st))
+unfolding imageOf runsOf Follows
+stands-bytes st =
+    let (head, (p, (r, (modules, (own, (rows, (latest, (earlier, counters)))))))) = runs-follow [] 0 (imageRuns st) refl in
+    record {
+      p = p 0 (omega arith);
+      r = r 0 (omega arith);
+      modules = modules;
+      own = rw (none (ownAt (st .setup .n))) at (own 0 (omega arith));
+      rows = rows;
+      latest = rw (none (latestAt (st .setup .n))) at (latest 0 (omega arith));
+      earlier = rw (none (earlierAt (st .setup .n))) at (earlier 0 (omega arith));
+      counters = counters;
+    }
+  where
+    none : (k : ℕ) → k + 0 ≡ k
+    none k = omega arith
+
+pub stands : (st : State) → Stands st (runWord (imageRuns st))
+stands st = subst (Stands st) (image-words st) (stands-bytes st)
+
+-- ---- the fields
+
+pub record Read (st : State) (w : ℕ → ℕ) : Type 0 where
+  pub before : SetupWords w (st .setup .n) (st .setup .p) (st .setup .r) (st .setup .criticality) (st .counters .view)
+  pub own : ownIn (w (ownAt (st .setup .n))) ≡ st .own
+  pub latest : syndromeIn (w (latestAt (st .setup .n))) ≡ st .latest
+  pub earlier : syndromeIn (w (earlierAt (st .setup .n))) ≡ st .earlier
+
+pub state-read : (st : State) (w : ℕ → ℕ) → SetupFits (st .setup) → Small st → Stands st w → Read st w
+state-read st w f m d =
+    record {
+      before =
+          record {
+            p-there = ap limitIn (d .p) ∙ limit-back 2 (st .setup .p) (omega (arith, f .p-most));
+            r-there = ap limitIn (d .r) ∙ limit-back 3 (st .setup .r) (omega (arith, f .r-most));
+            criticality-there = λ j h.
+                ap criticalityIn (d .modules j h)
+                ∙ criticality-back j (bit (st .setup .marks) j) _ _ (omega (arith, f .each j h .within, f .most)) (omega (arith, f .each j h .most));
+            view-there = ap viewIn (d .own) ∙ view-back (st .own) (st .counters .view) (m .own) (m .view);
+          };
+      own = ap ownIn (d .own) ∙ own-back (st .own) (st .counters .view) (m .own) (m .view);
+      latest = ap syndromeIn (d .latest) ∙ syndrome-back (st .latest) (m .latest);
+      earlier = ap syndromeIn (d .earlier) ∙ syndrome-back (st .earlier) (m .earlier);
+    }

@@ -1,0 +1,43 @@
+// Where the words of a setup stand, the units of a module word, and the limits of the fields.
+ghost use mathlib.Core.Path.{_≡_};
+ghost use Prim.Native.Nat.{_<_};
+ghost use Rattle.setup.specs.Layout.{setupWords, setupLength};
+
+// The penalty limit P, the reward limit R, and the first module word.
+pub const PENALTY_LIMIT_AT: usize = 1;
+
+pub const REWARD_LIMIT_AT: usize = 2;
+
+pub const MODULES_AT: usize = 3;
+
+// 2^22 and 2^17: the send mark and the read place of a module word stand there, and the criticality below them.
+pub const MARK: u32 = 4194304;
+
+pub const PLACE: u32 = 131072;
+
+// The limits of N, P, R and a criticality.
+pub const LEAST_MODULES: usize = 2;
+
+pub const MOST_MODULES: usize = 16;
+
+pub const MOST_PENALTY_LIMIT: u32 = 1000000;
+
+pub const MOST_REWARD_LIMIT: u32 = 8000000;
+
+pub const MOST_CRITICALITY: u32 = 100000;
+
+// How many words a setup of n modules has.
+pub fn setup_words(n: usize) -> usize
+    requires { ⌜ n < 32 ⌝ }
+    ensures { λ r. ⌜ r ≡ setupWords n ⌝ }
+{
+    MODULES_AT + n
+}
+
+// Its length in bytes.
+pub fn setup_length(n: usize) -> usize
+    requires { ⌜ n < 32 ⌝ }
+    ensures { λ r. ⌜ r ≡ setupLength n ⌝ }
+{
+    setup_words(n) * 4
+}
