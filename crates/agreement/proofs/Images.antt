@@ -12,7 +12,7 @@ use Rattle.words.proofs.ByteLaws.{bytes-length}
 use Rattle.words.specs.Verdict.{accepted, isAccepted}
 use Rattle.setup.specs.Setup.{setupOf}
 use Rattle.setup.specs.Check.{setupVerdict}
-use Rattle.setup.specs.RoundTrip.{Shaped as ShapedSetup}
+use Rattle.setup.specs.RoundTrip.{ShapedSetup}
 use Rattle.words.specs.declared.Verdict.{Verdict}
 use Rattle.setup.specs.declared.Setup.{Setup}
 use Rattle.setup.proofs.SetupRoundTrip.{round-trip as setups}
@@ -33,9 +33,9 @@ use Rattle.calls.proofs.ModuleCallLaws.{handed-out}
 use Rattle.presence.proofs.RoundTrip.{round-trip as states}
 use Rattle.calls.proofs.CallAnswers.{open-writes, step-writes, save-writes}
 use Rattle.calls.proofs.Refusals.{open-accepted, step-accepted, save-accepted}
-use Rattle.page.proofs.Refusals.{refusals, open-accepted as page-open-accepted, step-accepted as page-step-accepted}
+use Rattle.page.proofs.PageRefusals.{refusals, open-accepted as page-open-accepted, step-accepted as page-step-accepted}
 use Rattle.page.proofs.Promise.{promise}
-use Rattle.agreement.specs.Session.{Session, Accepted, size, RuleFollower, readBits, readBytes, answer as answerTo, state, health, handed, Bound}
+use Rattle.agreement.specs.Session.{Session, Accepted, size, RuleFollower, readBits, readBytes, answerAt, state, health, handed, Bound}
 use Rattle.agreement.specs.Life.{Life, opens, steps}
 use Rattle.agreement.specs.Demand.{KeptTo}
 use Rattle.agreement.specs.Images.{ImageLife, opens as image-opens, steps as image-steps, page-opens, page-steps, saves, refused, SetUp, Opens, Kept, ImageAgreement, Demand3C}
@@ -91,7 +91,7 @@ module _ (S : Session) (setup : List ℕ) (set-up : SetUp S setup) where
     stepped-image k image out e z =
         let st : stateOf image ≡ state S i k = ap stateOf e ∙ back k in
         let (w, x) = step-writes image (readBytes S i (suc k)) (readBits S i (suc k)) out z in
-        (w ∙ ap (λ (s : State). imageOf (answerTo S i (suc k) s .state)) st, x ∙ ap (λ (s : State). answerTo S i (suc k) s .health) st)
+        (w ∙ ap (λ (s : State). imageOf (answerAt S i (suc k) s .state)) st, x ∙ ap (λ (s : State). answerAt S i (suc k) s .health) st)
 
     image-is : (k h : ℕ) (image : List ℕ) → ImageLife S setup i k image h → (image ≡ imageOf (state S i k)) × (h ≡ health S i k)
     unfolding health

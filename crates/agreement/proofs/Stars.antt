@@ -12,7 +12,7 @@ use Rattle.words.specs.Bits.{bit, pack}
 use Rattle.words.specs.Count.{count, any, all, lowest}
 use Rattle.words.proofs.Truth.{which, and-l, and-r, or-r}
 use Rattle.words.proofs.CountLaws.{all-at, all-intro}
-use Rattle.words.specs.Array.{array, clearFrom, bounded}
+use Rattle.words.specs.Array.{array, bounded}
 use Rattle.words.specs.Verdict.{andThen, outcome, thenTests}
 use Rattle.words.specs.Runs.{runsOf, runWord}
 use Rattle.setup.specs.Setup.{setupOf, setupBytes, blankSetup}
@@ -23,7 +23,7 @@ use Rattle.image.specs.Counters.{penaltyFits, rewardFits, countersRoomy}
 use Rattle.image.specs.Check.{checkTail}
 use Rattle.presence.specs.Valid.{roomy, stateVerdict}
 use Rattle.rules.specs.Lag.{skewed}
-use Rattle.rules.specs.Hearing.{busWord, receptionOf, isHeard, rowIn, causeIn, entryOf, readingOf, causesOf}
+use Rattle.rules.specs.Hearing.{busWord, receptionOf, isHeard, heardRow, causeIn, entryOf, readingOf, causesOf}
 use Rattle.rules.specs.Alignment.{alignedOf}
 use Rattle.vote.specs.Vote.{decision, tally, voteOf, healthOf}
 use Rattle.rules.specs.Accusation.{differsAt, accusationOf, accusationsOf}
@@ -33,10 +33,10 @@ use Rattle.presence.specs.Opening.{fresh, blank, checkOpening, openOf}
 use Rattle.presence.specs.Step.{placeOf, markOf, ownSyndrome, alignedFor, judgementFor, outgoingFor, afterRound, refusedStep, acceptedStep, testedStep, readStep, stepOf}
 use Rattle.agreement.specs.Fault.{differ, half, heard, halfIn, breakerIn, unheardIn, within, keptOver, limit}
 use Rattle.agreement.specs.Session.{Session, RuleFollower, Bound, size, u, follows, round, bitIn, wordIn, readRound, state, health, handed, sent, keptBy, kept}
-use Rattle.agreement.specs.Stars.{printed, bound, keptTo, TestsMean, StarsRight}
+use Rattle.agreement.specs.Stars.{digits, bound, keptTo, TestsMean, StarsRight}
 
 pub stars-right : StarsRight
-unfolding wordAt bytesOf bit pack count any all lowest array clearFrom bounded andThen outcome thenTests runWord runsOf setupBytes setupOf blankSetup moduleFits markFits whole headOk limitOk moduleOk markOk moduleTest checkHead checkWords checkSetup setupRoomy roomVerdict setupVerdict skewed busWord receptionOf isHeard rowIn causeIn entryOf readingOf causesOf alignedOf decision tally voteOf healthOf differsAt accusationOf accusationsOf syndromeOf votersOf judgementOf outgoingOf charged rewarded accounted accountAt accountedAt countersOf rowFits penaltyFits rewardFits ownNumberOk ownOk rowOk syndromeOk rowsRoomy countersRoomy checkTail roomy stateVerdict fresh blank checkOpening openOf placeOf markOf ownSyndrome alignedFor judgementFor outgoingFor afterRound refusedStep acceptedStep testedStep readStep stepOf differ half heard halfIn breakerIn unheardIn within keptOver limit bitIn wordIn readRound state health handed sent keptBy printed bound keptTo
+unfolding wordAt bytesOf bit pack count any all lowest array bounded andThen outcome thenTests runWord runsOf setupBytes setupOf blankSetup moduleFits markFits whole headOk limitOk moduleOk markOk moduleTest checkHead checkWords checkSetup setupRoomy roomVerdict setupVerdict skewed busWord receptionOf isHeard heardRow causeIn entryOf readingOf causesOf alignedOf decision tally voteOf healthOf differsAt accusationOf accusationsOf syndromeOf votersOf judgementOf outgoingOf charged rewarded accounted accountAt accountedAt countersOf rowFits penaltyFits rewardFits ownNumberOk ownOk rowOk syndromeOk rowsRoomy countersRoomy checkTail roomy stateVerdict fresh blank checkOpening openOf placeOf markOf ownSyndrome alignedFor judgementFor outgoingFor afterRound refusedStep acceptedStep testedStep readStep stepOf differ half heard halfIn breakerIn unheardIn within keptOver limit bitIn wordIn readRound state health handed sent keptBy digits bound keptTo
 stars-right = refl
 
 module _ (S : Session) where

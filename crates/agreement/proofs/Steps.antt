@@ -17,7 +17,7 @@ use Rattle.presence.specs.declared.Opened.{Opened}
 use Rattle.presence.specs.declared.Stepped.{Stepped}
 use Rattle.presence.proofs.ValidLaws.{StateFits, fresh-fits, after-fits}
 use Rattle.presence.proofs.StateStepLaws.{step-accepts, step-refused, open-accepts}
-use Rattle.agreement.specs.Session.{Session, Accepted, size, readBits, readBytes, answer, state, health, handed}
+use Rattle.agreement.specs.Session.{Session, Accepted, size, readBits, readBytes, answerAt, state, health, handed}
 use Rattle.agreement.specs.Life.{Life, opens, steps, refused-step, refused-opening}
 
 -- the read of module i in round k
@@ -46,7 +46,7 @@ module _ (S : Session) (ok : Accepted S) where
     opened = open-accepts (S .setup) (i + 1) setup-fits (omega arith) (omega arith)
 
     -- a step on a read of the session
-    pub taken : (k : ℕ) (st : State) → Held S i st → answer S i k st ≡ acceptedStep st (reading S i k) (causes S i k)
+    pub taken : (k : ℕ) (st : State) → Held S i st → answerAt S i k st ≡ acceptedStep st (reading S i k) (causes S i k)
     taken k st h =
         let e : st .setup .n ≡ size S = ap (λ (s : Setup). s .n) (h .setup) in
         let l : length (readBytes S i k) ≡ st .setup .n * 4 = bytes-length (size S) _ ∙ ap (λ (n : ℕ). n * 4) (sym e) in
@@ -79,7 +79,7 @@ module _ (S : Session) (ok : Accepted S) where
         subst (λ (t : Stepped). Held S i (t .state)) (sym (taken (suc k) (state S i k) (held k))) (after-held (suc k) (state S i k) (held k))
 
     module _ (k : ℕ) where
-      step-is : answer S i (suc k) (state S i k) ≡ acceptedStep (state S i k) (reading S i (suc k)) (causes S i (suc k))
+      step-is : answerAt S i (suc k) (state S i k) ≡ acceptedStep (state S i k) (reading S i (suc k)) (causes S i (suc k))
       step-is = taken (suc k) (state S i k) (held k)
 
       pub state-suc : state S i (suc k) ≡ afterRound (state S i k) (reading S i (suc k))
@@ -101,16 +101,16 @@ module _ (S : Session) (ok : Accepted S) where
     life k h st opens = (refl, refl)
     life k h st (steps {k = m} {h = g} {st = before} l) =
         let (p, q) = life m g before l in
-        (ap (λ (s : State). answer S i (suc m) s .state) p, ap (λ (s : State). answer S i (suc m) s .health) p)
+        (ap (λ (s : State). answerAt S i (suc m) s .state) p, ap (λ (s : State). answerAt S i (suc m) s .health) p)
     life k h st (refused-step {st = before} read controller l no-zero) =
         let (p, q) = life k h before l in
         (step-refused before read controller no-zero ∙ p, q)
     life k h st (refused-opening s own l no-zero) = life k h st l
 
-    pub life-accepted : (k h : ℕ) (st : State) → Life S i k st h → answer S i (suc k) st .number ≡ 0
+    pub life-accepted : (k h : ℕ) (st : State) → Life S i k st h → answerAt S i (suc k) st .number ≡ 0
     unfolding acceptedStep
     life-accepted k h st l =
-        ap (λ (s : State). answer S i (suc k) s .number) (life k h st l .0) ∙ ap (λ (t : Stepped). t .number) (step-is k)
+        ap (λ (s : State). answerAt S i (suc k) s .number) (life k h st l .0) ∙ ap (λ (t : Stepped). t .number) (step-is k)
 
     pub life-view : (k h : ℕ) (st : State) → Life S i k st h → st .counters .view < 2 ^ size S
     life-view k h st l =

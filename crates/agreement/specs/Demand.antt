@@ -7,7 +7,7 @@ use mathlib.Core.Logic.{_≢_}
 use Rattle.words.specs.Bits.{bit}
 use Rattle.presence.specs.Opening.{openOf}
 use Rattle.presence.specs.declared.State.{State}
-use Rattle.agreement.specs.Session.{Session, Accepted, size, u, RuleFollower, round, answer, state, health, Bound, unheard, halfHeard, keptBy, kept}
+use Rattle.agreement.specs.Session.{Session, Accepted, size, u, RuleFollower, round, answerAt, state, health, Bound, unheard, halfHeard, keptBy, kept}
 use Rattle.agreement.specs.Life.{Life}
 
 module _ (S : Session) where
@@ -20,7 +20,7 @@ module _ (S : Session) where
     -- its opening is accepted
     pub opened : openOf (S .setup) (i + 1) .number ≡ 0
     -- each next step on a read of the session is accepted, whatever refused calls lie between
-    pub stepped : (k h : ℕ) (st : State) → Life S i k st h → answer S i (suc k) st .number ≡ 0
+    pub stepped : (k h : ℕ) (st : State) → Life S i k st h → answerAt S i (suc k) st .number ≡ 0
     -- its view names no module above N
     pub view : (k h : ℕ) (st : State) → Life S i k st h → st .counters .view < 2 ^ size S
     -- what it holds and last answered is what the rules give by its opening and its steps: refused calls change nothing

@@ -7,14 +7,14 @@ use Rattle.setup.specs.declared.Setup.{Setup}
 use Rattle.presence.specs.Opening.{openOf}
 use Rattle.presence.specs.Step.{stepOf}
 use Rattle.presence.specs.declared.State.{State}
-use Rattle.agreement.specs.Session.{Session, answer}
+use Rattle.agreement.specs.Session.{Session, answerAt}
 
 -- Module i (its number less one): the rounds stepped, the state it holds, and the health vector that it answered last (all ones before the first step).
 pub data Life (S : Session) (i : ℕ) : ℕ → State → ℕ → Type 0 where
   -- it is opened from the setup with its own number
   opens : Life S i 0 (openOf (S .setup) (i + 1) .state) (full (S .setup .n))
   -- it makes the step of the next round, on the session's read
-  steps : {k h : ℕ} {st : State} → Life S i k st h → Life S i (suc k) (answer S i (suc k) st .state) (answer S i (suc k) st .health)
+  steps : {k h : ℕ} {st : State} → Life S i k st h → Life S i (suc k) (answerAt S i (suc k) st .state) (answerAt S i (suc k) st .health)
   -- a refused step, on any read: the state that it hands back is held
   refused-step : {k h : ℕ} {st : State} (read : List ℕ) (controller : ℕ) → Life S i k st h → stepOf st read controller .number ≢ 0
       → Life S i k (stepOf st read controller .state) h

@@ -86,25 +86,25 @@ module _ (S : Session) where
   -- ---- what a module makes of it: opened with its own number, then one step a round
 
   -- what step k of module i answers, from the state st that step k - 1 or the opening returned
-  abbrev pub answer : ℕ → ℕ → State → Stepped
-  answer i k st = stepOf st (readBytes i k) (readBits i k)
+  abbrev pub answerAt : ℕ → ℕ → State → Stepped
+  answerAt i k st = stepOf st (readBytes i k) (readBits i k)
 
   -- the state of module i after its steps 1 to k; for k = 0 the one that its opening returned
   unfoldable pub state : ℕ → ℕ → State
   state i zero = openOf (S .setup) (i + 1) .state
-  state i (suc k) = answer i (suc k) (state i k) .state
+  state i (suc k) = answerAt i (suc k) (state i k) .state
 
   -- the health vector that module i answers in step k; all ones before the first step
   unfoldable pub health : ℕ → ℕ → ℕ
   health i zero = full size
-  health i (suc k) = answer i (suc k) (state i k) .health
+  health i (suc k) = answerAt i (suc k) (state i k) .health
 
   -- ---- what is sent
 
   -- the word that module i hands out in step k; before the first step the all-ones word
   unfoldable pub handed : ℕ → ℕ → ℕ
   handed i zero = busWord (full size)
-  handed i (suc k) = answer i (suc k) (state i k) .word
+  handed i (suc k) = answerAt i (suc k) (state i k) .word
 
   -- the word that module i sends in round k: handed out in that round's step with the send mark, else in the step of the round before
   unfoldable pub sent : ℕ → ℕ → ℕ

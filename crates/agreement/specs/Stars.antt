@@ -45,9 +45,9 @@ right [] = true
 right (c ∷ cs) = eqb (c .gives) (c .says) && right cs
 
 -- a vector as it is printed, module 1 leftmost: the bits 1, 0, 1, 1 are the digits of 1011
-unfoldable pub printed : ℕ → ℕ → ℕ
-printed zero v = 0
-printed (suc n) v = printed n v * 10 + b2n (bit v n)
+unfoldable pub digits : ℕ → ℕ → ℕ
+digits zero v = 0
+digits (suc n) v = digits n v * 10 + b2n (bit v n)
 
 -- ---- setups and sessions
 
@@ -102,14 +102,14 @@ pub record TestsMean : Type 0 where
 -- the health vector that each of the four modules answers in step k
 abbrev pub healths : Session → ℕ → ℕ → List Case
 healths S k says =
-    case (printed 4 (health S 0 k)) says ∷ case (printed 4 (health S 1 k)) says
-    ∷ case (printed 4 (health S 2 k)) says ∷ case (printed 4 (health S 3 k)) says ∷ []
+    case (digits 4 (health S 0 k)) says ∷ case (digits 4 (health S 1 k)) says
+    ∷ case (digits 4 (health S 2 k)) says ∷ case (digits 4 (health S 3 k)) says ∷ []
 
 -- the view of each of the four modules after step k
 abbrev pub views : Session → ℕ → ℕ → List Case
 views S k says =
-    case (printed 4 (state S 0 k .counters .view)) says ∷ case (printed 4 (state S 1 k .counters .view)) says
-    ∷ case (printed 4 (state S 2 k .counters .view)) says ∷ case (printed 4 (state S 3 k .counters .view)) says ∷ []
+    case (digits 4 (state S 0 k .counters .view)) says ∷ case (digits 4 (state S 1 k .counters .view)) says
+    ∷ case (digits 4 (state S 2 k .counters .view)) says ∷ case (digits 4 (state S 3 k .counters .view)) says ∷ []
 
 -- ---- * votes 1,0,1 give 1; 1,0 give 1; 0,missing,0 give 0: on module 4, by modules 1, 2 and 3
 abbrev pub votes : List Case
@@ -169,16 +169,16 @@ counts [] c = c
 counts (h ∷ hs) c = counts hs (countersOf sheet h c)
 
 -- the counters of a fresh module
-abbrev pub opened : Counters
-opened = fresh sheet 1 .counters
+abbrev pub freshCounters : Counters
+freshCounters = fresh sheet 1 .counters
 
 -- By 14 module 1 alone has health 0. The view after one charge and after two; both counters after one charge and two good rounds, then three.
 abbrev pub countCases : List Case
 countCases =
-    case (printed 4 (counts (14 ∷ []) opened .view)) 1111 ∷ case (printed 4 (counts (14 ∷ 14 ∷ []) opened .view)) 111
-    ∷ case (getD (counts (14 ∷ 15 ∷ 15 ∷ []) opened .penalty) 0 9) 1 ∷ case (getD (counts (14 ∷ 15 ∷ 15 ∷ []) opened .reward) 0 9) 2
-    ∷ case (getD (counts (14 ∷ 15 ∷ 15 ∷ 15 ∷ []) opened .penalty) 0 9) 0
-    ∷ case (getD (counts (14 ∷ 15 ∷ 15 ∷ 15 ∷ []) opened .reward) 0 9) 0 ∷ []
+    case (digits 4 (counts (14 ∷ []) freshCounters .view)) 1111 ∷ case (digits 4 (counts (14 ∷ 14 ∷ []) freshCounters .view)) 111
+    ∷ case (getD (counts (14 ∷ 15 ∷ 15 ∷ []) freshCounters .penalty) 0 9) 1 ∷ case (getD (counts (14 ∷ 15 ∷ 15 ∷ []) freshCounters .reward) 0 9) 2
+    ∷ case (getD (counts (14 ∷ 15 ∷ 15 ∷ 15 ∷ []) freshCounters .penalty) 0 9) 0
+    ∷ case (getD (counts (14 ∷ 15 ∷ 15 ∷ 15 ∷ []) freshCounters .reward) 0 9) 0 ∷ []
 
 -- ---- * N = 4: 5000000F is heard, 5000001F and 4000000F are not
 abbrev pub wordCases : List Case
@@ -201,7 +201,7 @@ emptyRun = session (like 4 0 (0 ∷ 0 ∷ 0 ∷ 0 ∷ [])) (λ k i j. not (eqb k
 -- the session is bound; module 1's syndromes of rounds 3 and 2; the health vectors of step 4, and of step 5, by rows of zeros
 abbrev pub emptyCases : List Case
 emptyCases =
-    test (bound emptyRun 5) true ∷ case (printed 4 (state emptyRun 0 3 .latest)) 0 ∷ case (printed 4 (state emptyRun 0 3 .earlier)) 1111
+    test (bound emptyRun 5) true ∷ case (digits 4 (state emptyRun 0 3 .latest)) 0 ∷ case (digits 4 (state emptyRun 0 3 .earlier)) 1111
     ∷ healths emptyRun 4 1111 ++ healths emptyRun 5 0
 
 -- ---- not starred: 1, 0, 0 on module 1 give 0, which its own row, a 1, would make a tie
@@ -320,9 +320,9 @@ struckOff view = judgementOf 4 view (record { heard = 15; rows = 15 ∷ 6 ∷ 15
 -- accused, and its bit is set.
 abbrev pub struckOffCases : List Case
 struckOffCases =
-    case (printed 4 (struckOff 13 .health)) 1111 ∷ case (printed 4 (struckOff 15 .health)) 111
+    case (digits 4 (struckOff 13 .health)) 1111 ∷ case (digits 4 (struckOff 15 .health)) 111
     ∷ case (getD (struckOff 13 .accusations) 1 9) 0 ∷ case (getD (struckOff 15 .accusations) 1 9) 4
-    ∷ case (printed 4 (struckOff 13 .syndrome)) 1110 ∷ case (printed 4 (struckOff 15 .syndrome)) 1001 ∷ []
+    ∷ case (digits 4 (struckOff 13 .syndrome)) 1110 ∷ case (digits 4 (struckOff 15 .syndrome)) 1001 ∷ []
 
 -- ---- not starred (document 02, E4): the fault limit by the view, in round 4 with u = 0, over rounds 4 and 3
 

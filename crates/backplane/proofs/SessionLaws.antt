@@ -25,7 +25,7 @@ use Rattle.presence.specs.declared.State.{State}
 use Rattle.presence.specs.declared.Stepped.{Stepped}
 use Rattle.script.specs.declared.Events.{Events}
 use Rattle.agreement.specs.Fault.{senders, keptOver, limit}
-use Rattle.agreement.specs.Session.{Session, Accepted, size, follows, bitIn, wordIn, round, readRound, readBits, readBytes, answer, state, health, sent}
+use Rattle.agreement.specs.Session.{Session, Accepted, size, follows, bitIn, wordIn, round, readRound, readBits, readBytes, answerAt, state, health, sent}
 use Rattle.agreement.proofs.FaultLaws.{SendersAlike, senders-alike, kept-alike}
 use Rattle.agreement.proofs.Steps.{small, held}
 use Rattle.agreement.proofs.Aligned.{sent-is}
@@ -117,7 +117,7 @@ module _ (S : Session) (ok : Accepted S) where
       choose-bit true i j hi hj = c .bits i j hi hj
       choose-bit false i j hi hj = let e : suc k - 1 ≡ k = omega arith in rw e (c′ .bits i j hi hj)
 
-      step-as : (i : ℕ) → i < n → stepAt (S .setup) states this before i ≡ answer S i (suc k) (state S i k)
+      step-as : (i : ℕ) → i < n → stepAt (S .setup) states this before i ≡ answerAt S i (suc k) (state S i k)
       unfolding stepAt wordsRead bitsRead readRound
       step-as i hi =
           let place = getD (S .setup .places) i 0 in

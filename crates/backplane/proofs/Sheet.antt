@@ -5,7 +5,7 @@ use Rattle.words.specs.Word.{wordAt, bytesOf}
 use Rattle.words.specs.Bits.{bit, pack}
 use Rattle.words.specs.Count.{count, any, all, lowest}
 use Rattle.words.specs.Table.{updated, table}
-use Rattle.words.specs.Array.{array, clearFrom, bounded}
+use Rattle.words.specs.Array.{array, bounded}
 use Rattle.words.specs.Verdict.{andThen, outcome, thenTests}
 use Rattle.words.specs.Runs.{runsOf, runWord}
 use Rattle.setup.specs.Setup.{setupOf, setupBytes, blankSetup}
@@ -16,7 +16,7 @@ use Rattle.image.specs.Counters.{penaltyFits, rewardFits, countersRoomy}
 use Rattle.image.specs.Check.{checkTail}
 use Rattle.presence.specs.Valid.{roomy, stateVerdict}
 use Rattle.rules.specs.Lag.{skewed}
-use Rattle.rules.specs.Hearing.{busWord, receptionOf, isHeard, rowIn, causeIn, entryOf, readingOf, causesOf}
+use Rattle.rules.specs.Hearing.{busWord, receptionOf, isHeard, heardRow, causeIn, entryOf, readingOf, causesOf}
 use Rattle.rules.specs.Alignment.{alignedOf}
 use Rattle.vote.specs.Vote.{decision, tally, voteOf, healthOf}
 use Rattle.rules.specs.Accusation.{differsAt, accusationOf, accusationsOf}
@@ -37,8 +37,8 @@ use Rattle.bus.specs.Senders.{hearingOf}
 use Rattle.backplane.specs.Play.{followersView, countingView, openedStates, opened, sentWords, stepAt, steppedStates, answeredHealth, earlier, played}
 use Rattle.backplane.specs.Run.{begun, goesOn, nextOf, later, printed}
 use Rattle.backplane.specs.Output.{linesTo, outputOf}
-use Rattle.backplane.specs.Sheet.{Written}
+use Rattle.backplane.specs.Sheet.{SheetWritten}
 
-pub written : Written
-unfolding wordAt bytesOf bit pack count any all lowest array clearFrom bounded updated table andThen outcome thenTests runWord runsOf setupBytes setupOf blankSetup moduleFits markFits whole headOk limitOk moduleOk markOk moduleTest checkHead checkWords checkFront setupPart checkSetup setupRoomy roomVerdict setupVerdict readSetup skewed busWord receptionOf isHeard rowIn causeIn entryOf readingOf causesOf alignedOf decision tally voteOf healthOf differsAt accusationOf accusationsOf syndromeOf votersOf judgementOf outgoingOf charged rewarded accounted accountAt accountedAt countersOf rowFits penaltyFits rewardFits ownNumberOk ownOk rowOk syndromeOk rowsRoomy countersRoomy checkTail roomy stateVerdict fresh blank checkOpening openOf placeOf markOf ownSyndrome alignedFor judgementFor outgoingFor afterRound refusedStep acceptedStep testedStep readStep stepOf castOk eventOk playOk playRefusal eventRefusal wordRefusal scanned finished scan checkCast checkPlay checkScript none concerns withEvent isPlay lieAfter eventsAfter gather start advanced lastScan roundsOf differ half heard halfIn breakerIn unheardIn within keptOver numeral vector lineWith linesOf refusedLine roundOf faultless arrived wordsRead bitsRead followersView countingView hearingOf openedStates opened sentWords stepAt steppedStates answeredHealth earlier played begun goesOn nextOf later printed linesTo outputOf
+pub written : SheetWritten
+unfolding wordAt bytesOf bit pack count any all lowest array bounded updated table andThen outcome thenTests runWord runsOf setupBytes setupOf blankSetup moduleFits markFits whole headOk limitOk moduleOk markOk moduleTest checkHead checkWords checkFront setupPart checkSetup setupRoomy roomVerdict setupVerdict readSetup skewed busWord receptionOf isHeard heardRow causeIn entryOf readingOf causesOf alignedOf decision tally voteOf healthOf differsAt accusationOf accusationsOf syndromeOf votersOf judgementOf outgoingOf charged rewarded accounted accountAt accountedAt countersOf rowFits penaltyFits rewardFits ownNumberOk ownOk rowOk syndromeOk rowsRoomy countersRoomy checkTail roomy stateVerdict fresh blank checkOpening openOf placeOf markOf ownSyndrome alignedFor judgementFor outgoingFor afterRound refusedStep acceptedStep testedStep readStep stepOf castOk eventOk playOk playRefusal eventRefusal wordRefusal scanned finished scan checkCast checkPlay checkScript none concerns withEvent isPlay lieAfter eventsAfter gather start advanced lastScan roundsOf differ half heard halfIn breakerIn unheardIn within keptOver numeral vector lineWith linesOf refusedLine roundOf faultless arrived wordsRead bitsRead followersView countingView hearingOf openedStates opened sentWords stepAt steppedStates answeredHealth earlier played begun goesOn nextOf later printed linesTo outputOf
 written = record { sheet = refl; refused = refl; half-heard = refl }

@@ -55,7 +55,7 @@ halfHeardWords =
     ∷ 0x6000_0000 ∷ 0x7080_0002 ∷ 0x9000_0001 ∷ []
 
 -- what the bench writes for each, and it writes nothing else
-pub record Written : Type 0 where
+pub record SheetWritten : Type 0 where
   -- for the sheet's words the sheet's lines
   pub sheet : outputOf (scriptOf sheetWords) ≡ textOf sheetLines
   -- for the same words with a play of 0 rounds the number and the index of the wrong word

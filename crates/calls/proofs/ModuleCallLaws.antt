@@ -11,12 +11,12 @@ use borrow.Author.Tests.{eq-eqb, ne-eqb, eqb-true, eqb-false, not-true, not-fals
 use Rattle.words.specs.Word.{wordAt}
 use Rattle.words.specs.Bits.{bit, pack}
 use Rattle.words.proofs.BitLaws.{bit-pack}
-use Rattle.rules.specs.Hearing.{busWord, receptionOf, rowIn, causeIn}
+use Rattle.rules.specs.Hearing.{busWord, receptionOf, heardRow, causeIn}
 use Rattle.rules.specs.declared.Reading.{Reading}
 use Rattle.rules.specs.declared.Reception.{Reception}
 use Rattle.rules.specs.Syndrome.{outgoingOf}
 use Rattle.words.proofs.Truth.{cond-true, cond-false}
-use Rattle.words.specs.Verdict.{verdict, accepted, isAccepted, between}
+use Rattle.words.specs.Verdict.{verdict, accepted, isAccepted, between, allRight}
 use Rattle.setup.specs.Setup.{sizeIn, markIn, setupOf, blankSetup}
 use Rattle.words.proofs.VerdictLaws.{between-of}
 use Rattle.setup.specs.Check.{checkHead, checkWords, checkSetup, readSetup}
@@ -25,7 +25,8 @@ use Rattle.setup.specs.declared.SetupRead.{SetupRead}
 use Rattle.words.specs.declared.Verdict.{Verdict}
 use Rattle.image.specs.Layout.{ownAt, latestAt, earlierAt, imageLength}
 use Rattle.image.specs.Words.{ownIn, syndromeIn}
-use Rattle.image.specs.Check.{checkTail, checkImage}
+use Rattle.image.specs.Check.{imageTests, imageSize, checkImage}
+use Rattle.image.proofs.ImageAnswers.{size-fits, by-words}
 use Rattle.image.proofs.TailLaws.{ImageFits, image-pass, image-zero}
 use Rattle.presence.specs.Valid.{Valid}
 use Rattle.presence.specs.Opening.{fresh, openOf}
@@ -243,12 +244,18 @@ module _ (image out : List ℕ) {v : Verdict} (e : v ≡ checkImage image) where
 
 -- ---- a step that reads its image at once
 
--- good says whether the image is accepted
-pub words-wrong : (image : List ℕ) {good : Bool} → good ≡ isAccepted (checkImage image) → not good ≡ true → isAccepted (checkImage image) ≡ false
-words-wrong image {good} g t = sym g ∙ not-true good t
+-- n is the size where head and length are right, and good says whether the words are
+module _ (image : List ℕ) {n : ℕ} (e : n ≡ imageSize image) (some : n ≡ 0 → ⊥) where
+  module _ {good : Bool} (g : good ≡ allRight (imageTests image n)) where
+    pub words-wrong : not good ≡ true → isAccepted (checkImage image) ≡ false
+    words-wrong t = sym (by-words image e some g) ∙ not-true good t
 
-pub words-right : (image : List ℕ) {good : Bool} → good ≡ isAccepted (checkImage image) → not good ≡ false → checkImage image .number ≡ 0
-words-right image {good} g f = eqb-true (checkImage image .number) 0 (sym g ∙ not-false good f)
+    pub words-right : not good ≡ false → checkImage image .number ≡ 0
+    words-right f = eqb-true (checkImage image .number) 0 (sym (by-words image e some g) ∙ not-false good f)
+
+  pub state-size : {k : State} → k ≡ stateOf image → k .setup .n ≡ n
+  unfolding stateOf setupOf
+  state-size h = ap (λ (x : State). x .setup .n) h ∙ sym (size-fits image e some .2)
 
 pub step-bad : (image read : List ℕ) (controller : ℕ) (out : List ℕ) {r : Answer}
     → r ≡ answer (checkImage image .number) (checkImage image .index) 0 → isAccepted (checkImage image) ≡ false
@@ -261,13 +268,8 @@ read-valid image h z = subst Valid (sym h) (load-valid image z)
 
 -- ---- an accepted image and an output of its length
 
--- its length is that of the state's image
-pub image-room : (image : List ℕ) {k : State} → k ≡ stateOf image → checkImage image .number ≡ 0 → length image ≡ imageLength (k .setup .n)
-unfolding stateOf setupOf
-image-room image h z = image-pass image z .size ∙ ap (λ (x : State). imageLength (x .setup .n)) (sym h)
-
 module _ (image out : List ℕ) (z : checkImage image .number ≡ 0) where
-  pub same-room : (length out ≡ length image) → roomFor (stateOf image) out ≡ true
+  same-room : (length out ≡ length image) → roomFor (stateOf image) out ≡ true
   unfolding roomFor stateOf setupOf
   same-room l = eq-eqb (length out) _ (l ∙ image-pass image z .size)
 
@@ -306,9 +308,9 @@ module _ (n controller word : ℕ) where
     unfolding causeCall
     cause-bit h l = h ∙ sym (cond-true _ _ in-range ∙ cond-false _ _ (le-ltb controller 2 (omega arith)))
 
-    pub cause-told : {r : Reception} {cause row : ℕ} → controller ≤ 1 → r ≡ receptionOf n (eqb controller 1) word → cause ≡ causeIn r → row ≡ rowIn r
+    pub cause-told : {r : Reception} {cause row : ℕ} → controller ≤ 1 → r ≡ receptionOf n (eqb controller 1) word → cause ≡ causeIn r → row ≡ heardRow r
         → _≡_ {A = CauseAnswer} (record { number = 0; index = 0; cause = cause; row = row }) (causeCall n controller word)
     unfolding causeCall
     cause-told l e h k =
-        ap₂ (λ (x y : ℕ). record { number = 0; index = 0; cause = x; row = y }) (h ∙ ap causeIn e) (k ∙ ap rowIn e)
+        ap₂ (λ (x y : ℕ). record { number = 0; index = 0; cause = x; row = y }) (h ∙ ap causeIn e) (k ∙ ap heardRow e)
         ∙ sym (cond-true _ _ in-range ∙ cond-true _ _ (lt-ltb controller 2 (omega arith)))

@@ -6,7 +6,7 @@ use lib.Dec.{eqb, ltb}
 use Rattle.words.specs.Verdict.{isAccepted, between}
 use Rattle.setup.specs.Setup.{setupOf}
 use Rattle.setup.specs.Check.{checkSetup}
-use Rattle.rules.specs.Hearing.{busWord, receptionOf, rowIn, causeIn}
+use Rattle.rules.specs.Hearing.{busWord, receptionOf, heardRow, causeIn}
 use Rattle.image.specs.Check.{checkImage}
 use Rattle.presence.specs.Opening.{openOf}
 use Rattle.presence.specs.Step.{markOf, stepOf}
@@ -89,5 +89,5 @@ unfoldable pub causeCall : ℕ → ℕ → ℕ → CauseAnswer
 causeCall n controller word =
     let r = receptionOf n (eqb controller 1) word in
     cond (between 2 16 n)
-    (cond (ltb controller 2) (record { number = 0; index = 0; cause = causeIn r; row = rowIn r }) (refusedCause 10))
+    (cond (ltb controller 2) (record { number = 0; index = 0; cause = causeIn r; row = heardRow r }) (refusedCause 10))
     (refusedCause 2)

@@ -3,6 +3,7 @@ use crate::Answer;
 use crate::CauseAnswer;
 use crate::WordAnswer;
 use image::check::check_image;
+use image::check::image_size;
 use image::layout::image_length;
 use image::read::earlier_in;
 use image::read::latest_in;
@@ -81,12 +82,16 @@ pub extern "C" fn presence_step(
 ) -> Answer
     ensures { λ r. ⌜ called r (now (out .exit)) ≡ stepCall (now (image .entry)) (now (read .entry)) controller (now (out .entry)) ⌝ }
 {
-    let loaded = load(image);
+    let n = image_size(image);
+    if n == 0 {
+        return refuse_image(image);
+    }
+    let loaded = load(image, n);
     if !loaded.good {
         return refuse_image(image);
     }
     let state = loaded.state;
-    if out.len() != image.len() {
+    if out.len() != image_length(n) {
         return refuse(9, 0);
     }
     let t = state.stepped(read, controller);

@@ -12,11 +12,11 @@ use lib.Dec.{eqb, leb, ltb}
 use borrow.Author.Tests.{leb-true, ltb-true, le-leb, lt-ltb, eqb-true, eq-eqb, ne-eqb}
 use Rattle.words.specs.Word.{wordAt}
 use Rattle.words.specs.Bits.{bit}
-use Rattle.words.specs.Array.{array, clearFrom, bounded}
+use Rattle.words.specs.Array.{array, bounded}
 use Rattle.words.specs.Verdict.{Test, each}
 use Rattle.words.specs.Runs.{Run}
 use Rattle.words.proofs.Truth.{and-l, and-r, and-true, or-l, or-r, or-cases, beq-eq, beq-refl, clash, not-both}
-use Rattle.words.proofs.ArrayLaws.{array-at, array-ext, array-own, array-clear, clear-of, bounded-at, bounded-clear, bounded-of}
+use Rattle.words.proofs.ArrayLaws.{clearFrom, array-at, array-ext, array-own, array-clear, clear-of, bounded-at, bounded-clear, bounded-of}
 use Rattle.words.proofs.VerdictLaws.{Passed}
 use Rattle.words.proofs.RunLaws.{Follows}
 use Rattle.setup.specs.Limits.{mostPenaltyLimit, mostRewardLimit, mostCriticality}

@@ -10,10 +10,10 @@ use lib.Dec.{eqb, ltb}
 use borrow.Author.Tests.{eqb-true, eq-eqb, ltb-true, lt-ltb}
 use Rattle.words.specs.Word.{wordAt}
 use Rattle.words.specs.Bits.{b2n, bit, pack}
-use Rattle.words.specs.Array.{array, clearFrom}
+use Rattle.words.specs.Array.{array}
 use Rattle.words.proofs.Truth.{and-l, and-r, and-true}
 use Rattle.words.proofs.BitLaws.{b2n-bit, b2n-le, bit-pack, pack-ext, pack-own}
-use Rattle.words.proofs.ArrayLaws.{array-at, array-ext, array-own, bounded-at, bounded-clear, bounded-of}
+use Rattle.words.proofs.ArrayLaws.{clearFrom, array-at, array-ext, array-own, bounded-at, bounded-clear, bounded-of}
 use Rattle.rules.specs.Hearing.{entryOf, readingOf}
 use Rattle.rules.specs.declared.Reading.{Reading}
 use Rattle.rules.proofs.ReceptionLaws.{entry-small, reading-heard, reading-row}

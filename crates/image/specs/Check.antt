@@ -5,7 +5,7 @@ use mathlib.Core.List.{List, [], _∷_, _++_}
 use lib.ListN.{length}
 use lib.Dec.{eqb}
 use Rattle.words.specs.Word.{wordAt}
-use Rattle.words.specs.Verdict.{Test, single, andThen, firstRefusal}
+use Rattle.words.specs.Verdict.{isAccepted, Test, single, andThen, firstRefusal}
 use Rattle.words.specs.declared.Verdict.{Verdict}
 use Rattle.setup.specs.Setup.{sizeIn}
 use Rattle.setup.specs.Layout.{headAt}
@@ -31,6 +31,12 @@ checkTail w n = firstRefusal (tailTests w n)
 -- numbers 4 to 8: the words of the setup after the head, then the others
 abbrev pub imageTests : List ℕ → ℕ → List Test
 imageTests s n = wordTests s n ++ tailTests (wordAt s) n
+
+-- N by the head where numbers 1 to 3 accept, else 0
+unfoldable pub imageSize : List ℕ → ℕ
+imageSize s =
+    let n = sizeIn (wordAt s headAt) in
+    cond (isAccepted (checkHead s (eqb (length s) (imageLength n)))) n 0
 
 -- numbers 1 to 8
 unfoldable pub checkImage : List ℕ → Verdict

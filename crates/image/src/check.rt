@@ -30,7 +30,7 @@ ghost use Rattle.words.specs.Verdict.{andThen, outcome, single, each, firstRefu
 ghost use Rattle.image.specs.Layout.{ownAt, endAt, imageLength};
 ghost use Rattle.image.specs.Words.{ownNumberOk, ownOk, syndromeOk};
 ghost use Rattle.image.specs.Counters.{counterTests};
-ghost use Rattle.image.specs.Check.{sectionTest, checkTail, checkImage};
+ghost use Rattle.image.specs.Check.{sectionTest, checkTail, imageSize, checkImage};
 
 // Whether the word of module j + 1 in the section of a kind is right.
 fn word_right(s: &[u8], n: usize, kind: u32, j: usize) -> bool
@@ -128,6 +128,21 @@ pub fn check_tail(s: &[u8], n: usize) -> Verdict
     let latest = then_syndrome(rows, s, n, latest_at(n));
     let earlier = then_syndrome(latest, s, n, earlier_at(n));
     then_counters(earlier, s, n)
+}
+
+// N where head and length are right, else 0.
+pub fn image_size(s: &[u8]) -> usize
+    ensures { λ r. ⌜ r ≡ imageSize (now (s .entry)) ⌝ }
+{
+    let head = check_head(s);
+    if head.number != 0 {
+        return 0;
+    }
+    let n = size_at(s);
+    if s.len() != image_length(n) {
+        return 0;
+    }
+    n
 }
 
 // Numbers 1 to 8.

@@ -11,7 +11,7 @@ use lib.ListN.{length}
 use Rattle.words.specs.Bits.{b2n}
 use Rattle.words.proofs.Truth.{which, cond-true, cond-false}
 use Rattle.words.specs.declared.Verdict.{Verdict}
-use Rattle.page.proofs.Refusals.{refusals}
+use Rattle.page.proofs.PageRefusals.{refusals}
 use Rattle.scanlock.specs.Locks.{freshLocks, openLocks, eventOf}
 use Rattle.scanlock.specs.ByHistory.{locksAfter}
 use Rattle.scanlock.specs.SoundLocks.{SoundLocks}

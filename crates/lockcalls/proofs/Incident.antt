@@ -4,7 +4,7 @@ use mathlib.Core.Bool.{true}
 use Rattle.words.specs.Word.{wordAt, bytesOf}
 use Rattle.words.specs.Bits.{bit, pack}
 use Rattle.words.specs.Count.{count, any, all, lowest}
-use Rattle.words.specs.Array.{array, clearFrom, bounded}
+use Rattle.words.specs.Array.{array, bounded}
 use Rattle.words.specs.Verdict.{andThen, outcome, thenTests}
 use Rattle.words.specs.Runs.{runsOf, runWord}
 use Rattle.setup.specs.Setup.{setupOf, setupBytes, blankSetup}
@@ -15,7 +15,7 @@ use Rattle.image.specs.Counters.{penaltyFits, rewardFits, countersRoomy}
 use Rattle.image.specs.Check.{checkTail}
 use Rattle.presence.specs.Valid.{roomy, stateVerdict}
 use Rattle.rules.specs.Lag.{skewed}
-use Rattle.rules.specs.Hearing.{busWord, receptionOf, isHeard, rowIn, causeIn, entryOf, readingOf, causesOf}
+use Rattle.rules.specs.Hearing.{busWord, receptionOf, isHeard, heardRow, causeIn, entryOf, readingOf, causesOf}
 use Rattle.rules.specs.Alignment.{alignedOf}
 use Rattle.vote.specs.Vote.{decision, tally, voteOf, healthOf}
 use Rattle.rules.specs.Accusation.{differsAt, accusationOf, accusationsOf}
@@ -25,12 +25,12 @@ use Rattle.presence.specs.Opening.{fresh, blank, checkOpening, openOf}
 use Rattle.presence.specs.Step.{placeOf, markOf, ownSyndrome, alignedFor, judgementFor, outgoingFor, afterRound, refusedStep, acceptedStep, testedStep, readStep, stepOf}
 use Rattle.agreement.specs.Fault.{differ, half, heard, halfIn, breakerIn, unheardIn, within, keptOver, limit}
 use Rattle.agreement.specs.Session.{bitIn, wordIn, readRound, state, health, handed, sent, keptBy}
-use Rattle.agreement.specs.Stars.{printed, bound, keptTo, right}
+use Rattle.agreement.specs.Stars.{digits, bound, keptTo, right}
 use Rattle.scanlock.specs.Axis.{present, onAxis}
 use Rattle.scanlock.specs.History.{startedMotion, abortedMotion, stoppedMotion, motion, isUnfinished, isHalting, left, latestView, named, taken, number, acceptedEvents, live}
 use Rattle.lockcalls.specs.Cards.{history}
 use Rattle.lockcalls.specs.Incident.{incident}
 
 pub incident-right : right incident ≡ true
-unfolding wordAt bytesOf bit pack count any all lowest array clearFrom bounded andThen outcome thenTests runWord runsOf setupBytes setupOf blankSetup moduleFits markFits whole headOk limitOk moduleOk markOk moduleTest checkHead checkWords checkSetup setupRoomy roomVerdict setupVerdict skewed busWord receptionOf isHeard rowIn causeIn entryOf readingOf causesOf alignedOf decision tally voteOf healthOf differsAt accusationOf accusationsOf syndromeOf votersOf judgementOf outgoingOf charged rewarded accounted accountAt accountedAt countersOf rowFits penaltyFits rewardFits ownNumberOk ownOk rowOk syndromeOk rowsRoomy countersRoomy checkTail roomy stateVerdict fresh blank checkOpening openOf placeOf markOf ownSyndrome alignedFor judgementFor outgoingFor afterRound refusedStep acceptedStep testedStep readStep stepOf differ half heard halfIn breakerIn unheardIn within keptOver limit bitIn wordIn readRound state health handed sent keptBy printed bound keptTo present onAxis startedMotion abortedMotion stoppedMotion motion isUnfinished isHalting left latestView named taken number acceptedEvents live history
+unfolding wordAt bytesOf bit pack count any all lowest array bounded andThen outcome thenTests runWord runsOf setupBytes setupOf blankSetup moduleFits markFits whole headOk limitOk moduleOk markOk moduleTest checkHead checkWords checkSetup setupRoomy roomVerdict setupVerdict skewed busWord receptionOf isHeard heardRow causeIn entryOf readingOf causesOf alignedOf decision tally voteOf healthOf differsAt accusationOf accusationsOf syndromeOf votersOf judgementOf outgoingOf charged rewarded accounted accountAt accountedAt countersOf rowFits penaltyFits rewardFits ownNumberOk ownOk rowOk syndromeOk rowsRoomy countersRoomy checkTail roomy stateVerdict fresh blank checkOpening openOf placeOf markOf ownSyndrome alignedFor judgementFor outgoingFor afterRound refusedStep acceptedStep testedStep readStep stepOf differ half heard halfIn breakerIn unheardIn within keptOver limit bitIn wordIn readRound state health handed sent keptBy digits bound keptTo present onAxis startedMotion abortedMotion stoppedMotion motion isUnfinished isHalting left latestView named taken number acceptedEvents live history
 incident-right = refl

@@ -13,7 +13,7 @@ use Rattle.words.specs.Bits.{b2n}
 use Rattle.words.proofs.Truth.{which, clash, cond-true, cond-false, cond-both, and-r, and-true}
 use Rattle.page.specs.Flags.{cleared}
 use Rattle.page.specs.Page.{isPage, startsWord, pageWritten, interruptOn}
-use Rattle.page.specs.Host.{tell, readCall, Written, written, wrote, writeCall, interruptCall}
+use Rattle.page.specs.Host.{tell, readCall, Written, written, wrotePage, writeCall, interruptCall}
 use Rattle.calls.specs.declared.WordAnswer.{WordAnswer}
 
 -- neither of two, or one of them
@@ -85,7 +85,7 @@ module _ (page : List ℕ) (l : length page ≡ 64) where
         -- p is the page after the write, i the interrupt in it, and w tells it
         pub write-done : {p : List ℕ} {i : Bool} {w : ℕ} {r : WordAnswer} → not (eqb offset 8) && not (eqb offset 12) ≡ false
             → p ≡ pageWritten offset value page → i ≡ interruptOn p → w ≡ b2n i → r ≡ tell 0 w → written r p ≡ writeCall page offset value
-        unfolding writeCall wrote
+        unfolding writeCall wrotePage
         write-done {p} o g h k s =
             ap (λ (x : WordAnswer). written x p) (s ∙ ap (tell 0) (k ∙ ap b2n h))
             ∙ ap (λ (x : List ℕ). written (tell 0 (b2n (interruptOn x))) x) g
@@ -95,7 +95,7 @@ module _ (page : List ℕ) (l : length page ≡ 64) where
 
 pub write-either : (page : List ℕ) (offset value : ℕ) (P : List ℕ → Type 0) → P page → (length page ≡ 64 → P (pageWritten offset value page))
     → P (writeCall page offset value .page)
-unfolding writeCall wrote
+unfolding writeCall wrotePage
 write-either page offset value P p q =
     ⊎-elim
     (λ (t : isPage page ≡ true).
@@ -106,11 +106,11 @@ write-either page offset value P p q =
 
 -- a write that is accepted
 pub write-8 : (page : List ℕ) (value : ℕ) → length page ≡ 64 → writeCall page 8 value .page ≡ putWord page 2 (cleared (wordAt page 2) value)
-unfolding writeCall wrote pageWritten
+unfolding writeCall wrotePage pageWritten
 write-8 page value l = ap (λ (w : Written). w .page) (cond-true _ _ (eq-eqb (length page) 64 l))
 
 pub write-12 : (page : List ℕ) (value : ℕ) → length page ≡ 64 → writeCall page 12 value .page ≡ putWord page 3 value
-unfolding writeCall wrote pageWritten
+unfolding writeCall wrotePage pageWritten
 write-12 page value l = ap (λ (w : Written). w .page) (cond-true _ _ (eq-eqb (length page) 64 l))
 
 -- and one that is not

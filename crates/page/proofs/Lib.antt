@@ -4,7 +4,7 @@ pub mod PageLaws
 pub mod PageWords
 pub mod HostLaws
 pub mod WithPageLaws
-pub mod Refusals
+pub mod PageRefusals
 pub mod PageCallLaws
 pub mod OpenLaws
 pub mod PageStepLaws

@@ -44,7 +44,7 @@ use Rattle.page.proofs.PageWords.{opened-1, written-1, opened-cause, wo
 use Rattle.page.proofs.HostLaws.{write-either, write-8, write-12, write-none}
 use Rattle.page.proofs.PageStepLaws.{codes-of}
 use Rattle.page.proofs.WithPageLaws.{lent, goes-on, with-zero, with-either}
-use Rattle.page.proofs.Refusals.{refusals}
+use Rattle.page.proofs.PageRefusals.{refusals}
 use Rattle.page.proofs.ChargeLaws.{charged-grows}
 
 -- the view of a state is read back from its image

@@ -27,15 +27,15 @@ abbrev pub written : WordAnswer → List ℕ → Written
 written a page = record { answer = a; page = page }
 
 -- an accepted write tells the interrupt after it, 1 for on
-unfoldable pub wrote : List ℕ → Written
-wrote page = written (tell 0 (b2n (interruptOn page))) page
+unfoldable pub wrotePage : List ℕ → Written
+wrotePage page = written (tell 0 (b2n (interruptOn page))) page
 
 -- writing a word at a byte offset: 9, 17, then 18 for a write outside words 2 and 3
 unfoldable pub writeCall : List ℕ → ℕ → ℕ → Written
 writeCall page offset value =
     cond (isPage page)
     (cond (startsWord offset)
-    (cond (eqb offset 8 || eqb offset 12) (wrote (pageWritten offset value page)) (written (tell 18 0) page))
+    (cond (eqb offset 8 || eqb offset 12) (wrotePage (pageWritten offset value page)) (written (tell 18 0) page))
     (written (tell 17 0) page))
     (written (tell 9 0) page)
 

@@ -1,6 +1,6 @@
 -- Which calls with a page are refused, by which number, and that every other one is accepted; and what a refused call of any kind leaves of a
 -- buffer that it was lent: the bytes that were there. (demand 1; document 02, E1, "Checks") As calls/specs/Refusals.antt says it
--- of the calls without a page. Proved in proofs/Refusals.antt.
+-- of the calls without a page. Proved in proofs/PageRefusals.antt.
 use Prim.Native.Nat.{ℕ, _*_, _^_}
 use mathlib.Core.Path.{_≡_}
 use mathlib.Core.Logic.{_≢_}
@@ -28,14 +28,14 @@ use Rattle.page.specs.Calls.{PageCalled, pageCalled, pageOpenCall, pageS
 -- ---- the answers, in their order
 
 -- opening: 1 to 6 for the setup, 7 for the own number, 9 for the output or the page
-unfoldable pub openVerdict : List ℕ → ℕ → List ℕ → List ℕ → Verdict
-openVerdict setup own out page =
+unfoldable pub pageOpenVerdict : List ℕ → ℕ → List ℕ → List ℕ → Verdict
+pageOpenVerdict setup own out page =
     andThen (checkSetup setup)
     (firstRefusal (single (between 1 (sizeOf setup) own) 7 0 ∷ single (hasRoom (sizeOf setup) out && isPage page) 9 0 ∷ []))
 
 -- step: 1 to 8 for the image, 9 for the output, the read or the page, 10 for a controller bit at N or above
-unfoldable pub stepVerdict : List ℕ → List ℕ → ℕ → List ℕ → List ℕ → Verdict
-stepVerdict image read controller out page =
+unfoldable pub pageStepVerdict : List ℕ → List ℕ → ℕ → List ℕ → List ℕ → Verdict
+pageStepVerdict image read controller out page =
     andThen (checkImage image)
     (firstRefusal
     (single (hasRoom (sizeOf image) out && eqb (length read) (sizeOf image * 4) && isPage page) 9 0
@@ -43,8 +43,8 @@ stepVerdict image read controller out page =
     ∷ []))
 
 -- accepted, a call writes the image of st and the next page; refused, it answers the verdict and leaves output and page as they were
-unfoldable pub answering : Verdict → ℕ → State → List ℕ → List ℕ → List ℕ → PageCalled
-answering v health st out next page =
+unfoldable pub pageAnswering : Verdict → ℕ → State → List ℕ → List ℕ → List ℕ → PageCalled
+pageAnswering v health st out next page =
     cond (isAccepted v) (pageCalled (wrote health st) next) (pageCalled (refusedCall (v .number) (v .index) out) page)
 
 -- ---- a buffer that was lent to a refused call
@@ -67,17 +67,17 @@ pub data Refused (before : List ℕ) : List ℕ → Type 0 where
   write : (offset value : ℕ) → writeCall before offset value .answer .number ≢ 0 → Refused before (writeCall before offset value .page)
 
 -- of all calls, whatever bytes they are lent
-pub record Refusals : Type 0 where
+pub record PageRefusals : Type 0 where
   -- an accepted opening writes the fresh module and its page: health all ones, a full view, no flags, enable 0
   pub opening : (setup : List ℕ) (own : ℕ) (out page : List ℕ)
       → pageOpenCall setup own out page
-      ≡ answering (openVerdict setup own out page) 0 (fresh (setupOf setup) own) out (pageOpened (sizeOf setup) (full (sizeOf setup))) page
+      ≡ pageAnswering (pageOpenVerdict setup own out page) 0 (fresh (setupOf setup) own) out (pageOpened (sizeOf setup) (full (sizeOf setup))) page
   -- an accepted step is that of the module, with the page brought up to date, causes by the read as it came
   pub step : (image read : List ℕ) (controller : ℕ) (out page : List ℕ)
       → let st = stateOf image in
       let this = readingOf (sizeOf image) read controller in
       pageStepCall image read controller out page
-      ≡ answering (stepVerdict image read controller out page) (judgementFor st this .health) (afterRound st this) out
+      ≡ pageAnswering (pageStepVerdict image read controller out page) (judgementFor st this .health) (afterRound st this) out
       (pageStepped (sizeOf image) (st .counters .view) (judgementFor st this .health) (afterRound st this .counters .view)
       (causesOf (sizeOf image) read controller) page) page
   -- nothing lent is altered by a refusal

@@ -16,7 +16,7 @@ use Rattle.words.proofs.RunLaws.{Follows, follow-runs, runs-join}
 use Rattle.setup.specs.Layout.{setupWords}
 use Rattle.setup.specs.Setup.{sizeIn, setupOf, setupRuns, setupBytes, blankSetup}
 use Rattle.setup.specs.Check.{checkSetup, readSetup}
-use Rattle.setup.specs.RoundTrip.{Shaped as ShapedSetup}
+use Rattle.setup.specs.RoundTrip.{ShapedSetup}
 use Rattle.setup.specs.declared.Setup.{Setup}
 use Rattle.setup.specs.declared.SetupRead.{SetupRead}
 use Rattle.setup.proofs.SetupLaws.{SetupFits, verdict-fits}

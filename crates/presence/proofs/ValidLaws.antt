@@ -8,12 +8,11 @@ use lib.ListN.{getD, getD-replicate, replicate}
 use lib.Pow.{pow-mono}
 use borrow.Author.Tests.{le-leb, lt-ltb}
 use Rattle.words.specs.Bits.{bit, full}
-use Rattle.words.specs.Array.{clearFrom}
 use Rattle.words.specs.Verdict.{accepted, single, outcome}
 use Rattle.words.specs.Runs.{runWord}
 use Rattle.words.specs.declared.Verdict.{Verdict}
 use Rattle.words.proofs.BitLaws.{pack-lt, full-lt, bit-full}
-use Rattle.words.proofs.ArrayLaws.{array-at, array-clear}
+use Rattle.words.proofs.ArrayLaws.{clearFrom, array-at, array-clear}
 use Rattle.words.proofs.VerdictLaws.{and-then-next, single-ok}
 use Rattle.setup.specs.Check.{setupVerdict}
 use Rattle.setup.specs.declared.Setup.{Setup}

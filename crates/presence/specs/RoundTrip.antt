@@ -4,7 +4,7 @@ use mathlib.Core.Path.{_≡_}
 use mathlib.Core.List.{List}
 use lib.ListN.{getD, length}
 use Rattle.words.specs.Verdict.{accepted}
-use Rattle.setup.specs.RoundTrip.{Shaped as ShapedSetup}
+use Rattle.setup.specs.RoundTrip.{ShapedSetup}
 use Rattle.setup.specs.declared.Setup.{Setup}
 use Rattle.image.specs.Check.{checkImage}
 use Rattle.presence.specs.Valid.{Valid}

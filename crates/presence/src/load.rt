@@ -2,33 +2,30 @@
 use crate::Opened;
 use crate::State;
 use image::check::check_image;
+use image::check::image_size;
 use image::counters::load_counters;
-use image::layout::image_length;
 use image::read::load_words;
 use image::rows::load_rows;
-use setup::check::check_head;
-use setup::check::size_at;
 use setup::read::load_setup;
 ghost use mathlib.Core.Path.{_≡_};
-ghost use mathlib.Core.Bool.{true, false};
 ghost use Prim.Native.Nat.{_≤_};
 ghost use lib.ListN.{length};
 ghost use Rattle.words.specs.Word.{wordAt};
-ghost use Rattle.words.specs.Verdict.{isAccepted, allRight};
+ghost use Rattle.words.specs.Verdict.{allRight};
 ghost use Rattle.setup.specs.Setup.{sizeIn};
 ghost use Rattle.image.specs.Layout.{imageLength};
 ghost use Rattle.image.specs.Check.{imageTests, checkImage};
 ghost use Rattle.presence.specs.Opening.{blank as blankState};
 ghost use Rattle.presence.specs.Image.{stateOf, loadOf};
 
-// The state of an image, and whether the image is accepted.
+// The state of an image, and whether all its words are right.
 pub struct Loaded {
     pub good: bool,
     pub state: State,
 }
 
-// The state, whatever the words are, and whether all of them are right.
-fn load_state(s: &[u8], n: usize) -> Loaded
+// The state, whatever the words are, and whether all of them are right, in an image whose head and length are.
+pub fn load(s: &[u8], n: usize) -> Loaded
     requires { ⌜ (n ≤ 16) × (length (now s) ≡ imageLength n) × (n ≡ sizeIn (wordAt (now s) 0)) ⌝ }
     ensures { λ r. ⌜ (r .good ≡ allRight (imageTests (now (s .entry)) n)) × (r .state ≡ stateOf (now (s .entry))) ⌝ }
 {
@@ -53,29 +50,6 @@ fn load_state(s: &[u8], n: usize) -> Loaded
     }
 }
 
-// Head, length, then the words in one pass: whether the image is accepted, and its state if it is.
-pub fn load(image: &[u8]) -> Loaded
-    ensures { λ r. ⌜ (r .good ≡ isAccepted (checkImage (now (image .entry)))) × (r .good ≡ true → r .state ≡ stateOf (now (image .entry))) ⌝ }
-{
-    let head = check_head(image);
-    if head.number != 0 {
-        return not_loaded();
-    }
-    let n = size_at(image);
-    if image.len() != image_length(n) {
-        return not_loaded();
-    }
-    load_state(image, n)
-}
-
-// Nothing was read.
-fn not_loaded() -> Loaded
-    ensures { λ r. ⌜ r .good ≡ false ⌝ }
-{
-    let state = State::blank();
-    Loaded { good: false, state }
-}
-
 // The answer of the exact check, with no state.
 fn refused(image: &[u8]) -> Opened
     ensures { λ r. ⌜ (r .number ≡ checkImage (now (image .entry)) .number) × (r .index ≡ checkImage (now (image .entry)) .index)
@@ -95,7 +69,11 @@ impl State {
     pub fn load(image: &[u8]) -> Opened
         ensures { λ r. ⌜ r ≡ loadOf (now (image .entry)) ⌝ }
     {
-        let loaded = load(image);
+        let n = image_size(image);
+        if n == 0 {
+            return refused(image);
+        }
+        let loaded = load(image, n);
         if !loaded.good {
             return refused(image);
         }

@@ -18,7 +18,7 @@ use Rattle.words.proofs.Truth.{which, clash, and-l, and-r}
 use Rattle.words.proofs.BitLaws.{bit-high, bit-mod, bit-ext, pack-bits, pack-ext}
 use Rattle.words.proofs.CountLaws.{any-witness, any-none}
 use Rattle.words.proofs.ArrayLaws.{array-at, array-above}
-use Rattle.rules.specs.Hearing.{receptionOf, isHeard, rowIn, causeIn, entryOf, readingOf, causesOf}
+use Rattle.rules.specs.Hearing.{receptionOf, isHeard, heardRow, causeIn, entryOf, readingOf, causesOf}
 use Rattle.rules.specs.Causes.{causeOf, Causes, CasesRight}
 use Rattle.rules.specs.declared.Reception.{Reception}
 use Rattle.rules.specs.declared.Reception.the-variants.{Heard, ControllerLoss, WrongKind, StrayBits}
@@ -112,17 +112,17 @@ module _ (n : ℕ) (on : Bool) (w : ℕ) where
   unfolding causeIn
   codes = word-cases n on w (λ r. causeIn r ≤ 3) (λ e. omega arith) (λ e k. omega arith) (λ e k l. omega arith) (λ e k l. omega arith)
 
-  row : n ≤ 28 → causeOf n on w ≡ 0 → rowIn (receptionOf n on w) ≡ w % 2 ^ n
-  unfolding causeIn rowIn
+  row : n ≤ 28 → causeOf n on w ≡ 0 → heardRow (receptionOf n on w) ≡ w % 2 ^ n
+  unfolding causeIn heardRow
   row small =
-      word-cases n on w (λ r. causeIn r ≡ 0 → rowIn r ≡ w % 2 ^ n)
+      word-cases n on w (λ r. causeIn r ≡ 0 → heardRow r ≡ w % 2 ^ n)
       (λ e h. absurd (omega arith)) (λ e k h. absurd (omega arith)) (λ e k l h. absurd (omega arith))
       (λ e k l h. sym (mod-eq-of-lt l) ∙ sym (pack-bits n (w % 2 ^ 28)) ∙ pack-ext n _ _ (λ i h. bit-mod 28 w i (omega arith)) ∙ pack-bits n w)
 
-  no-row : causeOf n on w ≢ 0 → rowIn (receptionOf n on w) ≡ 0
-  unfolding causeIn rowIn
+  no-row : causeOf n on w ≢ 0 → heardRow (receptionOf n on w) ≡ 0
+  unfolding causeIn heardRow
   no-row =
-      word-cases n on w (λ r. causeIn r ≢ 0 → rowIn r ≡ 0) (λ e h. refl) (λ e k h. refl) (λ e k l h. refl) (λ e k l h. absurd (h refl))
+      word-cases n on w (λ r. causeIn r ≢ 0 → heardRow r ≡ 0) (λ e h. refl) (λ e k h. refl) (λ e k l h. refl) (λ e k l h. absurd (h refl))
 
 -- 0 is the code of what is heard, and of nothing else
 pub zero-heard : (r : Reception) → (causeIn r ≡ 0) ↔ (isHeard r ≡ true)
@@ -174,5 +174,5 @@ causes = record {
 
 -- the cases, each computed
 pub cases-right : CasesRight
-unfolding receptionOf causeIn rowIn causesOf array bit wordAt bytesOf
+unfolding receptionOf causeIn heardRow causesOf array bit wordAt bytesOf
 cases-right = (refl, refl)

@@ -14,7 +14,7 @@ use Rattle.words.specs.Array.{array}
 use Rattle.words.proofs.Truth.{cond-true, cond-false}
 use Rattle.words.proofs.BitLaws.{bit-pack, bit-mod}
 use Rattle.words.proofs.ArrayLaws.{array-at}
-use Rattle.rules.specs.Hearing.{busWord, receptionOf, isHeard, rowIn, wordHeard, entryOf, readingOf}
+use Rattle.rules.specs.Hearing.{busWord, receptionOf, isHeard, heardRow, wordHeard, entryOf, readingOf}
 use Rattle.rules.specs.declared.Reception.{Reception}
 use Rattle.rules.specs.declared.Reception.the-variants.{Heard, ControllerLoss, WrongKind, StrayBits}
 
@@ -79,7 +79,7 @@ bus-heard n v h l =
 
 -- ---- one entry
 
-pub entry-by : {r : Reception} {heard : Bool} {row : ℕ} (n : ℕ) (on : Bool) (w : ℕ) → r ≡ receptionOf n on w → heard ≡ isHeard r → row ≡ rowIn r
+pub entry-by : {r : Reception} {heard : Bool} {row : ℕ} (n : ℕ) (on : Bool) (w : ℕ) → r ≡ receptionOf n on w → heard ≡ isHeard r → row ≡ heardRow r
     → record { heard = heard; row = row } ≡ entryOf n on w
 unfolding entryOf
 entry-by n on w e h l = rw (h, l, e)
@@ -91,16 +91,16 @@ entry-heard n false w = refl
 
 -- a heard entry's row is the low bits of its word
 pub entry-row : (n : ℕ) (on : Bool) (w : ℕ) → entryOf n on w .heard ≡ true → entryOf n on w .row ≡ w % 2 ^ 28
-unfolding entryOf isHeard rowIn
+unfolding entryOf isHeard heardRow
 entry-row n on w =
-    word-cases n on w (λ r. isHeard r ≡ true → rowIn r ≡ w % 2 ^ 28) (λ e h. absurd (true≢false (sym h))) (λ e k h. absurd (true≢false (sym h)))
+    word-cases n on w (λ r. isHeard r ≡ true → heardRow r ≡ w % 2 ^ 28) (λ e h. absurd (true≢false (sym h))) (λ e k h. absurd (true≢false (sym h)))
     (λ e k l h. absurd (true≢false (sym h))) (λ e k l h. refl)
 
 -- a row has no bits at n or above, and none at all where the module is missing
 pub entry-small : (n : ℕ) (on : Bool) (w : ℕ) → entryOf n on w .row < cond (entryOf n on w .heard) (2 ^ n) 1
-unfolding entryOf isHeard rowIn
+unfolding entryOf isHeard heardRow
 entry-small n on w =
-    word-cases n on w (λ r. rowIn r < cond (isHeard r) (2 ^ n) 1) (λ e. omega arith) (λ e k. omega arith) (λ e k l. omega arith) (λ e k l. l)
+    word-cases n on w (λ r. heardRow r < cond (isHeard r) (2 ^ n) 1) (λ e. omega arith) (λ e k. omega arith) (λ e k l. omega arith) (λ e k l. l)
 
 pub entry-bit : (n : ℕ) (on : Bool) (w j : ℕ) → j < 28 → entryOf n on w .heard ≡ true → bit (entryOf n on w .row) j ≡ bit w j
 entry-bit n on w j h e = ap (λ (v : ℕ). bit v j) (entry-row n on w e) ∙ bit-mod 28 w j h

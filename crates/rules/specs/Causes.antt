@@ -8,7 +8,7 @@ use lib.ListN.{getD}
 use lib.Dec.{eqb}
 use Rattle.words.specs.Word.{wordAt, bytesOf}
 use Rattle.words.specs.Bits.{bit}
-use Rattle.rules.specs.Hearing.{receptionOf, rowIn, causeIn, readingOf, causesOf}
+use Rattle.rules.specs.Hearing.{receptionOf, heardRow, causeIn, readingOf, causesOf}
 
 -- the cause of a word w of n modules, whose controller bit is `on`
 abbrev pub causeOf : ℕ → Bool → ℕ → ℕ
@@ -29,8 +29,8 @@ pub record Causes : Type 0 where
   -- there is no other code
   pub codes : (n : ℕ) (on : Bool) (w : ℕ) → causeOf n on w ≤ 3
   -- a heard word's row is its low N bits; of any other there is none
-  pub row : (n : ℕ) (on : Bool) (w : ℕ) → n ≤ 28 → causeOf n on w ≡ 0 → rowIn (receptionOf n on w) ≡ w % 2 ^ n
-  pub no-row : (n : ℕ) (on : Bool) (w : ℕ) → causeOf n on w ≢ 0 → rowIn (receptionOf n on w) ≡ 0
+  pub row : (n : ℕ) (on : Bool) (w : ℕ) → n ≤ 28 → causeOf n on w ≡ 0 → heardRow (receptionOf n on w) ≡ w % 2 ^ n
+  pub no-row : (n : ℕ) (on : Bool) (w : ℕ) → causeOf n on w ≢ 0 → heardRow (receptionOf n on w) ≡ 0
   -- of a read, the cause of a module is that of its word and its controller bit, and 0 exactly if rule 2 hears it
   pub of-read : (n : ℕ) (read : List ℕ) (controller j : ℕ) → j < n → n ≤ 16
       → getD (causesOf n read controller) j 0 ≡ causeOf n (bit controller j) (wordAt read j)
@@ -57,7 +57,7 @@ case n on word cause row = record { n = n; on = on; word = word; cause = cause; 
 abbrev pub right : List Case → Bool
 right [] = true
 right (c ∷ cs) =
-    eqb (causeOf (c .n) (c .on) (c .word)) (c .cause) && (eqb (rowIn (receptionOf (c .n) (c .on) (c .word))) (c .row) && right cs)
+    eqb (causeOf (c .n) (c .on) (c .word)) (c .cause) && (eqb (heardRow (receptionOf (c .n) (c .on) (c .word))) (c .row) && right cs)
 
 -- heard, with the row
 abbrev pub cases : List Case

@@ -33,11 +33,11 @@ isHeard WrongKind = false
 isHeard StrayBits = false
 
 -- its row, 0 where it is not heard
-unfoldable pub rowIn : Reception → ℕ
-rowIn (Heard row) = row
-rowIn ControllerLoss = 0
-rowIn WrongKind = 0
-rowIn StrayBits = 0
+unfoldable pub heardRow : Reception → ℕ
+heardRow (Heard row) = row
+heardRow ControllerLoss = 0
+heardRow WrongKind = 0
+heardRow StrayBits = 0
 
 -- the code of the cause for which it is not heard, 0 where it is heard
 unfoldable pub causeIn : Reception → ℕ
@@ -54,7 +54,7 @@ wordHeard n w = isHeard (receptionOf n true w)
 unfoldable pub entryOf : ℕ → Bool → ℕ → Entry
 entryOf n on w =
     let r = receptionOf n on w in
-    record { heard = isHeard r; row = rowIn r }
+    record { heard = isHeard r; row = heardRow r }
 
 -- all modules of a read: word j and bit j of `controller` are those of module j + 1
 unfoldable pub readingOf : ℕ → List ℕ → ℕ → Reading

@@ -10,7 +10,7 @@ use words::word::word_at;
 ghost use mathlib.Core.Path.{_≡_};
 ghost use Prim.Native.Nat.{_*_, _^_, _≤_, _<_};
 ghost use lib.ListN.{length};
-ghost use Rattle.rules.specs.Hearing.{busWord, receptionOf, isHeard, rowIn, causeIn, entryOf, readingOf, causesOf};
+ghost use Rattle.rules.specs.Hearing.{busWord, receptionOf, isHeard, heardRow, causeIn, entryOf, readingOf, causesOf};
 
 // The bus word of a syndrome.
 pub fn bus_word(v: u32) -> u32
@@ -52,7 +52,7 @@ impl Reception {
 
     // Its row, 0 where it is not heard.
     pub fn row(self) -> u32
-        ensures { λ r. ⌜ r ≡ rowIn self ⌝ }
+        ensures { λ r. ⌜ r ≡ heardRow self ⌝ }
     {
         match self {
             Reception::Heard(row) => row,

@@ -19,7 +19,7 @@ use Rattle.setup.proofs.SetupCheckLaws.{FrontFits, front-pass}
 use Rattle.script.specs.declared.Scan.{Scan}
 use Rattle.script.specs.declared.Cursor.{Cursor}
 use Rattle.script.specs.Words.{castAt, eventsAt, mostBytes, castOk}
-use Rattle.script.specs.Check.{begun, scanned, scan, checkCast, checkPlay, checkScript}
+use Rattle.script.specs.Check.{unscanned, scanned, scan, checkCast, checkPlay, checkScript}
 use Rattle.script.specs.Cursor.{start, advanced, cursorAt}
 use Rattle.script.specs.Told.{castOf, OnlyCast}
 use Rattle.script.specs.Rounds.{roundsOf, PlaysAll}
@@ -36,7 +36,7 @@ pub record ScriptFits (s : List ℕ) : Type 0 where
   pub front : FrontFits s
   pub cast : castAt (sizeIn (wordAt s 0)) < length s / 4
   pub cast-ok : castOk (sizeIn (wordAt s 0)) (wordAt s (castAt (sizeIn (wordAt s 0)))) ≡ true
-  pub words : scan s (sizeIn (wordAt s 0)) (castOf s) (length s / 4 - eventsAt (sizeIn (wordAt s 0))) (eventsAt (sizeIn (wordAt s 0))) begun .number ≡ 0
+  pub words : scan s (sizeIn (wordAt s 0)) (castOf s) (length s / 4 - eventsAt (sizeIn (wordAt s 0))) (eventsAt (sizeIn (wordAt s 0))) unscanned .number ≡ 0
 
 pub script-pass : (s : List ℕ) → checkScript s .number ≡ 0 → ScriptFits s
 unfolding checkScript checkPlay checkCast Passed numbered
@@ -61,7 +61,7 @@ module _ (s : List ℕ) (ok : checkScript s .number ≡ 0) where
   n = sizeIn (wordAt s 0)
 
   -- all that comes after the cast
-  behind-cast : Ahead s n (castOf s) (length s / 4) (roundsOf s) (eventsAt n) begun
+  behind-cast : Ahead s n (castOf s) (length s / 4) (roundsOf s) (eventsAt n) unscanned
   unfolding roundsOf
   behind-cast =
       let f = script-pass s ok in
@@ -81,14 +81,14 @@ module _ (s : List ℕ) (ok : checkScript s .number ≡ 0) where
       rw (sym (next-round s c refl f)) (placed-round s (castOf s) (roundsOf s) k c p f))
       (which (eqb (c .left) 0))
 
-  first-linked : Linked s (eventsAt n) begun
+  first-linked : Linked s (eventsAt n) unscanned
   first-linked = record { after = omega arith; told = sym (told-first s); rounds = sym (rounds-first s (eventsAt n) (omega arith)) }
 
   placed : (k : ℕ) → At k (cursorAt s k)
   unfolding cursorAt start
   placed zero =
       record {
-        scan = begun;
+        scan = unscanned;
         told = refl;
         linked = first-linked;
         ahead = behind-cast;
@@ -130,7 +130,7 @@ module _ (s : List ℕ) (ok : checkScript s .number ≡ 0) where
   rounds-are : roundsBefore s (length s / 4) ≡ roundsOf s
   rounds-are =
       let h = within in
-      all-rounds (length s / 4 - (eventsAt n)) (eventsAt n) begun (omega arith) first-linked behind-cast
+      all-rounds (length s / 4 - (eventsAt n)) (eventsAt n) unscanned (omega arith) first-linked behind-cast
 
 pub only-cast : OnlyCast
 only-cast s ok k = placed s ok k .by-cast
@@ -140,8 +140,8 @@ plays-all s ok =
     let n = sizeIn (wordAt s 0) in
     let h = within s ok in
     record {
-      least = ahead-total s n (castOf s) (length s / 4) (roundsOf s) (length s / 4 - (eventsAt n)) (eventsAt n) begun (omega arith) (behind-cast s ok) .1;
-      most = ahead-most s n (castOf s) (length s / 4) (roundsOf s) (length s / 4 - (eventsAt n)) (eventsAt n) begun (omega arith) (behind-cast s ok) (omega arith);
+      least = ahead-total s n (castOf s) (length s / 4) (roundsOf s) (length s / 4 - (eventsAt n)) (eventsAt n) unscanned (omega arith) (behind-cast s ok) .1;
+      most = ahead-most s n (castOf s) (length s / 4) (roundsOf s) (length s / 4 - (eventsAt n)) (eventsAt n) unscanned (omega arith) (behind-cast s ok) (omega arith);
       playing = λ k l. running s ok k l .playing;
       over = λ k l.
           let m = so-far s ok k in

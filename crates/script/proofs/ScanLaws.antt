@@ -18,7 +18,7 @@ use Rattle.words.proofs.VerdictLaws.{between-is, and-then-next, and-then-stays,
 use Rattle.words.proofs.SearchLaws.{begins-refused, begins-well, ends-well}
 use Rattle.script.specs.declared.Scan.{Scan}
 use Rattle.script.specs.Words.{castAt, eventsAt, mostBytes, mostOfPlay, mostRounds, kindOf, castIn, castOk, senderIn, receiversIn, roundsIn, eventOk, playOk}
-use Rattle.script.specs.Check.{playRefusal, eventRefusal, wordRefusal, scanned, finished, scan, begun, checkCast, checkPlay, checkScript}
+use Rattle.script.specs.Check.{playRefusal, eventRefusal, wordRefusal, scanned, finished, scan, unscanned, checkCast, checkPlay, checkScript}
 
 -- ---- what a test that passed says
 
@@ -139,7 +139,7 @@ module _ {at : ℕ} (s : List ℕ) (n : ℕ) (a : at ≡ castAt n) where
         twelve : _≡_ {A = ℕ} 12 0 → ⊥
         twelve z = omega arith
 
-    pub right-cast : {v : Verdict} {from : ℕ} → not b ≡ false → from ≡ eventsAt n → v ≡ scan s n (castIn w) (length s / 4 - from) from begun → v ≡ checkPlay s n
+    pub right-cast : {v : Verdict} {from : ℕ} → not b ≡ false → from ≡ eventsAt n → v ≡ scan s n (castIn w) (length s / 4 - from) from unscanned → v ≡ checkPlay s n
     unfolding checkPlay checkCast
     right-cast {v} f g q =
         and-then-goes _ (ends-well refl ∙ begins-well 12 (castAt n) _ asked f ∙ begins-well {b = there} 14 (length s / 4) _ refl found) refl

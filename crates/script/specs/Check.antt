@@ -51,8 +51,8 @@ scan s n cast (suc left) at sc =
     andThen (verdict (wordRefusal n cast sc w) at) (scan s n cast left (at + 1) (scanned sc w))
 
 -- what is known before the first of these words
-abbrev pub begun : Scan
-begun = record { told = false; pending = false; rounds = 0 }
+abbrev pub unscanned : Scan
+unscanned = record { told = false; pending = false; rounds = 0 }
 
 -- the cast stands first, else 12, and without any word 14 at the word count
 unfoldable pub checkCast : List ℕ → ℕ → Verdict
@@ -62,7 +62,7 @@ checkCast s n =
 
 -- the cast, then the words after it
 unfoldable pub checkPlay : List ℕ → ℕ → Verdict
-checkPlay s n = andThen (checkCast s n) (scan s n (castIn (wordAt s (castAt n))) (length s / 4 - eventsAt n) (eventsAt n) begun)
+checkPlay s n = andThen (checkCast s n) (scan s n (castIn (wordAt s (castAt n))) (length s / 4 - eventsAt n) (eventsAt n) unscanned)
 
 -- the verdict on a run script: its length, the setup at its front, the rest
 unfoldable pub checkScript : List ℕ → Verdict

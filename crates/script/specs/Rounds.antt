@@ -8,7 +8,7 @@ use lib.ListN.{length}
 use Rattle.words.specs.Word.{wordAt}
 use Rattle.setup.specs.Setup.{sizeIn}
 use Rattle.script.specs.Words.{eventsAt, mostRounds}
-use Rattle.script.specs.Check.{scanned, begun, checkScript}
+use Rattle.script.specs.Check.{scanned, unscanned, checkScript}
 use Rattle.script.specs.Cursor.{cursorAt}
 use Rattle.script.specs.declared.Scan.{Scan}
 
@@ -21,7 +21,7 @@ lastScan s (suc left) at sc = lastScan s left (at + 1) (scanned sc (wordAt s at)
 unfoldable pub roundsOf : List ℕ → ℕ
 roundsOf s =
     let from = eventsAt (sizeIn (wordAt s 0)) in
-    lastScan s (length s / 4 - from) from begun .rounds
+    lastScan s (length s / 4 - from) from unscanned .rounds
 
 -- from 1 to 100,000 rounds; the script is not over in any of them, and over after them
 pub record Played (s : List ℕ) : Type 0 where

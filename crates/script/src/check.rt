@@ -22,7 +22,7 @@ ghost use Prim.Native.Nat.{_-_, _/_, _≤_};
 ghost use lib.ListN.{length};
 ghost use Rattle.words.specs.Verdict.{single, outcome};
 ghost use Rattle.script.specs.Words.{mostBytes, mostRounds, castOk, eventOk, playOk};
-ghost use Rattle.script.specs.Check.{playRefusal, eventRefusal, wordRefusal, scanned, finished, scan, begun, checkPlay, checkScript};
+ghost use Rattle.script.specs.Check.{playRefusal, eventRefusal, wordRefusal, scanned, finished, scan, unscanned, checkPlay, checkScript};
 
 // Kind 6, no bit at n or above.
 fn cast_ok(n: usize, w: u32) -> bool
@@ -140,7 +140,7 @@ fn check_end(scan: Scan, at: usize) -> Verdict
 // Numbers 12, 13 and 15 word by word from `from` on, then 14.
 fn check_tail(s: &[u8], n: usize, cast: u32, from: usize) -> Verdict
     requires { ⌜ (n ≤ 16) × (length (now s) ≤ mostBytes) × (from ≤ length (now s) / 4) ⌝ }
-    ensures { λ r. ⌜ r ≡ scan (now (s .entry)) n cast (length (now (s .entry)) / 4 - from) from begun ⌝ }
+    ensures { λ r. ⌜ r ≡ scan (now (s .entry)) n cast (length (now (s .entry)) / 4 - from) from unscanned ⌝ }
 {
     let count = s.len() / 4;
     let mut at = from;

@@ -22,7 +22,7 @@ use Rattle.setup.specs.Layout.{setupLength}
 use Rattle.setup.specs.Limits.{mostPenaltyLimit, mostRewardLimit}
 use Rattle.setup.specs.Setup.{headWord, sizeIn, limitWord, limitIn, moduleWord, markIn, placeIn, criticalityIn, setupOf, setupRuns, setupBytes}
 use Rattle.setup.specs.Check.{moduleFits, markFits, moduleOk, markOk, checkSetup, setupVerdict, readSetup}
-use Rattle.setup.specs.RoundTrip.{Shaped, RoundTrip}
+use Rattle.setup.specs.RoundTrip.{ShapedSetup, SetupRoundTrip}
 use Rattle.setup.proofs.WordFields.{head-made, head-right, limit-made, module-made}
 use Rattle.setup.proofs.SetupCheckLaws.{BytesFit, setup-pass, setup-ok, WordsFit}
 use Rattle.setup.proofs.SetupWords.{roomy-of, marks-small, places-bounded, criticality-bounded, written-length, stands, fields-back}
@@ -92,7 +92,7 @@ module _ (s : List ℕ) (e : checkSetup s .number ≡ 0) where
   read-verdict = fits-verdict (setupOf s) read-fits
 
   -- its arrays have 16 entries
-  pub read-shaped : Shaped (setupOf s)
+  pub read-shaped : ShapedSetup (setupOf s)
   unfolding setupOf
   read-shaped = record { places = array-length _ _; criticality = array-length _ _ }
 
@@ -146,7 +146,7 @@ module _ (s : Setup) (e : setupVerdict s .number ≡ 0) where
         words = subst (λ (k : ℕ). WordsFit (setupBytes s) k) (sym z) (fits-words s f);
       }
 
-  setup-back : Shaped s → setupOf (setupBytes s) ≡ s
+  setup-back : ShapedSetup s → setupOf (setupBytes s) ≡ s
   unfolding setupOf
   setup-back shaped =
       let k = fields-back s (fits-room s fits) in
@@ -165,10 +165,10 @@ module _ (s : Setup) (e : setupVerdict s .number ≡ 0) where
       rw (k .size, k .p, k .r, m, a, c)
 
   -- a setup that is written is read back
-  pub read-back : Shaped s → readSetup (setupBytes s) ≡ record { number = 0; index = 0; setup = s }
+  pub read-back : ShapedSetup s → readSetup (setupBytes s) ≡ record { number = 0; index = 0; setup = s }
   read-back shaped = sym (read-accepted (setupBytes s) (sym (setup-ok (setupBytes s) bytes-written)) (sym (setup-back shaped)) refl)
 
-pub round-trip : RoundTrip
+pub round-trip : SetupRoundTrip
 round-trip = record {
   written-read = λ s shaped e. read-back s e shaped;
   read-accepted = λ s e. (read-verdict s e, read-shaped s e);

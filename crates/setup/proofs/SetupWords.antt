@@ -10,9 +10,9 @@ use borrow.Author.Tests.{ltb-true, lt-ltb}
 use Rattle.words.specs.Word.{wordAt, putWord, kindUnit, numberUnit}
 use Rattle.words.specs.Runs.{total, runsOf, putRun, putRuns}
 use Rattle.words.specs.Bits.{bit}
-use Rattle.words.specs.Array.{clearFrom, bounded}
+use Rattle.words.specs.Array.{bounded}
 use Rattle.words.proofs.Truth.{and-l, and-r, and-true}
-use Rattle.words.proofs.ArrayLaws.{bounded-at, bounded-clear, bounded-of}
+use Rattle.words.proofs.ArrayLaws.{clearFrom, bounded-at, bounded-clear, bounded-of}
 use Rattle.words.proofs.RunLaws.{Follows, runs-length, runs-follow, put-runs, put-one}
 use Rattle.words.proofs.VerdictLaws.{Passed, numbered, between-is, tests-pass, tests-ok}
 use Rattle.words.specs.Verdict.{accepted}

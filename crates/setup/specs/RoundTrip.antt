@@ -9,14 +9,14 @@ use Rattle.setup.specs.Check.{checkSetup, setupVerdict, readSetup}
 use Rattle.setup.specs.declared.Setup.{Setup}
 
 -- the arrays of a setup have 16 entries, as those of the struct have
-pub record Shaped (s : Setup) : Type 0 where
+pub record ShapedSetup (s : Setup) : Type 0 where
   pub places : length (s .places) ≡ 16
   pub criticality : length (s .criticality) ≡ 16
 
 -- of every setup, and of all bytes
-pub record RoundTrip : Type 0 where
+pub record SetupRoundTrip : Type 0 where
   -- an accepted setup is read back from the bytes that it is written as
-  pub written-read : (s : Setup) → Shaped s → setupVerdict s .number ≡ 0 → readSetup (setupBytes s) ≡ record { number = 0; index = 0; setup = s }
+  pub written-read : (s : Setup) → ShapedSetup s → setupVerdict s .number ≡ 0 → readSetup (setupBytes s) ≡ record { number = 0; index = 0; setup = s }
   -- accepted bytes hold an accepted setup, and are the bytes that it is written as
-  pub read-accepted : (s : List ℕ) → checkSetup s .number ≡ 0 → (setupVerdict (setupOf s) ≡ accepted) × Shaped (setupOf s)
+  pub read-accepted : (s : List ℕ) → checkSetup s .number ≡ 0 → (setupVerdict (setupOf s) ≡ accepted) × ShapedSetup (setupOf s)
   pub read-written : (s : List ℕ) → ((i : ℕ) → getD s i 0 < 256) → checkSetup s .number ≡ 0 → setupBytes (setupOf s) ≡ s

@@ -61,13 +61,3 @@ firstRefusal ts = thenTests accepted ts
 unfoldable pub allRight : List Test → Bool
 allRight [] = true
 allRight (t ∷ ts) = all (t .count) (t .ok) && allRight ts
-
--- refused by `number` at `index` unless ok; then the next check
-unfoldable pub check : Bool → ℕ → ℕ → Verdict → Verdict
-check ok number index next = cond ok next (verdict number index)
-
--- One word for each of n modules, that of module j + 1 at index base + j + 1: refused at the first that is not ok; then the next check.
-unfoldable pub checkEach : ℕ → (ℕ → Bool) → ℕ → ℕ → Verdict → Verdict
-checkEach n ok number base next =
-    let first = lowest n (λ j. not (ok j)) in
-    cond (eqb first 0) next (verdict number (base + first))

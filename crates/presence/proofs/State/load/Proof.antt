@@ -1,25 +1,46 @@
 -- An accepted image gives its state, and another the answer of the check.
 use mathlib.Core.Path.{_∙_, sym}
 use borrow.Author.Tests.{not-true, not-false}
+use Rattle.image.proofs.ImageAnswers.{size-refused, size-fits, by-words}
 use Rattle.presence.proofs.StateAnswers.{load-refused, load-accepted}
 use borrow.Author.Needs.{needs}
 use Rattle.presence.proofs.State.load.Statement.{statement}
 use Rattle.presence.proofs.State.load.Tie as tie
 
-load-requires : tie.Need-load-requires
-load-requires c κs = search needs
+image-size-requires : tie.Need-image-size-requires
+image-size-requires c κs = search needs
 
 refused-requires : tie.Need-refused-requires
 refused-requires c κs = search needs
 
 returns : tie.Need-returns
 returns c =
-    load-refused _ (c .refused .ensures) (sym (c .before .before .before .load .ensures .0) ∙ not-true _ (c .before .if1 .taken))
+    load-refused _ (c .refused .ensures) (size-refused _ (sym (c .before .before .image-size .ensures) ∙ c .before .if1 .taken))
+
+load-requires : tie.Need-load-requires
+load-requires c κs = size-fits _ (c .before .image-size .ensures) (c .if1 .left)
+
+refused-requires-2 : tie.Need-refused-requires-2
+refused-requires-2 c κs = search needs
 
 returns-2 : tie.Need-returns-2
 returns-2 c =
-    let t = not-false _ (c .before .if1 .left) in
-    load-accepted _ (c .before .before .before .load .ensures .1 t) (sym (c .before .before .before .load .ensures .0) ∙ t)
+    let e = by-words _ (c .before .before .before .before .before .image-size .ensures) (c .before .before .before .before .if1 .left) (c .before .before .before .load .ensures .0) in
+    load-refused _ (c .refused2 .ensures) (sym e ∙ not-true _ (c .before .if2 .taken))
+
+returns-3 : tie.Need-returns-3
+returns-3 c =
+    let e = by-words _ (c .before .before .before .before .before .image-size .ensures) (c .before .before .before .before .if1 .left) (c .before .before .before .load .ensures .0) in
+    load-accepted _ (c .before .before .before .load .ensures .1) (sym e ∙ not-false _ (c .before .if2 .left))
 
 pub load-spec : {M : Type 1} → statement M
-load-spec = tie.close (tie.spec load-requires refused-requires returns returns-2)
+load-spec =
+    tie.close
+    (tie.spec
+    image-size-requires
+    refused-requires
+    returns
+    load-requires
+    refused-requires-2
+    returns-2
+    returns-3)

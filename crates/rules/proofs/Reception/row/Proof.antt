@@ -1,6 +1,6 @@
 -- A heard word has its row, any other none.
 use mathlib.Core.Path.{sym, ap}
-use Rattle.rules.specs.Hearing.{rowIn}
+use Rattle.rules.specs.Hearing.{heardRow}
 use borrow.Author.Needs.{needs}
 use Rattle.rules.proofs.Reception.row.Statement.{statement}
 use Rattle.rules.proofs.Reception.row.Tie as tie
@@ -18,20 +18,20 @@ enum-told-3 : tie.Need-enum-told-3
 enum-told-3 c = search needs
 
 returns : tie.Need-returns
-unfolding rowIn
-returns c = ap rowIn (sym (c .before .self .given .1))
+unfolding heardRow
+returns c = ap heardRow (sym (c .before .self .given .1))
 
 returns-2 : tie.Need-returns-2
-unfolding rowIn
-returns-2 c = ap rowIn (sym (c .enum-told .given .1))
+unfolding heardRow
+returns-2 c = ap heardRow (sym (c .enum-told .given .1))
 
 returns-3 : tie.Need-returns-3
-unfolding rowIn
-returns-3 c = ap rowIn (sym (c .enum-told2 .given .1))
+unfolding heardRow
+returns-3 c = ap heardRow (sym (c .enum-told2 .given .1))
 
 returns-4 : tie.Need-returns-4
-unfolding rowIn
-returns-4 c = ap rowIn (sym (c .enum-told3 .given .1))
+unfolding heardRow
+returns-4 c = ap heardRow (sym (c .enum-told3 .given .1))
 
 pub row-spec : {M : Type 1} → statement M
 row-spec =

@@ -3,7 +3,7 @@ use Prim.Native.Nat.{_-_, _≤_}
 use mathlib.Core.Path.{_≡_, refl, _∙_}
 use native.Mathlib.Omega.{arith}
 use Rattle.script.specs.Words.{mostRounds}
-use Rattle.script.specs.Check.{begun, scan}
+use Rattle.script.specs.Check.{unscanned, scan}
 use Rattle.script.proofs.ScanLaws.{scan-ends, scan-refused, scan-next, rounds-next}
 use borrow.Author.Needs.{needs}
 use Rattle.script.proofs.check.check_tail.Statement.{statement}
@@ -11,7 +11,7 @@ use Rattle.script.proofs.check.check_tail.Tie as tie
 
 abbrev Inv-loop : tie.InvT-loop
 Inv-loop s n cast from count at₀ so-far₀ at so-far =
-    (at ≤ count) × (so-far .rounds ≤ mostRounds) × (scan s n cast (count - at) at so-far ≡ scan s n cast (count - from) from begun)
+    (at ≤ count) × (so-far .rounds ≤ mostRounds) × (scan s n cast (count - at) at so-far ≡ scan s n cast (count - from) from unscanned)
 
 abbrev μ-loop : tie.MeasureT-loop
 μ-loop s n cast from count at₀ so-far₀ at so-far = count - at

@@ -21,7 +21,7 @@ use Rattle.presence.specs.Opening.{fresh, openOf}
 use Rattle.presence.specs.Step.{judgementFor, afterRound, acceptedStep, stepOf}
 use Rattle.presence.specs.Image.{stateOf}
 use Rattle.calls.specs.Calls.{Called, refusedCall, wrote, openCall, stepCall}
-use Rattle.calls.specs.Refusals.{sizeOf, hasRoom, answering as answeringWithout}
+use Rattle.calls.specs.Refusals.{sizeOf, hasRoom, answering}
 use Rattle.rules.specs.declared.Reading.{Reading}
 use Rattle.presence.specs.declared.State.{State}
 use Rattle.presence.specs.declared.Stepped.{Stepped}
@@ -29,9 +29,9 @@ use Rattle.calls.proofs.CallAnswers.{open-passed, open-keeps, step-passed, step
 use Rattle.presence.proofs.StateStepLaws.{step-accepted as step-of-struct, open-fresh}
 use Rattle.calls.proofs.Refusals.{refusals as without-page, both-accept, two-answers, open-verdict as open-without, step-verdict as step-without}
 use Rattle.page.specs.Page.{isPage, startsWord, pageOpened, pageStepped, pageWritten}
-use Rattle.page.specs.Host.{tell, written, wrote as wrote-page, writeCall}
+use Rattle.page.specs.Host.{tell, written, wrotePage, writeCall}
 use Rattle.page.specs.Calls.{PageCalled, pageCalled, withPage, pageOpenCall, pageStepCall}
-use Rattle.page.specs.Refusals.{openVerdict, stepVerdict, answering, Refused, opening, step, saving, page-opening, page-step, page-of-opening, page-of-step, write, Refusals}
+use Rattle.page.specs.Refusals.{pageOpenVerdict, pageStepVerdict, pageAnswering, Refused, opening, step, saving, page-opening, page-step, page-of-opening, page-of-step, write, PageRefusals}
 use Rattle.page.proofs.WithPageLaws.{with-zero}
 
 module _ (health : ℕ) (st : State) (out page next : List ℕ) where
@@ -41,8 +41,8 @@ module _ (health : ℕ) (st : State) (out page next : List ℕ) where
 
   -- a call that was refused before it came to the page
   before : (v : Verdict) (passed long : Bool) → isAccepted v ≡ false → passed ≡ false
-      → with-by passed long (answeringWithout v health st out) ≡ answering v health st out next page
-  unfolding with-by answeringWithout answering refusedCall
+      → with-by passed long (answering v health st out) ≡ pageAnswering v health st out next page
+  unfolding with-by answering pageAnswering refusedCall
   before v true long e f = clash true refl f
   before v false long e f =
       ap (λ (c : Called). pageCalled c (cond (eqb (c .answer .number) 0) next page)) (cond-false (wrote health st) _ e)
@@ -52,23 +52,23 @@ module _ (health : ℕ) (st : State) (out page next : List ℕ) where
   -- by the tests of the setup, of the own number, of the room and of the page
   open-chain : (v : Verdict) (a b c d : Bool) → isAccepted v ≡ a
       → let w = cond a (cond b (cond c accepted (verdict 9 0)) (verdict 7 0)) v in
-      with-by (eqb (answeringWithout w health st out .answer .number) 0) d (answeringWithout w health st out)
-      ≡ answering (cond a (cond b (cond (c && d) accepted (verdict 9 0)) (verdict 7 0)) v) health st out next page
-  unfolding with-by answeringWithout answering wrote refusedCall
+      with-by (eqb (answering w health st out .answer .number) 0) d (answering w health st out)
+      ≡ pageAnswering (cond a (cond b (cond (c && d) accepted (verdict 9 0)) (verdict 7 0)) v) health st out next page
+  unfolding with-by answering pageAnswering wrote refusedCall
   open-chain v true true true true e = refl
   open-chain v true true true false e = refl
   open-chain v true true false d e = refl
   open-chain v true false c d e = refl
   open-chain v false b c d e =
-      before v (eqb (answeringWithout v health st out .answer .number) 0) d e
+      before v (eqb (answering v health st out .answer .number) 0) d e
       (ap (λ (x : Called). eqb (x .answer .number) 0) (cond-false (wrote health st) _ e) ∙ e)
 
   -- by the tests of the image, of the room, of the read, of the page and of the controller bits
   step-chain : (v : Verdict) (a b c d k : Bool) → isAccepted v ≡ a
       → let w = cond a (cond (b && c) (cond k accepted (verdict 10 0)) (verdict 9 0)) v in
-      with-by a d (answeringWithout w health st out)
-      ≡ answering (cond a (cond (b && c && d) (cond k accepted (verdict 10 0)) (verdict 9 0)) v) health st out next page
-  unfolding with-by answeringWithout answering wrote refusedCall
+      with-by a d (answering w health st out)
+      ≡ pageAnswering (cond a (cond (b && c && d) (cond k accepted (verdict 10 0)) (verdict 9 0)) v) health st out next page
+  unfolding with-by answering pageAnswering wrote refusedCall
   step-chain v true true true true true e = refl
   step-chain v true true true true false e = refl
   step-chain v true true true false true e = refl
@@ -81,8 +81,8 @@ module _ (health : ℕ) (st : State) (out page next : List ℕ) where
 
 -- of an accepted call the next page may be taken by an equal
 next-by : (v : Verdict) (health : ℕ) (st : State) (out next next′ page : List ℕ) → (v .number ≡ 0 → next ≡ next′)
-    → answering v health st out next page ≡ answering v health st out next′ page
-unfolding answering
+    → pageAnswering v health st out next page ≡ pageAnswering v health st out next′ page
+unfolding pageAnswering
 next-by v health st out next next′ page h =
     ⊎-elim
     (λ (t : isAccepted v ≡ true).
@@ -91,8 +91,8 @@ next-by v health st out next next′ page h =
     (λ (f : isAccepted v ≡ false). cond-false _ _ f ∙ sym (cond-false _ _ f)) (which (isAccepted v))
 
 -- what is answered is the number of the verdict
-number-is : (v : Verdict) (health : ℕ) (st : State) (out next page : List ℕ) → answering v health st out next page .call .answer .number ≡ v .number
-unfolding answering wrote refusedCall
+number-is : (v : Verdict) (health : ℕ) (st : State) (out next page : List ℕ) → pageAnswering v health st out next page .call .answer .number ≡ v .number
+unfolding pageAnswering wrote refusedCall
 number-is v health st out next page =
     ⊎-elim
     (λ (t : isAccepted v ≡ true). ap (λ (c : PageCalled). c .call .answer .number) (cond-true _ _ t) ∙ sym (eqb-true (v .number) 0 t))
@@ -104,42 +104,42 @@ module _ (setup : List ℕ) (own : ℕ) (out page : List ℕ) where
   abbrev opened : State
   opened = openOf (setupOf setup) own .state
 
-  open-verdict : openVerdict setup own out page
+  open-verdict : pageOpenVerdict setup own out page
       ≡ cond (isAccepted (checkSetup setup))
       (cond (between 1 (sizeOf setup) own) (cond (hasRoom (sizeOf setup) out && isPage page) accepted (verdict 9 0)) (verdict 7 0)) (checkSetup setup)
-  unfolding openVerdict andThen
+  unfolding pageOpenVerdict andThen
   open-verdict =
       ap (λ (v : Verdict). cond (isAccepted (checkSetup setup)) v (checkSetup setup))
       (two-answers 7 9 refl (between 1 (sizeOf setup) own) (hasRoom (sizeOf setup) out && isPage page))
 
   opens : pageOpenCall setup own out page
-      ≡ answering (openVerdict setup own out page) 0 (fresh (setupOf setup) own) out (pageOpened (opened .setup .n) (opened .counters .view)) page
+      ≡ pageAnswering (pageOpenVerdict setup own out page) 0 (fresh (setupOf setup) own) out (pageOpened (opened .setup .n) (opened .counters .view)) page
   unfolding pageOpenCall withPage with-by
   opens =
       ap
       (λ (c : Called).
       with-by 0 (fresh (setupOf setup) own) out page (pageOpened (opened .setup .n) (opened .counters .view)) (eqb (c .answer .number) 0) (isPage page) c)
-      (without-page .opening setup own out ∙ ap (λ (v : Verdict). answeringWithout v 0 (fresh (setupOf setup) own) out) (open-without setup own out))
+      (without-page .opening setup own out ∙ ap (λ (v : Verdict). answering v 0 (fresh (setupOf setup) own) out) (open-without setup own out))
       ∙ open-chain 0 (fresh (setupOf setup) own) out page _ (checkSetup setup) (isAccepted (checkSetup setup)) (between 1 (sizeOf setup) own)
       (hasRoom (sizeOf setup) out) (isPage page) refl
-      ∙ ap (λ (v : Verdict). answering v 0 (fresh (setupOf setup) own) out (pageOpened (opened .setup .n) (opened .counters .view)) page) (sym open-verdict)
+      ∙ ap (λ (v : Verdict). pageAnswering v 0 (fresh (setupOf setup) own) out (pageOpened (opened .setup .n) (opened .counters .view)) page) (sym open-verdict)
 
   -- the module that is opened is fresh
-  opened-fresh : openVerdict setup own out page .number ≡ 0 → opened ≡ fresh (setupOf setup) own
+  opened-fresh : pageOpenVerdict setup own out page .number ≡ 0 → opened ≡ fresh (setupOf setup) own
   unfolding pageOpenCall
   opened-fresh z =
       let c : pageOpenCall setup own out page .call .answer .number ≡ 0 =
-      ap (λ (x : PageCalled). x .call .answer .number) opens ∙ number-is (openVerdict setup own out page) 0 _ out _ page ∙ z
+      ap (λ (x : PageCalled). x .call .answer .number) opens ∙ number-is (pageOpenVerdict setup own out page) 0 _ out _ page ∙ z
       in
       let o = with-zero _ (openCall setup own out) out page (pageOpened (opened .setup .n) (opened .counters .view)) c in
       open-fresh (setupOf setup) own (open-passed setup own out (o .1) .1)
 
   opening-is : pageOpenCall setup own out page
-      ≡ answering (openVerdict setup own out page) 0 (fresh (setupOf setup) own) out (pageOpened (sizeOf setup) (full (sizeOf setup))) page
+      ≡ pageAnswering (pageOpenVerdict setup own out page) 0 (fresh (setupOf setup) own) out (pageOpened (sizeOf setup) (full (sizeOf setup))) page
   unfolding fresh setupOf
   opening-is =
       opens
-      ∙ next-by (openVerdict setup own out page) 0 _ out _ _ page (λ z. ap (λ (s : State). pageOpened (s .setup .n) (s .counters .view)) (opened-fresh z))
+      ∙ next-by (pageOpenVerdict setup own out page) 0 _ out _ _ page (λ z. ap (λ (s : State). pageOpened (s .setup .n) (s .counters .view)) (opened-fresh z))
 
 -- ---- step
 
@@ -154,29 +154,29 @@ module _ (image read : List ℕ) (controller : ℕ) (out page : List ℕ) where
   next t = pageStepped (st .setup .n) (st .counters .view) (t .health) (t .state .counters .view) (t .causes) page
 
   abbrev v : Verdict
-  v = stepVerdict image read controller out page
+  v = pageStepVerdict image read controller out page
 
   step-verdict : v
       ≡ cond (isAccepted (checkImage image))
       (cond (hasRoom (sizeOf image) out && eqb (length read) (sizeOf image * 4) && isPage page) (cond (ltb controller (2 ^ sizeOf image)) accepted (verdict 10 0))
       (verdict 9 0)) (checkImage image)
-  unfolding stepVerdict andThen
+  unfolding pageStepVerdict andThen
   step-verdict =
       ap (λ (v : Verdict). cond (isAccepted (checkImage image)) v (checkImage image))
       (two-answers 9 10 refl (hasRoom (sizeOf image) out && eqb (length read) (sizeOf image * 4) && isPage page) (ltb controller (2 ^ sizeOf image)))
 
   steps : pageStepCall image read controller out page
-      ≡ answering v (judgementFor st this .health) (afterRound st this) out (next (stepOf st read controller)) page
+      ≡ pageAnswering v (judgementFor st this .health) (afterRound st this) out (next (stepOf st read controller)) page
   unfolding pageStepCall withPage with-by
   steps =
       ap
       (λ (c : Called).
       with-by (judgementFor st this .health) (afterRound st this) out page (next (stepOf st read controller)) (isAccepted (checkImage image)) (isPage page) c)
       (without-page .step image read controller out
-      ∙ ap (λ (v : Verdict). answeringWithout v (judgementFor st this .health) (afterRound st this) out) (step-without image read controller out))
+      ∙ ap (λ (v : Verdict). answering v (judgementFor st this .health) (afterRound st this) out) (step-without image read controller out))
       ∙ step-chain (judgementFor st this .health) (afterRound st this) out page _ (checkImage image) (isAccepted (checkImage image))
       (hasRoom (sizeOf image) out) (eqb (length read) (sizeOf image * 4)) (isPage page) (ltb controller (2 ^ sizeOf image)) refl
-      ∙ ap (λ (v : Verdict). answering v (judgementFor st this .health) (afterRound st this) out (next (stepOf st read controller)) page) (sym step-verdict)
+      ∙ ap (λ (v : Verdict). pageAnswering v (judgementFor st this .health) (afterRound st this) out (next (stepOf st read controller)) page) (sym step-verdict)
 
   -- the step is an accepted one of the struct
   stepped-so : v .number ≡ 0 → stepOf st read controller ≡ acceptedStep st this (causesOf (sizeOf image) read controller)
@@ -189,7 +189,7 @@ module _ (image read : List ℕ) (controller : ℕ) (out page : List ℕ) where
       step-of-struct st read controller (step-passed image read controller out (s .1) .1) .1
 
   step-is : pageStepCall image read controller out page
-      ≡ answering v (judgementFor st this .health) (afterRound st this) out
+      ≡ pageAnswering v (judgementFor st this .health) (afterRound st this) out
       (pageStepped (sizeOf image) (st .counters .view) (judgementFor st this .health) (afterRound st this .counters .view)
       (causesOf (sizeOf image) read controller) page) page
   unfolding acceptedStep stateOf setupOf
@@ -200,22 +200,22 @@ module _ (image read : List ℕ) (controller : ℕ) (out page : List ℕ) where
 
 pub open-accepted : (setup : List ℕ) (own : ℕ) (out page : List ℕ) → checkSetup setup .number ≡ 0 → 1 ≤ own → own ≤ sizeOf setup
     → length out ≡ imageLength (sizeOf setup) → length page ≡ 64 → pageOpenCall setup own out page .call .answer .number ≡ 0
-unfolding openVerdict Passed
+unfolding pageOpenVerdict Passed
 open-accepted setup own out page z h l room long =
-    let e : openVerdict setup own out page ≡ accepted =
+    let e : pageOpenVerdict setup own out page ≡ accepted =
     both-accept (checkSetup setup) _ z
     (tests-ok (single (between 1 (sizeOf setup) own) 7 0 ∷ single (hasRoom (sizeOf setup) out && isPage page) 9 0 ∷ [])
     (λ _ _. between-of 1 (sizeOf setup) own h l, (λ _ _. and-true (hasRoom (sizeOf setup) out) _ (eq-eqb _ _ room) (eq-eqb (length page) 64 long), tt)))
     in
-    ap (λ (c : PageCalled). c .call .answer .number) (opening-is setup own out page) ∙ number-is (openVerdict setup own out page) 0 _ out _ page
+    ap (λ (c : PageCalled). c .call .answer .number) (opening-is setup own out page) ∙ number-is (pageOpenVerdict setup own out page) 0 _ out _ page
     ∙ ap (λ (v : Verdict). v .number) e
 
 pub step-accepted : (image read : List ℕ) (controller : ℕ) (out page : List ℕ) → checkImage image .number ≡ 0
     → length out ≡ imageLength (sizeOf image) → length read ≡ sizeOf image * 4 → controller < 2 ^ sizeOf image → length page ≡ 64
     → pageStepCall image read controller out page .call .answer .number ≡ 0
-unfolding stepVerdict Passed
+unfolding pageStepVerdict Passed
 step-accepted image read controller out page z room whole bits long =
-    let e : stepVerdict image read controller out page ≡ accepted =
+    let e : pageStepVerdict image read controller out page ≡ accepted =
     both-accept (checkImage image) _ z
     (tests-ok
     (single (hasRoom (sizeOf image) out && eqb (length read) (sizeOf image * 4) && isPage page) 9 0 ∷ single (ltb controller (2 ^ sizeOf image)) 10 0 ∷ []) (
@@ -225,23 +225,23 @@ step-accepted image read controller out page z room whole bits long =
       (λ _ _. lt-ltb controller _ bits, tt),
     ))
     in
-    ap (λ (c : PageCalled). c .call .answer .number) (step-is image read controller out page) ∙ number-is (stepVerdict image read controller out page) _ _ out _ page
+    ap (λ (c : PageCalled). c .call .answer .number) (step-is image read controller out page) ∙ number-is (pageStepVerdict image read controller out page) _ _ out _ page
     ∙ ap (λ (v : Verdict). v .number) e
 
 -- ---- a refused call leaves what it was lent
 
 -- the output of a call with a page
-out-kept : (v : Verdict) (health : ℕ) (st : State) (out next page : List ℕ) → answering v health st out next page .call .answer .number ≢ 0
-    → answering v health st out next page .call .out ≡ out
-unfolding answering refusedCall
+out-kept : (v : Verdict) (health : ℕ) (st : State) (out next page : List ℕ) → pageAnswering v health st out next page .call .answer .number ≢ 0
+    → pageAnswering v health st out next page .call .out ≡ out
+unfolding pageAnswering refusedCall
 out-kept v health st out next page f =
     ap (λ (c : PageCalled). c .call .out)
     (cond-false _ _ (ne-eqb (v .number) 0 (λ z. f (number-is v health st out next page ∙ z))))
 
 -- its page
-page-kept : (v : Verdict) (health : ℕ) (st : State) (out next page : List ℕ) → answering v health st out next page .call .answer .number ≢ 0
-    → answering v health st out next page .page ≡ page
-unfolding answering
+page-kept : (v : Verdict) (health : ℕ) (st : State) (out next page : List ℕ) → pageAnswering v health st out next page .call .answer .number ≢ 0
+    → pageAnswering v health st out next page .page ≡ page
+unfolding pageAnswering
 page-kept v health st out next page f =
     ap (λ (c : PageCalled). c .page) (cond-false _ _ (ne-eqb (v .number) 0 (λ z. f (number-is v health st out next page ∙ z))))
 
@@ -250,13 +250,13 @@ kept-by : (P : PageCalled → Type 0) {c a : PageCalled} → c ≡ a → (a .cal
 kept-by P e h f = subst P (sym e) (h (subst (λ (x : PageCalled). x .call .answer .number ≢ 0) e f))
 
 write-kept : (page : List ℕ) (offset value : ℕ) → writeCall page offset value .answer .number ≢ 0 → writeCall page offset value .page ≡ page
-unfolding writeCall wrote-page
+unfolding writeCall wrotePage
 write-kept page offset value f = go (isPage page) (startsWord offset) (eqb offset 8 || eqb offset 12) f
   where
     go : (a b c : Bool)
-        → cond a (cond b (cond c (wrote-page (pageWritten offset value page)) (written (tell 18 0) page)) (written (tell 17 0) page)) (written (tell 9 0) page)
+        → cond a (cond b (cond c (wrotePage (pageWritten offset value page)) (written (tell 18 0) page)) (written (tell 17 0) page)) (written (tell 9 0) page)
         .answer .number ≢ 0
-        → cond a (cond b (cond c (wrote-page (pageWritten offset value page)) (written (tell 18 0) page)) (written (tell 17 0) page)) (written (tell 9 0) page)
+        → cond a (cond b (cond c (wrotePage (pageWritten offset value page)) (written (tell 18 0) page)) (written (tell 17 0) page)) (written (tell 9 0) page)
         .page ≡ page
     go true true true f = absurd (f refl)
     go true true false f = refl
@@ -277,5 +277,5 @@ unaltered before after (page-of-step image read controller out f) =
     kept-by (λ (c : PageCalled). c .page ≡ before) (step-is image read controller out before) (page-kept _ _ _ out _ before) f
 unaltered before after (write offset value f) = write-kept before offset value f
 
-pub refusals : Refusals
+pub refusals : PageRefusals
 refusals = record { opening = opening-is; step = step-is; unaltered = unaltered }
