@@ -29,9 +29,9 @@
  * A module's state is its image, a block of bytes that the caller keeps.
  * Nothing is kept between calls: the result of a call and the bytes it writes
  * follow from its arguments alone.  The functions use no heap, no static
- * variables and no C library calls.  presence_step takes 1,888 bytes of stack
- * (measured, for every N), presence_page_step 2,592; no other call takes more
- * than 1,120.
+ * variables and no C library calls.  presence_step takes 1,648 bytes of stack
+ * (measured, for every N), presence_page_step 2,624; no other call takes more
+ * than 1,520.
  *
  * Instructions of an accepted presence_step and presence_page_step (page),
  * the most that were counted in quiet and loud rounds, with every l at N and
@@ -39,11 +39,11 @@
  * 5 to 7 more than 8, 11 more than 12, 13 to 15 more than 16.
  *
  *    N   step   page        N   step   page        N   step   page
- *    2  1,411  1,619        7  2,479  2,746       12  2,479  2,746
- *    3  1,694  1,924        8  1,785  2,016       13  2,868  3,159
- *    4  1,524  1,723        9  2,187  2,440       14  3,151  3,464
- *    5  1,913  2,136       10  2,470  2,745       15  3,434  3,769
- *    6  2,196  2,441       11  2,753  3,050       16  2,654  2,950
+ *    2  1,324  1,576        7  2,387  2,717       12  2,397  2,719
+ *    3  1,603  1,880        8  1,701  1,977       13  2,786  3,132
+ *    4  1,440  1,696        9  2,107  2,405       14  3,065  3,436
+ *    5  1,829  2,109       10  2,386  2,709       15  3,344  3,740
+ *    6  2,108  2,413       11  2,665  3,013       16  2,574  2,911
  *
  *
  * CALLS AT THE SAME TIME

@@ -175,10 +175,14 @@ def text_bytes(path):
     return {os.path.basename(line[5]): int(line[0]) for line in lines}
 
 
+# the object that holds an implementation's calls
+OBJECTS = {"plain": "plain.o", "presence": "calls.o"}
+
+
 def print_code_sizes(both, archive):
     print("\nCode size in bytes (text of size: code, constants, unwind tables)")
     for one in both:
-        own = one.name + ".o"
+        own = OBJECTS[one.name]
         linked = sum(text_bytes(one.compile(["use.c"], one.link)).values())
         rest = sum(text_bytes(one.compile(["use.c", "none.c"], [])).values())
         print("  %-8s %7d in %s, %d of it linked when setup check, opening, step, saving and outgoing word are used"

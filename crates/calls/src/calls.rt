@@ -4,10 +4,10 @@ use crate::CauseAnswer;
 use crate::WordAnswer;
 use image::check::check_image;
 use image::check::image_size;
-use image::layout::image_length;
-use image::read::earlier_in;
-use image::read::latest_in;
-use image::read::own_in;
+use image::earlier_in;
+use image::image_length;
+use image::latest_in;
+use image::own_in;
 use presence::State;
 use presence::load::load;
 use presence::save::save_words;
@@ -132,7 +132,8 @@ fn word_in(image: &[u8]) -> u32
     let own = own_in(image, n);
     let mark = bit_at(word_at(image, MODULES_AT + own - 1), 22);
     let earlier = earlier_in(image, n);
-    rules::judge::outgoing(mark, earlier, latest_in(image, n))
+    let latest = latest_in(image, n);
+    rules::judge::outgoing(mark, earlier, latest)
 }
 
 // The word to put on the bus, from an image: 1 to 8.

@@ -1,6 +1,6 @@
 -- The counters: a word is made of its fields, the words that counters are written as pass their tests and hold them, and what passes is written
 -- as it was read.
-use mathlib.Core.Path.{_≡_, ap, _∙_, sym}
+use mathlib.Core.Path.{_≡_, refl, ap, _∙_, sym}
 use mathlib.Core.Bool.{Bool, true, not}
 use mathlib.Core.Logic.{⊎-elim}
 use mathlib.Core.List.{List, [], _∷_}
@@ -11,25 +11,25 @@ use lib.ListN.{getD, length, replicate, getD-replicate}
 use lib.Dec.{eqb, leb, ltb}
 use borrow.Author.Tests.{leb-true, ltb-true, le-leb, lt-ltb, eqb-true, eq-eqb, ne-eqb}
 use Rattle.words.specs.Word.{wordAt}
-use Rattle.words.specs.Bits.{bit}
+use Rattle.words.specs.Bits.{bit, full}
 use Rattle.words.specs.Array.{array, bounded}
 use Rattle.words.specs.Verdict.{Test, each}
 use Rattle.words.specs.Runs.{Run}
 use Rattle.words.proofs.Truth.{and-l, and-r, and-true, or-l, or-r, or-cases, beq-eq, beq-refl, clash, not-both}
-use Rattle.words.proofs.ArrayLaws.{clearFrom, array-at, array-ext, array-own, array-clear, clear-of, bounded-at, bounded-clear, bounded-of}
+use Rattle.words.proofs.BitLaws.{bit-full}
+use Rattle.words.proofs.ArrayLaws.{clearFrom, array-at, array-ext, array-own, array-clear, array-length, clear-of, bounded-at, bounded-clear, bounded-of}
 use Rattle.words.proofs.VerdictLaws.{Passed}
 use Rattle.words.proofs.RunLaws.{Follows}
-use Rattle.setup.specs.Limits.{mostPenaltyLimit, mostRewardLimit, mostCriticality}
 use Rattle.setup.specs.Layout.{penaltyLimitAt, rewardLimitAt, modulesAt}
-use Rattle.setup.specs.Setup.{limitIn, criticalityIn}
+use Rattle.setup.specs.Setup.{sizeIn, limitIn, criticalityIn, setupOf}
+use Rattle.setup.proofs.SetupLaws.{SetupFits}
 use Rattle.setup.specs.declared.Setup.{Setup}
-use Rattle.rules.specs.Account.{countersOf}
-use Rattle.rules.specs.declared.Account.{Account}
+use Rattle.rules.specs.Account.{accountAt, countersOf}
 use Rattle.rules.specs.declared.Counters.{Counters}
-use Rattle.rules.proofs.AccountLaws.{AccountFits}
+use Rattle.rules.proofs.AccountLaws.{AccountFits, counters-fit}
 use Rattle.image.specs.Layout.{ownAt, penaltiesAt, rewardsAt}
 use Rattle.image.specs.Words.{viewIn}
-use Rattle.image.specs.Counters.{counterWord, counterIn, counterOf, penaltyFits, rewardFits, counterTests, countersIn, counterRuns, countersRoomy}
+use Rattle.image.specs.Counters.{counterWord, counterIn, counterOf, penaltyFits, rewardFits, counterTests, countersIn, counterRuns, zeroCounters, ShapedCounters, countersRoomy}
 
 -- ---- one word, of any kind
 
@@ -78,10 +78,6 @@ reward-of p r k present penalty reward f =
 
 -- ---- counters that have room in their words
 
--- the account of module j + 1, in counters
-abbrev accountOf : Counters → ℕ → Account
-accountOf c j = record { present = bit (c .view) j; penalty = getD (c .penalty) j 0; reward = getD (c .reward) j 0 }
-
 pub record CountersSmall (n : ℕ) (c : Counters) : Type 0 where
   pub penalty : (j : ℕ) → j < n → getD (c .penalty) j 0 < 2 ^ 23
   pub reward : (j : ℕ) → j < n → getD (c .reward) j 0 < 2 ^ 23
@@ -106,128 +102,184 @@ counters-roomy n c m =
     and-true _ _ (bounded-of n _ (c .penalty) (λ j h. omega (arith, m .penalty j h)) (m .no-penalty))
     (bounded-of n _ (c .reward) (λ j h. omega (arith, m .reward j h)) (m .no-reward))
 
--- nothing stands in the entries from n on
-pub record CountersClear (n : ℕ) (c : Counters) : Type 0 where
-  pub no-penalty : clearFrom n (c .penalty) ≡ true
-  pub no-reward : clearFrom n (c .reward) ≡ true
+-- ---- counters within the limits of a setup
 
-pub small-clear : (n : ℕ) (c : Counters) → CountersSmall n c → CountersClear n c
-small-clear n c m = record { no-penalty = m .no-penalty; no-reward = m .no-reward }
+pub record CountersFit (s : Setup) (c : Counters) : Type 0 where
+  pub accounts : (j : ℕ) → j < s .n → AccountFits (s .p) (s .r) (getD (s .criticality) j 0) (accountAt c j)
+  pub no-penalty : clearFrom (s .n) (c .penalty) ≡ true
+  pub no-reward : clearFrom (s .n) (c .reward) ≡ true
 
-pub zeros-clear : (n view : ℕ) → CountersClear n (record { view = view; penalty = replicate 16 0; reward = replicate 16 0 })
-zeros-clear n view = record { no-penalty = zeros; no-reward = zeros }
-  where
-    zeros : clearFrom n (replicate 16 0) ≡ true
-    zeros = clear-of n (replicate 16 0) (λ i h l. getD-replicate {A = ℕ} 16 i 0 0 l)
-
-pub round-clear : (s : Setup) (health : ℕ) (c : Counters) → CountersClear (s .n) (countersOf s health c)
-unfolding countersOf
-round-clear s health c = record { no-penalty = array-clear (s .n) _; no-reward = array-clear (s .n) _ }
-
-pub read-clear : (s : List ℕ) (n : ℕ) → CountersClear n (countersIn s n)
-unfolding countersIn
-read-clear s n = record { no-penalty = array-clear n _; no-reward = array-clear n _ }
-
--- counters whose accounts fit have room
-pub counters-small : (n : ℕ) (c : Counters) (p r : ℕ) (criticality : List ℕ) → p ≤ mostPenaltyLimit → r ≤ mostRewardLimit
-    → ((j : ℕ) → j < n → getD criticality j 0 ≤ mostCriticality)
-    → ((j : ℕ) → j < n → AccountFits p r (getD criticality j 0) (accountOf c j)) → CountersClear n c → CountersSmall n c
-counters-small n c p r criticality a b k fits clear = record {
-  penalty = λ j h. omega (arith, fits j h .penalty, k j h);
-  reward = λ j h. omega (arith, fits j h .reward);
-  no-penalty = clear .no-penalty;
-  no-reward = clear .no-reward;
+-- they have room
+pub counters-small : (s : Setup) (c : Counters) → SetupFits s → CountersFit s c → CountersSmall (s .n) c
+unfolding accountAt
+counters-small s c f fits = record {
+  penalty = λ j h. omega (arith, fits .accounts j h .penalty, f .p-most, f .each j h .most);
+  reward = λ j h. omega (arith, fits .accounts j h .reward, f .r-most);
+  no-penalty = fits .no-penalty;
+  no-reward = fits .no-reward;
 }
+
+-- those of a module that is opened
+pub zero-counters : (s : Setup) → SetupFits s → CountersFit s (zeroCounters (full (s .n)))
+unfolding accountAt
+zero-counters s f = record {
+  accounts = λ j k. record {
+    penalty = rw (zero-at j k) (omega arith);
+    view = rw (zero-at j k, bit-full (s .n) j k) (sym (le-leb 0 (s .p) (omega arith)));
+    reward = rw (zero-at j k) (omega (arith, f .r-least));
+    unowed = λ z. zero-at j k;
+  };
+  no-penalty = zeros;
+  no-reward = zeros;
+}
+  where
+    zero-at : (j : ℕ) → j < s .n → getD {A = ℕ} (replicate 16 0) j 0 ≡ 0
+    zero-at j k = getD-replicate {A = ℕ} 16 j 0 0 (omega (arith, f .most))
+
+    zeros : clearFrom (s .n) (replicate 16 0) ≡ true
+    zeros = clear-of (s .n) (replicate 16 0) (λ i h l. getD-replicate {A = ℕ} 16 i 0 0 l)
+
+-- those after a round
+pub round-counters : (s : Setup) (health : ℕ) (c : Counters) → SetupFits s → CountersFit s c → CountersFit s (countersOf s health c)
+unfolding countersOf
+round-counters s health c f fits = record {
+  accounts = counters-fit s health c (f .most) (fits .accounts);
+  no-penalty = array-clear (s .n) _;
+  no-reward = array-clear (s .n) _;
+}
+
+-- ---- their arrays
+
+pub zero-shaped : (view : ℕ) → ShapedCounters (zeroCounters view)
+zero-shaped view = record { penalty = refl; reward = refl }
+
+pub round-shaped : (s : Setup) (health : ℕ) (c : Counters) → ShapedCounters c → ShapedCounters (countersOf s health c)
+unfolding countersOf
+round-shaped s health c a = record { penalty = array-length _ _; reward = array-length _ _ }
+
+pub read-shaped : (s : List ℕ) (n : ℕ) → ShapedCounters (countersIn s n)
+unfolding countersIn
+read-shaped s n = record { penalty = array-length _ _; reward = array-length _ _ }
+
+-- ---- one section, of any kind
+
+-- words that one counter of every module is written as hold it, and give its array back
+module _ (kind n at : ℕ) (w : ℕ → ℕ) (a : List ℕ) (small : (j : ℕ) → j < n → getD a j 0 < 2 ^ 23)
+    (f : (j : ℕ) → j < n → w (at + j) ≡ counterWord kind j (getD a j 0)) where
+  pub counter-there : (j : ℕ) → j < n → counterIn (w (at + j)) ≡ getD a j 0
+  counter-there j h = ap counterIn (f j h) ∙ counter-back kind j _ (small j h)
+
+  pub counter-passes : (j : ℕ) → j < n → counterOf kind j (w (at + j)) ≡ true
+  counter-passes j h = rw (f j h) (counter-right kind j _ (small j h))
+
+  pub array-back : n ≤ 16 → length a ≡ 16 → clearFrom n a ≡ true → a ≡ array n (λ j. counterIn (w (at + j)))
+  array-back l shaped clear = sym (array-ext n _ (λ j. getD a j 0) counter-there ∙ array-own n a l shaped clear)
+
+-- words of the kind are written as they were read
+pub counter-same : (kind n at : ℕ) (w : ℕ → ℕ) → n ≤ 16 → ((j : ℕ) → j < n → counterOf kind j (w (at + j)) ≡ true)
+    → (j : ℕ) → j < n → w (at + j) ≡ counterWord kind j (getD (array n (λ k. counterIn (w (at + k)))) j 0)
+counter-same kind n at w l pass j h = sym (rw (array-at n (λ k. counterIn (w (at + k))) j h l) (counter-made kind j (w (at + j)) (pass j h)))
 
 -- ---- words that counters are written as
 
 -- what the words before them hold
-pub record SetupWords (w : ℕ → ℕ) (n p r : ℕ) (criticality : List ℕ) (view : ℕ) : Type 0 where
-  pub p-there : limitIn (w penaltyLimitAt) ≡ p
-  pub r-there : limitIn (w rewardLimitAt) ≡ r
-  pub criticality-there : (j : ℕ) → j < n → criticalityIn (w (modulesAt + j)) ≡ getD criticality j 0
-  pub view-there : viewIn (w (ownAt n)) ≡ view
+pub record SetupWords (w : ℕ → ℕ) (s : Setup) (view : ℕ) : Type 0 where
+  pub p-there : limitIn (w penaltyLimitAt) ≡ s .p
+  pub r-there : limitIn (w rewardLimitAt) ≡ s .r
+  pub criticality-there : (j : ℕ) → j < s .n → criticalityIn (w (modulesAt + j)) ≡ getD (s .criticality) j 0
+  pub view-there : viewIn (w (ownAt (s .n))) ≡ view
+
+pub record CountersRead (w : ℕ → ℕ) (n : ℕ) (c : Counters) : Type 0 where
+  pub penalty : (j : ℕ) → j < n → counterIn (w (penaltiesAt n + j)) ≡ getD (c .penalty) j 0
+  pub reward : (j : ℕ) → j < n → counterIn (w (rewardsAt n + j)) ≡ getD (c .reward) j 0
 
 module _ (w : ℕ → ℕ) (n : ℕ) (c : Counters) (m : CountersSmall n c) (f : Follows w (penaltiesAt n) (counterRuns n c)) where
-  pub record CountersRead : Type 0 where
-    pub penalty : (j : ℕ) → j < n → counterIn (w (penaltiesAt n + j)) ≡ getD (c .penalty) j 0
-    pub reward : (j : ℕ) → j < n → counterIn (w (rewardsAt n + j)) ≡ getD (c .reward) j 0
-
-  pub counters-read : CountersRead
+  pub counters-read : CountersRead w n c
   unfolding Follows
   counters-read =
       let (penalties, (rewards, _)) = f in
       record {
-        penalty = λ j h. ap counterIn (penalties j h) ∙ counter-back 13 j _ (m .penalty j h);
-        reward = λ j h. ap counterIn (rewards j h) ∙ counter-back 14 j _ (m .reward j h);
+        penalty = counter-there 13 n (penaltiesAt n) w (c .penalty) (m .penalty) penalties;
+        reward = counter-there 14 n (rewardsAt n) w (c .reward) (m .reward) rewards;
       }
 
-  module _ (p r : ℕ) (criticality : List ℕ) (b : SetupWords w n p r criticality (c .view)) where
-    -- they pass where the accounts fit
-    pub counters-ok : ((j : ℕ) → j < n → AccountFits p r (getD criticality j 0) (accountOf c j)) → Passed (counterTests w n)
-    unfolding Passed Follows
-    counters-ok fits =
-        let (penalties, (rewards, _)) = f in (
-          λ j h.
-              rw (b .p-there, b .criticality-there j h, b .view-there, penalties j h)
-              (and-true _ _ (counter-right 13 j _ (m .penalty j h))
-              (rw (counter-back 13 j _ (m .penalty j h)) (penalty-of p r (getD criticality j 0) _ _ (getD (c .reward) j 0) (fits j h)))),
-          (
-            λ j h.
-                rw (b .r-there, counters-read .penalty j h, rewards j h)
-                (and-true _ _ (counter-right 14 j _ (m .reward j h))
-                (rw (counter-back 14 j _ (m .reward j h)) (reward-of p r (getD criticality j 0) (bit (c .view) j) _ _ (fits j h)))),
-            tt,
-          ),
-        )
+module _ (w : ℕ → ℕ) (s : Setup) (c : Counters) (m : CountersSmall (s .n) c) (f : Follows w (penaltiesAt (s .n)) (counterRuns (s .n) c))
+    (b : SetupWords w s (c .view)) where
+  abbrev n : ℕ
+  n = s .n
 
-    -- and the accounts fit where they pass
-    pub counters-pass : Passed (counterTests w n) → (j : ℕ) → j < n → AccountFits p r (getD criticality j 0) (accountOf c j)
-    unfolding Passed
-    counters-pass pass j h =
-        let (penalties, (rewards, _)) = pass in
-        let q = counters-read in
-        account-is p r (getD criticality j 0) _ _ _
+  q : CountersRead w n c
+  q = counters-read w n c m f
+
+  -- they pass where the counters are within the limits
+  pub counters-ok : CountersFit s c → Passed (counterTests w n)
+  unfolding Passed Follows accountAt
+  counters-ok fits =
+      let (penalties, (rewards, _)) = f in (
+        λ j h.
+            and-true (counterOf 13 j (w (penaltiesAt n + j))) _ (counter-passes 13 n (penaltiesAt n) w (c .penalty) (m .penalty) penalties j h)
+            (rw (b .p-there, b .criticality-there j h, b .view-there, q .penalty j h)
+            (penalty-of (s .p) (s .r) _ _ _ (getD (c .reward) j 0) (fits .accounts j h))),
+        (
+          λ j h.
+              and-true (counterOf 14 j (w (rewardsAt n + j))) _ (counter-passes 14 n (rewardsAt n) w (c .reward) (m .reward) rewards j h)
+              (rw (b .r-there, q .penalty j h, q .reward j h)
+              (reward-of (s .p) (s .r) (getD (s .criticality) j 0) (bit (c .view) j) _ _ (fits .accounts j h))),
+          tt,
+        ),
+      )
+
+  -- and are within the limits where they pass
+  pub counters-pass : Passed (counterTests w n) → CountersFit s c
+  unfolding Passed accountAt
+  counters-pass (penalties, (rewards, _)) = record {
+    accounts = λ j h.
+        account-is (s .p) (s .r) (getD (s .criticality) j 0) _ _ _
         (rw (b .p-there, b .criticality-there j h, b .view-there, q .penalty j h) at (and-r (counterOf 13 j (w (penaltiesAt n + j))) _ (penalties j h)))
-        (rw (b .r-there, q .penalty j h, q .reward j h) at (and-r (counterOf 14 j (w (rewardsAt n + j))) _ (rewards j h)))
+        (rw (b .r-there, q .penalty j h, q .reward j h) at (and-r (counterOf 14 j (w (rewardsAt n + j))) _ (rewards j h)));
+    no-penalty = m .no-penalty;
+    no-reward = m .no-reward;
+  }
 
 -- read from their bytes, they give them back
-pub counters-back : (s : List ℕ) (n : ℕ) (c : Counters) → n ≤ 16 → CountersSmall n c → length (c .penalty) ≡ 16 → length (c .reward) ≡ 16
+pub counters-back : (s : List ℕ) (n : ℕ) (c : Counters) → n ≤ 16 → CountersSmall n c → ShapedCounters c
     → Follows (wordAt s) (penaltiesAt n) (counterRuns n c) → viewIn (wordAt s (ownAt n)) ≡ c .view → c ≡ countersIn s n
-unfolding countersIn
-counters-back s n c l m penalties rewards f v =
-    let q = counters-read (wordAt s) n c m f in
-    λ i. record {
-      view = sym v i;
-      penalty = sym (array-ext n _ (λ j. getD (c .penalty) j 0) (q .penalty) ∙ array-own n (c .penalty) l penalties (m .no-penalty)) i;
-      reward = sym (array-ext n _ (λ j. getD (c .reward) j 0) (q .reward) ∙ array-own n (c .reward) l rewards (m .no-reward)) i;
-    }
+unfolding countersIn Follows
+counters-back s n c l m a (penalties, (rewards, _)) v = λ i. record {
+  view = sym v i;
+  penalty = array-back 13 n (penaltiesAt n) (wordAt s) (c .penalty) (m .penalty) penalties l (a .penalty) (m .no-penalty) i;
+  reward = array-back 14 n (rewardsAt n) (wordAt s) (c .reward) (m .reward) rewards l (a .reward) (m .no-reward) i;
+}
 
 -- ---- words that pass
 
-module _ (s : List ℕ) (n : ℕ) (l : n ≤ 16) (pass : Passed (counterTests (wordAt s) n)) where
-  -- the accounts read from them fit
-  pub read-accounts : (j : ℕ) → j < n
-      → AccountFits (limitIn (wordAt s penaltyLimitAt)) (limitIn (wordAt s rewardLimitAt)) (criticalityIn (wordAt s (modulesAt + j))) (accountOf (countersIn s n) j)
-  unfolding Passed countersIn
-  read-accounts j h =
+module _ (s : List ℕ) (pass : Passed (counterTests (wordAt s) (sizeIn (wordAt s 0)))) (l : sizeIn (wordAt s 0) ≤ 16) where
+  abbrev size : ℕ
+  size = sizeIn (wordAt s 0)
+
+  -- the counters read from them are within the limits
+  pub read-counters : CountersFit (setupOf s) (countersIn s size)
+  unfolding Passed setupOf countersIn accountAt
+  read-counters =
       let (penalties, (rewards, _)) = pass in
-      rw (array-at n (λ k. counterIn (wordAt s (penaltiesAt n + k))) j h l, array-at n (λ k. counterIn (wordAt s (rewardsAt n + k))) j h l)
-      (account-is _ _ _ _ _ _ (and-r (counterOf 13 j (wordAt s (penaltiesAt n + j))) _ (penalties j h))
-      (and-r (counterOf 14 j (wordAt s (rewardsAt n + j))) _ (rewards j h)))
+      record {
+        accounts = λ j h.
+            rw (
+              array-at size (λ k. criticalityIn (wordAt s (modulesAt + k))) j h l,
+              array-at size (λ k. counterIn (wordAt s (penaltiesAt size + k))) j h l,
+              array-at size (λ k. counterIn (wordAt s (rewardsAt size + k))) j h l,
+            )
+            (account-is _ _ _ _ _ _ (and-r (counterOf 13 j (wordAt s (penaltiesAt size + j))) _ (penalties j h))
+            (and-r (counterOf 14 j (wordAt s (rewardsAt size + j))) _ (rewards j h)));
+        no-penalty = array-clear size _;
+        no-reward = array-clear size _;
+      }
 
   -- and they are written as they were read
-  pub counters-same : Follows (wordAt s) (penaltiesAt n) (counterRuns n (countersIn s n))
+  pub counters-same : Follows (wordAt s) (penaltiesAt size) (counterRuns size (countersIn s size))
   unfolding Passed Follows countersIn
   counters-same =
       let (penalties, (rewards, _)) = pass in (
-        λ j h.
-            sym (rw (array-at n (λ k. counterIn (wordAt s (penaltiesAt n + k))) j h l)
-            (counter-made 13 j (wordAt s (penaltiesAt n + j)) (and-l (counterOf 13 j (wordAt s (penaltiesAt n + j))) _ (penalties j h)))),
-        (
-          λ j h.
-              sym (rw (array-at n (λ k. counterIn (wordAt s (rewardsAt n + k))) j h l)
-              (counter-made 14 j (wordAt s (rewardsAt n + j)) (and-l (counterOf 14 j (wordAt s (rewardsAt n + j))) _ (rewards j h)))),
-          tt,
-        ),
+        counter-same 13 size (penaltiesAt size) (wordAt s) l (λ j h. and-l (counterOf 13 j (wordAt s (penaltiesAt size + j))) _ (penalties j h)),
+        (counter-same 14 size (rewardsAt size) (wordAt s) l (λ j h. and-l (counterOf 14 j (wordAt s (rewardsAt size + j))) _ (rewards j h)), tt),
       )

@@ -1,8 +1,9 @@
 -- The counters of the modules: the words, their tests, what is read and what is written. (document 01, "What runs", kinds 13 and 14)
 use Prim.Native.Nat.{ℕ, _+_, _*_, _-_, _/_, _%_, _^_}
+use mathlib.Core.Path.{_≡_}
 use mathlib.Core.Bool.{Bool, cond, not, _&&_, _||_, Bool·beq}
 use mathlib.Core.List.{List, [], _∷_}
-use lib.ListN.{getD}
+use lib.ListN.{getD, length, replicate}
 use lib.Dec.{eqb, leb, ltb}
 use Rattle.words.specs.Word.{wordAt, kindUnit, numberUnit}
 use Rattle.words.specs.Bits.{bit}
@@ -67,6 +68,15 @@ counterRun kind n a = record { count = n; word = λ j. counterWord kind j (getD 
 -- written
 abbrev pub counterRuns : ℕ → Counters → List Run
 counterRuns n c = counterRun 13 n (c .penalty) ∷ counterRun 14 n (c .reward) ∷ []
+
+-- no counter has grown yet
+abbrev pub zeroCounters : ℕ → Counters
+zeroCounters view = record { view = view; penalty = replicate 16 0; reward = replicate 16 0 }
+
+-- the arrays have 16 entries, as those of the struct have
+pub record ShapedCounters (c : Counters) : Type 0 where
+  pub penalty : length (c .penalty) ≡ 16
+  pub reward : length (c .reward) ≡ 16
 
 -- every counter has room in its word, and the entries from n on are 0
 unfoldable pub countersRoomy : ℕ → Counters → Bool

@@ -139,7 +139,7 @@ pub fn image_size(s: &[u8]) -> usize
         return 0;
     }
     let n = size_at(s);
-    if s.len() != image_length(n) {
+    if image_length(n) != s.len() {
         return 0;
     }
     n

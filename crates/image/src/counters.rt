@@ -26,7 +26,7 @@ ghost use Rattle.setup.specs.Layout.{penaltyLimitAt, rewardLimitAt, modulesAt};
 ghost use Rattle.setup.specs.Setup.{limitIn, criticalityIn};
 ghost use Rattle.image.specs.Layout.{ownAt, penaltiesAt, imageLength};
 ghost use Rattle.image.specs.Words.{viewIn};
-ghost use Rattle.image.specs.Counters.{counterWord, counterIn, counterOf, penaltyFits, rewardFits, penaltyTest, rewardTest, counterTests, countersIn, counterRuns, countersRoomy};
+ghost use Rattle.image.specs.Counters.{counterWord, counterIn, counterOf, penaltyFits, rewardFits, penaltyTest, rewardTest, counterTests, countersIn, counterRuns, zeroCounters, countersRoomy};
 
 // A word of this kind, of module j + 1.
 fn counter_of(kind: u32, j: usize, w: u32) -> bool
@@ -132,6 +132,18 @@ pub fn load_counters(
             penalty,
             reward,
         },
+    }
+}
+
+// The counters of a module that is opened.
+pub fn zero_counters(view: u32) -> Counters
+    ensures { λ r. ⌜ r ≡ zeroCounters view ⌝ }
+{
+    let zeros = [0u32; 16];
+    Counters {
+        view,
+        penalty: zeros,
+        reward: zeros,
     }
 }
 

@@ -24,8 +24,31 @@ pub struct CountersPart {
 }
 
 pub mod check;
-pub mod counters;
-pub mod layout;
-pub mod read;
-pub mod rows;
-pub mod word;
+mod counters;
+mod layout;
+mod read;
+mod rows;
+mod word;
+
+// What states are read, tested and written by, and where calls and pages find a word.
+pub use counters::counters_roomy;
+pub use counters::load_counters;
+pub use counters::save_counters;
+pub use counters::zero_counters;
+pub use layout::earlier_at;
+pub use layout::image_length;
+pub use layout::latest_at;
+pub use layout::own_at;
+pub use layout::rows_at;
+pub use read::earlier_in;
+pub use read::latest_in;
+pub use read::load_words;
+pub use read::own_in;
+pub use read::view_in;
+pub use rows::load_rows;
+pub use rows::rows_roomy;
+pub use rows::save_rows;
+pub use word::VECTOR;
+pub use word::own_word;
+pub use word::save_word;
+pub use word::syndrome_word;

@@ -1,33 +1,23 @@
 -- The check of an image, put together from the way that its tests came out.
-use Prim.Native.Nat.{ℕ, _+_, _%_, _^_, _≤_, _<_}
+use Prim.Native.Nat.{ℕ, _+_, _-_, _%_, _^_, _≤_, _<_}
 use mathlib.Core.Path.{_≡_, refl, sym, ap, _∙_}
 use mathlib.Core.Bool.{Bool, true, false, not, _&&_}
 use mathlib.Core.Logic.{⊎-elim}
-use mathlib.Core.List.{List}
+use mathlib.Core.List.{List, [], _∷_}
 use native.Mathlib.Omega.{arith}
 use borrow.Author.Tests.{eqb-true, eqb-false, eq-eqb, ne-eqb}
 use lib.Dec.{eqb}
 use lib.ListN.{length}
 use Rattle.words.specs.Word.{wordAt}
 use Rattle.words.proofs.LowestLaws.{lowest-le}
-use Rattle.words.proofs.Truth.{which, and-l, and-r, not-both, cond-true, cond-false}
-use Rattle.words.specs.Verdict.{verdict, accepted, andThen}
+use Rattle.words.proofs.Truth.{which, and-l, and-r, not-both}
+use Rattle.words.specs.Verdict.{verdict, accepted, Test, single, each, thenTests, firstRefusal}
+use Rattle.words.proofs.SearchLaws.{begins-refused, begins-well, search-none, search-found}
 use Rattle.setup.specs.Check.{whole}
 use Rattle.words.specs.declared.Verdict.{Verdict}
 use Rattle.scanlock.specs.SoundLocks.{axisFits}
 use Rattle.scanlock.specs.declared.Axis.{Axis}
-use Rattle.lockcalls.specs.LockImage.{lockHeadOk, axisWord, axisIn, axisOk, wholeTest, firstWrong, axesTest, checkLockImage}
-
--- ---- one test
-
-module _ {ok : Bool} (number : ℕ) (next : Verdict) where
-  test-passes : ok ≡ true → andThen (wholeTest ok number) next ≡ next
-  unfolding wholeTest andThen
-  test-passes e = rw e refl
-
-  test-refuses : eqb number 0 ≡ false → ok ≡ false → andThen (wholeTest ok number) next ≡ verdict number 0
-  unfolding wholeTest andThen
-  test-refuses z e = rw e (cond-false next (verdict number 0) z)
+use Rattle.lockcalls.specs.LockImage.{lockHeadOk, axisWord, axisIn, axisOk, firstWrong, checkLockImage}
 
 -- a word of an axis
 pub axis-tested : (view w : ℕ) {x : Axis} {v : ℕ} {b : Bool} → x ≡ axisIn w → v ≡ axisWord x → b ≡ axisFits view x
@@ -46,32 +36,49 @@ module _ (s : List ℕ) where
       let b = eqb-true (length s % 4) 0 (and-r (not (eqb (length s) 0)) _ e) in
       omega arith
 
+  -- the tests after each of the first three
+  abbrev axes : List Test
+  axes = each 8 (λ i. axisOk (wordAt s 0 % 2 ^ 16) (wordAt s (i + 1))) 8 1 ∷ []
+
+  abbrev from-length : List Test
+  from-length = single (eqb (length s) 36) 3 0 ∷ axes
+
+  abbrev from-head : List Test
+  from-head = single (lockHeadOk (wordAt s 0)) 2 0 ∷ from-length
+
   pub not-whole : whole s ≡ false → verdict 1 0 ≡ checkLockImage s
   unfolding checkLockImage
-  not-whole f = sym (test-refuses 1 _ refl f)
+  not-whole f = begins-refused 1 0 from-head refl (omega arith) (ap not f) refl refl
 
   module _ (t : whole s ≡ true) where
-    pub wrong-head : lockHeadOk (wordAt s 0) ≡ false → verdict 2 0 ≡ checkLockImage s
+    to-head : firstRefusal from-head ≡ checkLockImage s
     unfolding checkLockImage
-    wrong-head f = sym (test-passes 1 _ t ∙ test-refuses 2 _ refl f)
+    to-head = begins-well 1 0 from-head refl (ap not t)
+
+    pub wrong-head : lockHeadOk (wordAt s 0) ≡ false → verdict 2 0 ≡ checkLockImage s
+    wrong-head f = begins-refused 2 0 from-length refl (omega arith) (ap not f) refl refl ∙ to-head
 
     module _ (h : lockHeadOk (wordAt s 0) ≡ true) where
+      to-length : firstRefusal from-length ≡ checkLockImage s
+      to-length = begins-well 2 0 from-length refl (ap not h) ∙ to-head
+
       pub wrong-length : (length s ≡ 36 → ⊥) → verdict 3 0 ≡ checkLockImage s
-      unfolding checkLockImage
-      wrong-length f = sym (test-passes 1 _ t ∙ test-passes 2 _ h ∙ test-refuses 3 _ refl (ne-eqb _ 36 f))
+      wrong-length f = begins-refused 3 0 axes refl (omega arith) (ap not (ne-eqb _ 36 f)) refl refl ∙ to-length
 
       module _ (l : length s ≡ 36) where
-        to-axes : checkLockImage s ≡ axesTest (wordAt s 0 % 2 ^ 16) s
-        unfolding checkLockImage
-        to-axes = test-passes 1 _ t ∙ test-passes 2 _ h ∙ test-passes 3 _ (eq-eqb _ 36 l)
+        to-axes : firstRefusal axes ≡ checkLockImage s
+        to-axes = begins-well 3 0 axes refl (ap not (eq-eqb _ 36 l)) ∙ to-length
 
         pub wrong-word : (firstWrong (wordAt s 0 % 2 ^ 16) s ≡ 0 → ⊥) → verdict 8 (firstWrong (wordAt s 0 % 2 ^ 16) s) ≡ checkLockImage s
-        unfolding axesTest
-        wrong-word f = sym (to-axes ∙ cond-false _ _ (ne-eqb _ 0 f))
+        unfolding thenTests
+        wrong-word f =
+            let k : 1 + firstWrong (wordAt s 0 % 2 ^ 16) s - 1 ≡ firstWrong (wordAt s 0 % 2 ^ 16) s = omega arith in
+            search-found accepted (each 8 (λ i. axisOk (wordAt s 0 % 2 ^ 16) (wordAt s (i + 1))) 8 1) refl refl f refl (ap (verdict 8) (sym k)) ∙ to-axes
 
         pub all-right : firstWrong (wordAt s 0 % 2 ^ 16) s ≡ 0 → accepted ≡ checkLockImage s
-        unfolding axesTest
-        all-right e = sym (to-axes ∙ cond-true _ _ (eq-eqb _ 0 e))
+        unfolding thenTests
+        all-right e =
+            search-none accepted (each 8 (λ i. axisOk (wordAt s 0 % 2 ^ 16) (wordAt s (i + 1))) 8 1) refl refl e refl ∙ to-axes
 
 -- the same, of the head and the index as the code has them
 module _ (s : List ℕ) {w : ℕ} {b : Bool} (t : whole s ≡ true) (e : w ≡ wordAt s 0) (k : b ≡ lockHeadOk w) where

@@ -5,14 +5,14 @@
 -- Unnamed bits are 0.
 use Prim.Native.Nat.{ℕ, _+_, _-_, _*_, _/_, _%_, _^_}
 use mathlib.Core.Bool.{Bool, cond, not, _&&_}
-use mathlib.Core.List.{List}
+use mathlib.Core.List.{List, [], _∷_}
 use lib.Dec.{eqb, leb, ltb}
 use lib.ListN.{getD, length, replicate}
 use Rattle.words.specs.Word.{wordAt, bytesOf}
 use Rattle.words.specs.Bits.{b2n}
 use Rattle.words.specs.Count.{lowest}
 use Rattle.words.specs.Table.{updated}
-use Rattle.words.specs.Verdict.{verdict, accepted, isAccepted, andThen}
+use Rattle.words.specs.Verdict.{isAccepted, Test, single, each, firstRefusal}
 use Rattle.setup.specs.Check.{whole}
 use Rattle.words.specs.declared.Verdict.{Verdict}
 use Rattle.scanlock.specs.Axis.{axis, free}
@@ -64,26 +64,24 @@ lockHeadOk w = leb 2 (w / 2 ^ 16) && leb (w / 2 ^ 16) 16 && ltb (w % 2 ^ 16) (2 
 unfoldable pub axisOk : ℕ → ℕ → Bool
 axisOk view w = eqb (axisWord (axisIn w)) w && axisFits view (axisIn w)
 
--- ---- the check: tests in their order, of which the first that refuses counts
-
--- a test of the image as a whole: refused by its number, at index 0, unless ok
-unfoldable pub wholeTest : Bool → ℕ → Verdict
-wholeTest ok number = cond ok accepted (verdict number 0)
+-- ---- the check
 
 -- the index of the first wrong word of an axis, or 0
 abbrev pub firstWrong : ℕ → List ℕ → ℕ
 firstWrong view s = lowest 8 (λ i. not (axisOk view (wordAt s (i + 1))))
 
--- the words of the axes: 8 at the first wrong one
-unfoldable pub axesTest : ℕ → List ℕ → Verdict
-axesTest view s = cond (eqb (firstWrong view s) 0) accepted (verdict 8 (firstWrong view s))
+-- 1 empty or not whole words, 2 the head, 3 not 9 words, 8 a word of an axis, each at its word
+abbrev pub lockTests : List ℕ → List Test
+lockTests s =
+    single (whole s) 1 0
+    ∷ single (lockHeadOk (wordAt s 0)) 2 0
+    ∷ single (eqb (length s) 36) 3 0
+    ∷ each 8 (λ i. axisOk (wordAt s 0 % 2 ^ 16) (wordAt s (i + 1))) 8 1
+    ∷ []
 
--- 1 empty or not whole words, 2 the head, 3 not 9 words, 8 a word of an axis
+-- the first refusal
 unfoldable pub checkLockImage : List ℕ → Verdict
-checkLockImage s =
-    andThen (wholeTest (whole s) 1)
-    (andThen (wholeTest (lockHeadOk (wordAt s 0)) 2)
-    (andThen (wholeTest (eqb (length s) 36) 3) (axesTest (wordAt s 0 % 2 ^ 16) s)))
+checkLockImage s = firstRefusal (lockTests s)
 
 -- reading: what is held where an image is refused is blank
 unfoldable pub readLocks : List ℕ → LocksRead

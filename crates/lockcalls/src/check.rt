@@ -2,6 +2,8 @@
 use crate::word::axis_ok;
 use crate::word::head_ok;
 use words::Verdict;
+use words::check::accept;
+use words::check::refusal;
 use words::word::word_at;
 ghost use mathlib.Core.Path.{_≡_};
 ghost use lib.ListN.{length};
@@ -30,33 +32,18 @@ pub fn check_lock(image: &[u8]) -> Verdict
     ensures { λ r. ⌜ r ≡ checkLockImage (now (image .entry)) ⌝ }
 {
     if !((image.len() != 0) & (image.len() % 4 == 0)) {
-        return Verdict {
-            number: 1,
-            index: 0,
-        };
+        return refusal(1, 0);
     }
     let head = word_at(image, 0);
     if !head_ok(head) {
-        return Verdict {
-            number: 2,
-            index: 0,
-        };
+        return refusal(2, 0);
     }
     if image.len() != 36 {
-        return Verdict {
-            number: 3,
-            index: 0,
-        };
+        return refusal(3, 0);
     }
     let first = wrong_axis(image, head % 65536);
     if first != 0 {
-        return Verdict {
-            number: 8,
-            index: first as u32,
-        };
+        return refusal(8, first as u32);
     }
-    Verdict {
-        number: 0,
-        index: 0,
-    }
+    accept()
 }

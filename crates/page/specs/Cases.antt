@@ -8,6 +8,7 @@ use lib.Dec.{eqb}
 use lib.ListN.{getD, replicate}
 use Rattle.words.specs.Word.{bytesOf}
 use Rattle.rules.specs.Hearing.{busWord}
+use Rattle.image.specs.Layout.{imageLength}
 use Rattle.calls.specs.Calls.{causeCall}
 use Rattle.calls.specs.declared.Answer.{Answer}
 use Rattle.calls.specs.declared.CauseAnswer.{CauseAnswer}
@@ -80,7 +81,7 @@ setup =
 
 -- an output for its image, 22 words
 abbrev pub out : List ℕ
-out = replicate 88 0
+out = replicate (imageLength 4) 0
 
 -- a page before its opening, of any bytes
 abbrev pub lent : List ℕ
@@ -188,7 +189,7 @@ fiveSetup =
 
 -- an output for its image
 abbrev pub fiveOut : List ℕ
-fiveOut = replicate 104 0
+fiveOut = replicate (imageLength 5) 0
 
 -- opened as module 2
 abbrev pub fiveOpened : PageCalled

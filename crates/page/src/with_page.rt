@@ -4,7 +4,7 @@ use crate::registers::step_page;
 use calls::Answer;
 use calls::calls::presence_open;
 use calls::calls::presence_step;
-use image::read::view_in;
+use image::view_in;
 use setup::check::size_at;
 ghost use mathlib.Core.Path.{_≡_};
 ghost use Rattle.calls.specs.Calls.{called};

@@ -1,14 +1,13 @@
 -- Bytes that pass the check of a saved state give a valid state.
 use mathlib.Core.Path.{_≡_}
 use mathlib.Core.List.{List}
-use Prim.Native.Nat.{ℕ, _+_}
+use Prim.Native.Nat.{ℕ}
 use native.Mathlib.Omega.{arith}
 use Rattle.words.specs.Word.{wordAt}
 use Rattle.words.proofs.BitLaws.{pack-lt}
-use Rattle.words.proofs.ArrayLaws.{array-at, array-clear}
-use Rattle.setup.specs.Setup.{sizeIn, criticalityIn, setupOf}
+use Rattle.words.proofs.ArrayLaws.{array-clear}
+use Rattle.setup.specs.Setup.{sizeIn, setupOf}
 use Rattle.setup.proofs.FrontLaws.{setup-fits}
-use Rattle.rules.specs.Account.{accountAt}
 use Rattle.image.specs.Layout.{ownAt, latestAt, earlierAt}
 use Rattle.image.specs.Rows.{readingIn}
 use Rattle.image.specs.Counters.{countersIn}
@@ -16,7 +15,7 @@ use Rattle.image.specs.Check.{checkImage}
 use Rattle.image.proofs.TailLaws.{ImageFits, image-pass}
 use Rattle.image.proofs.SingleWords.{own-made, syndrome-made}
 use Rattle.image.proofs.RowLaws.{read-rows}
-use Rattle.image.proofs.CounterLaws.{read-accounts, read-clear}
+use Rattle.image.proofs.CounterLaws.{read-counters}
 use Rattle.presence.specs.Valid.{Valid}
 use Rattle.presence.specs.Image.{stateOf}
 use Rattle.presence.proofs.ValidLaws.{StateFits, fits-valid}
@@ -26,7 +25,7 @@ module _ (s : List ℕ) (f : ImageFits s) where
   size = sizeIn (wordAt s 0)
 
   pub image-state : StateFits (stateOf s)
-  unfolding stateOf setupOf readingIn countersIn accountAt
+  unfolding stateOf setupOf readingIn countersIn
   image-state =
       let own = own-made size (wordAt s (ownAt size)) (f .tail .number) (f .tail .own) in
       let small = f .front .most in
@@ -38,10 +37,9 @@ module _ (s : List ℕ) (f : ImageFits s) where
         rows = read-rows s size small (f .tail .rows);
         latest = syndrome-made size (wordAt s (latestAt size)) (f .tail .latest) .1;
         earlier = syndrome-made size (wordAt s (earlierAt size)) (f .tail .earlier) .1;
-        accounts = λ j h. rw (array-at size (λ k. criticalityIn (wordAt s (3 + k))) j h small) (read-accounts s size small (f .tail .counters) j h);
+        counters = read-counters s (f .tail .counters) small;
         heard = pack-lt size _;
         no-rows = array-clear size _;
-        clear = read-clear s size;
       }
 
 -- every accepted image gives a valid state

@@ -32,7 +32,7 @@ use Rattle.image.specs.Counters.{countersIn}
 use Rattle.image.specs.Check.{checkImage}
 use Rattle.image.proofs.SingleWords.{own-made, syndrome-made}
 use Rattle.image.proofs.RowLaws.{reading-back, rows-same}
-use Rattle.image.proofs.CounterLaws.{counters-back, counters-same}
+use Rattle.image.proofs.CounterLaws.{counters-back, counters-same, zero-shaped, round-shaped, read-shaped}
 use Rattle.image.proofs.TailLaws.{TailFits, ImageFits, tail-pass, image-pass, image-ok}
 use Rattle.presence.specs.Valid.{Valid}
 use Rattle.presence.specs.Opening.{fresh, openOf}
@@ -73,7 +73,7 @@ module _ (s : List ℕ) (e : checkImage s .number ≡ 0) where
             λ j h. rw (zero-of (latestAt size) j h) (sym (syndrome-made size (wordAt s (latestAt size)) (t .latest) .0)),
             (
               λ j h. rw (zero-of (earlierAt size) j h) (sym (syndrome-made size (wordAt s (earlierAt size)) (t .earlier) .0)),
-              counters-same s size small (t .counters),
+              counters-same s (t .counters) small,
             ),
           ),
         ),
@@ -172,7 +172,7 @@ module _ (st : State) (v : Valid st) (a : Shaped st) where
 
   counters-there : st .counters ≡ countersIn image n
   counters-there =
-      counters-back image n (st .counters) (small .size) (small .counters) (a .penalty) (a .reward) (words .counters) (back .before .view-there)
+      counters-back image n (st .counters) (small .size) (small .counters) (a .counters) (words .counters) (back .before .view-there)
 
   previous-there : st .previous ≡ readingIn image n
   previous-there = reading-back image n (st .previous) (small .size) (small .rows) (a .rows) (words .rows)
@@ -191,22 +191,21 @@ unfolding stateOf setupOf readingIn countersIn
 state-shaped s = record {
   setup = record { places = array-length _ _; criticality = array-length _ _ };
   rows = array-length _ _;
-  penalty = array-length _ _;
-  reward = array-length _ _;
+  counters = read-shaped s (sizeIn (wordAt s 0));
 }
 
 pub open-shaped : (s : Setup) (own : ℕ) → ShapedSetup s → openOf s own .number ≡ 0 → Shaped (openOf s own .state)
 unfolding fresh
 open-shaped s own shaped zero =
     subst Shaped (sym (open-fresh s own zero))
-    (record { setup = shaped; rows = array-length _ _; penalty = refl; reward = refl })
+    (record { setup = shaped; rows = array-length _ _; counters = zero-shaped _ })
 
 pub step-shaped : (st : State) (read : List ℕ) (controller : ℕ) → Shaped st → stepOf st read controller .number ≡ 0
     → Shaped (stepOf st read controller .state)
-unfolding acceptedStep afterRound readingOf countersOf
+unfolding acceptedStep afterRound readingOf
 step-shaped st read controller shaped zero =
     subst (λ (t : Stepped). Shaped (t .state)) (sym (step-accepted st read controller zero .1))
-    (record { setup = shaped .setup; rows = array-length _ _; penalty = array-length _ _; reward = array-length _ _ })
+    (record { setup = shaped .setup; rows = array-length _ _; counters = round-shaped _ _ _ (shaped .counters) })
 
 pub round-trip : RoundTrip
 round-trip = record {

@@ -25,6 +25,7 @@ use Rattle.rules.proofs.RangeLaws.{fits-in-range}
 use Rattle.rules.specs.declared.Reading.{Reading}
 use Rattle.rules.specs.declared.Counters.{Counters}
 use Rattle.rules.specs.declared.Judgement.{Judgement}
+use Rattle.image.specs.Counters.{zeroCounters}
 use Rattle.presence.specs.Valid.{stateVerdict, Valid}
 use Rattle.presence.specs.Opening.{fresh, blank, checkOpening, openOf}
 use Rattle.presence.specs.Step.{skewOf, placeOf, ownSyndrome, alignedFor, judgementFor, outgoingFor, afterRound, refusedStep, acceptedStep, testedStep, readStep, stepOf}
@@ -71,7 +72,7 @@ after-made st this {j} {c} e h =
 pub in-range : (st : State) → StateFits st → (j : ℕ) → j < st .setup .n
     → InRange (getD (st .setup .criticality) j 0) (accountAt (st .counters) j)
 in-range st f j h =
-    fits-in-range (st .setup .p) (st .setup .r) _ _ (f .setup .p-most) (f .setup .r-most) (f .setup .each j h .most) (f .accounts j h)
+    fits-in-range (st .setup .p) (st .setup .r) _ _ (f .setup .p-most) (f .setup .r-most) (f .setup .each j h .most) (f .counters .accounts j h)
 
 -- ---- rules 7 to 9
 
@@ -129,29 +130,15 @@ step-of st {k} read controller {t} e v h =
 
 -- ---- opening
 
-pub fresh-made : (s : Setup) (own : ℕ) {v : ℕ} {rows : List ℕ} → v ≡ full (s .n) → rows ≡ array (s .n) (λ j. v)
-    → _≡_ {A = State}
-    (record {
-      setup = s;
-      own = own;
-      counters = record { view = v; penalty = replicate 16 0; reward = replicate 16 0 };
-      previous = record { heard = v; rows = rows };
-      latest = v;
-      earlier = v;
-    }) (fresh s own)
+pub fresh-made : (s : Setup) (own : ℕ) {v : ℕ} {rows : List ℕ} {c : Counters} → v ≡ full (s .n) → rows ≡ array (s .n) (λ j. v) → c ≡ zeroCounters v
+    → _≡_ {A = State} (record { setup = s; own = own; counters = c; previous = record { heard = v; rows = rows }; latest = v; earlier = v }) (fresh s own)
 unfolding fresh
-fresh-made s own {v} {rows} e h =
-    let made : ℕ → List ℕ → State =
-    λ x r. record {
-      setup = s;
-      own = own;
-      counters = record { view = x; penalty = replicate 16 0; reward = replicate 16 0 };
-      previous = record { heard = x; rows = r };
-      latest = x;
-      earlier = x;
-    }
+fresh-made s own {v} {rows} {c} e h k =
+    let made : ℕ → List ℕ → Counters → State =
+    λ x r d. record { setup = s; own = own; counters = d; previous = record { heard = x; rows = r }; latest = x; earlier = x }
     in
-    ap₂ made e (h ∙ ap (λ (x : ℕ). array (s .n) (λ j. x)) e)
+    ap (made v rows) k ∙ ap₂ (λ (x : ℕ) (r : List ℕ). made x r (zeroCounters v)) e (h ∙ ap (λ (x : ℕ). array (s .n) (λ j. x)) e)
+    ∙ ap (λ (x : ℕ). made (full (s .n)) (array (s .n) (λ j. full (s .n))) (zeroCounters x)) e
 
 -- a number is out of range
 pub not-between : (low high v : ℕ) → ltb v low || ltb high v ≡ true → between low high v ≡ false

@@ -66,7 +66,7 @@ stands st = subst (Stands st) (image-words st) (stands-bytes st)
 -- ---- the fields
 
 pub record Read (st : State) (w : ℕ → ℕ) : Type 0 where
-  pub before : SetupWords w (st .setup .n) (st .setup .p) (st .setup .r) (st .setup .criticality) (st .counters .view)
+  pub before : SetupWords w (st .setup) (st .counters .view)
   pub own : ownIn (w (ownAt (st .setup .n))) ≡ st .own
   pub latest : syndromeIn (w (latestAt (st .setup .n))) ≡ st .latest
   pub earlier : syndromeIn (w (earlierAt (st .setup .n))) ≡ st .earlier

@@ -1,12 +1,12 @@
 -- A valid state, field by field; a fresh module is valid, and a round keeps it so.
-use mathlib.Core.Path.{_≡_, ap, _∙_, sym}
+use mathlib.Core.Path.{_≡_, ap, _∙_}
 use mathlib.Core.Bool.{true}
 use mathlib.Core.List.{List}
 use Prim.Native.Nat.{ℕ, _+_, _^_, _<_, _≤_}
 use native.Mathlib.Omega.{arith}
-use lib.ListN.{getD, getD-replicate, replicate}
+use lib.ListN.{getD}
 use lib.Pow.{pow-mono}
-use borrow.Author.Tests.{le-leb, lt-ltb}
+use borrow.Author.Tests.{lt-ltb}
 use Rattle.words.specs.Bits.{bit, full}
 use Rattle.words.specs.Verdict.{accepted, single, outcome}
 use Rattle.words.specs.Runs.{runWord}
@@ -18,15 +18,14 @@ use Rattle.setup.specs.Check.{setupVerdict}
 use Rattle.setup.specs.declared.Setup.{Setup}
 use Rattle.setup.proofs.SetupLaws.{SetupFits, verdict-fits, fits-verdict as setup-accepted}
 use Rattle.rules.specs.Hearing.{readingOf}
-use Rattle.rules.specs.Account.{accountAt, countersOf}
+use Rattle.rules.specs.Account.{countersOf}
 use Rattle.rules.proofs.SyndromeLaws.{syndrome-lt}
-use Rattle.rules.proofs.AccountLaws.{AccountFits, counters-fit}
 use Rattle.image.specs.Layout.{ownAt}
 use Rattle.image.specs.Rows.{rowFits}
 use Rattle.image.proofs.TailLaws.{TailFits, tail-pass, tail-ok}
 use Rattle.image.proofs.SingleWords.{own-made, syndrome-made, own-number-right, own-right, syndrome-right}
 use Rattle.image.proofs.RowLaws.{RowsSmall, row-small, rows-ok, rows-pass, reading-fits}
-use Rattle.image.proofs.CounterLaws.{CountersClear, small-clear, counters-small, counters-ok, counters-pass, zeros-clear, round-clear}
+use Rattle.image.proofs.CounterLaws.{CountersFit, counters-small, counters-ok, counters-pass, zero-counters, round-counters}
 use Rattle.presence.specs.Image.{imageRuns}
 use Rattle.presence.specs.Valid.{roomy, stateVerdict, Valid}
 use Rattle.presence.specs.Opening.{fresh}
@@ -43,14 +42,11 @@ pub record StateFits (st : State) : Type 0 where
   pub rows : (j : ℕ) → j < st .setup .n → rowFits (st .setup .n) (bit (st .previous .heard) j) (getD (st .previous .rows) j 0) ≡ true
   pub latest : st .latest < 2 ^ st .setup .n
   pub earlier : st .earlier < 2 ^ st .setup .n
-  pub accounts : (j : ℕ) → j < st .setup .n
-      → AccountFits (st .setup .p) (st .setup .r) (getD (st .setup .criticality) j 0) (accountAt (st .counters) j)
+  pub counters : CountersFit (st .setup) (st .counters)
   pub heard : st .previous .heard < 2 ^ st .setup .n
   pub no-rows : clearFrom (st .setup .n) (st .previous .rows) ≡ true
-  pub clear : CountersClear (st .setup .n) (st .counters)
 
 pub valid-fits : (st : State) → Valid st → StateFits st
-unfolding accountAt
 valid-fits st e =
     let n = st .setup .n in
     let w = runWord (imageRuns st) in
@@ -68,17 +64,15 @@ valid-fits st e =
       rows = rows-pass w n (st .previous) (m .rows) (d .rows) (t .rows);
       latest = rw (b .latest) at (syndrome-made n _ (t .latest) .1);
       earlier = rw (b .earlier) at (syndrome-made n _ (t .earlier) .1);
-      accounts = counters-pass w n (st .counters) (m .counters) (d .counters) (st .setup .p) (st .setup .r) (st .setup .criticality) (b .before) (t .counters);
+      counters = counters-pass w (st .setup) (st .counters) (m .counters) (d .counters) (b .before) (t .counters);
       heard = m .rows .heard;
       no-rows = m .rows .no-rows;
-      clear = small-clear n (st .counters) (m .counters);
     }
 
 below : (v n : ℕ) → v < 2 ^ n → n ≤ 16 → v < 2 ^ 16
 below v n h l = omega (arith, pow-mono {i = n} {j = 16} l)
 
 fits-small : (st : State) → StateFits st → Small st
-unfolding accountAt
 fits-small st f =
     let n = st .setup .n in
     let k : n ≤ 16 = f .setup .most in
@@ -94,14 +88,11 @@ fits-small st f =
             heard = f .heard;
             no-rows = f .no-rows;
           };
-      counters =
-          counters-small n (st .counters) (st .setup .p) (st .setup .r) (st .setup .criticality) (f .setup .p-most) (f .setup .r-most)
-          (λ j h. f .setup .each j h .most) (f .accounts) (f .clear);
+      counters = counters-small (st .setup) (st .counters) (f .setup) (f .counters);
     }
 
 -- the words of its image are right
 tail-fits : (st : State) → StateFits st → TailFits (runWord (imageRuns st)) (st .setup .n)
-unfolding accountAt
 tail-fits st f =
     let n = st .setup .n in
     let w = runWord (imageRuns st) in
@@ -114,7 +105,7 @@ tail-fits st f =
       rows = rows-ok w n (st .previous) (m .rows) (d .rows) (f .rows);
       latest = rw (d .latest) (syndrome-right n (st .latest) (m .latest) (f .latest));
       earlier = rw (d .earlier) (syndrome-right n (st .earlier) (m .earlier) (f .earlier));
-      counters = counters-ok w n (st .counters) (m .counters) (d .counters) (st .setup .p) (st .setup .r) (st .setup .criticality) (b .before) (f .accounts);
+      counters = counters-ok w (st .setup) (st .counters) (m .counters) (d .counters) (b .before) (f .counters);
     }
 
 pub fits-verdict : (st : State) → StateFits st → stateVerdict st ≡ accepted
@@ -130,9 +121,8 @@ fits-valid st f = ap (λ (v : Verdict). v .number) (fits-verdict st f)
 -- ---- opening
 
 pub fresh-fits : (s : Setup) (own : ℕ) → SetupFits s → 1 ≤ own → own ≤ s .n → StateFits (fresh s own)
-unfolding fresh accountAt rowFits
+unfolding fresh rowFits
 fresh-fits s own f h l =
-    let zero-at : (j : ℕ) → j < s .n → getD {A = ℕ} (replicate 16 0) j 0 ≡ 0 = λ j k. getD-replicate {A = ℕ} 16 j 0 0 (omega (arith, f .most)) in
     record {
       setup = f;
       first = h;
@@ -142,15 +132,9 @@ fresh-fits s own f h l =
           rw (bit-full (s .n) j k, array-at (s .n) (λ j. full (s .n)) j k (f .most)) (lt-ltb (full (s .n)) (2 ^ s .n) (full-lt (s .n)));
       latest = full-lt (s .n);
       earlier = full-lt (s .n);
-      accounts = λ j k. record {
-        penalty = rw (zero-at j k) (omega arith);
-        view = rw (zero-at j k, bit-full (s .n) j k) (sym (le-leb 0 (s .p) (omega arith)));
-        reward = rw (zero-at j k) (omega (arith, f .r-least));
-        unowed = λ z. zero-at j k;
-      };
+      counters = zero-counters s f;
       heard = full-lt (s .n);
       no-rows = array-clear (s .n) (λ j. full (s .n));
-      clear = zeros-clear (s .n) (full (s .n));
     }
 
 -- ---- a round
@@ -168,8 +152,7 @@ after-fits st read controller f =
       rows = λ j h. reading-fits n read controller j h (f .setup .most);
       latest = syndrome-lt n _ _ _;
       earlier = f .latest;
-      accounts = counters-fit (st .setup) _ (st .counters) (f .setup .most) (f .accounts);
+      counters = round-counters (st .setup) _ (st .counters) (f .setup) (f .counters);
       heard = pack-lt n _;
       no-rows = array-clear n _;
-      clear = round-clear (st .setup) _ (st .counters);
     }

@@ -10,6 +10,7 @@ use Rattle.setup.specs.Setup.{blankSetup}
 use Rattle.setup.specs.Check.{setupVerdict}
 use Rattle.words.specs.declared.Verdict.{Verdict}
 use Rattle.setup.specs.declared.Setup.{Setup}
+use Rattle.image.specs.Counters.{zeroCounters}
 use Rattle.presence.specs.declared.State.{State}
 use Rattle.presence.specs.declared.Opened.{Opened}
 
@@ -18,7 +19,7 @@ unfoldable pub fresh : Setup → ℕ → State
 fresh s own = record {
   setup = s;
   own = own;
-  counters = record { view = full (s .n); penalty = replicate 16 0; reward = replicate 16 0 };
+  counters = zeroCounters (full (s .n));
   previous = record { heard = full (s .n); rows = array (s .n) (λ j. full (s .n)) };
   latest = full (s .n);
   earlier = full (s .n);
@@ -31,7 +32,7 @@ blank =
     record {
       setup = blankSetup;
       own = 0;
-      counters = record { view = 0; penalty = zeros; reward = zeros };
+      counters = zeroCounters 0;
       previous = record { heard = 0; rows = zeros };
       latest = 0;
       earlier = 0;

@@ -6,6 +6,7 @@ use lib.ListN.{getD, length}
 use Rattle.words.specs.Verdict.{accepted}
 use Rattle.setup.specs.RoundTrip.{ShapedSetup}
 use Rattle.setup.specs.declared.Setup.{Setup}
+use Rattle.image.specs.Counters.{ShapedCounters}
 use Rattle.image.specs.Check.{checkImage}
 use Rattle.presence.specs.Valid.{Valid}
 use Rattle.presence.specs.Opening.{openOf}
@@ -17,8 +18,7 @@ use Rattle.presence.specs.declared.State.{State}
 pub record Shaped (st : State) : Type 0 where
   pub setup : ShapedSetup (st .setup)
   pub rows : length (st .previous .rows) ≡ 16
-  pub penalty : length (st .counters .penalty) ≡ 16
-  pub reward : length (st .counters .reward) ≡ 16
+  pub counters : ShapedCounters (st .counters)
 
 -- of every state, and of all bytes
 pub record RoundTrip : Type 0 where

@@ -1,7 +1,7 @@
 // Opening a module from a setup and its own number.
 use crate::Opened;
 use crate::State;
-use rules::Counters;
+use image::zero_counters;
 use rules::Reading;
 use setup::Setup;
 use words::array::filled;
@@ -18,16 +18,12 @@ impl State {
     {
         let n = setup.n;
         let full = full_of(n);
-        let zeros = [0u32; 16];
+        let counters = zero_counters(full);
         let rows = filled(n, full);
         State {
             setup,
             own,
-            counters: Counters {
-                view: full,
-                penalty: zeros,
-                reward: zeros,
-            },
+            counters,
             previous: Reading { heard: full, rows },
             latest: full,
             earlier: full,
@@ -39,15 +35,12 @@ impl State {
         ensures { λ r. ⌜ r ≡ blank ⌝ }
     {
         let setup = setup::read::blank();
+        let counters = zero_counters(0);
         let zeros = [0u32; 16];
         State {
             setup,
             own: 0,
-            counters: Counters {
-                view: 0,
-                penalty: zeros,
-                reward: zeros,
-            },
+            counters,
             previous: Reading {
                 heard: 0,
                 rows: zeros,

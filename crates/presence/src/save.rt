@@ -1,15 +1,15 @@
 // Writing a state as words.
 use crate::State;
-use image::counters::save_counters;
-use image::layout::earlier_at;
-use image::layout::image_length;
-use image::layout::latest_at;
-use image::layout::own_at;
-use image::layout::rows_at;
-use image::rows::save_rows;
-use image::word::own_word;
-use image::word::save_word;
-use image::word::syndrome_word;
+use image::earlier_at;
+use image::image_length;
+use image::latest_at;
+use image::own_at;
+use image::own_word;
+use image::rows_at;
+use image::save_counters;
+use image::save_rows;
+use image::save_word;
+use image::syndrome_word;
 use setup::layout::setup_length;
 use setup::write::write_words;
 use words::Verdict;

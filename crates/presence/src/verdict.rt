@@ -1,11 +1,11 @@
 // The check of a state that is already a struct: by its image, and by what no image shows.
 use crate::State;
 use crate::save::save_words;
+use image::VECTOR;
 use image::check::check_tail;
-use image::counters::counters_roomy;
-use image::layout::image_length;
-use image::rows::rows_roomy;
-use image::word::VECTOR;
+use image::counters_roomy;
+use image::image_length;
+use image::rows_roomy;
 use setup::layout::MOST_MODULES;
 use words::Verdict;
 use words::check::refusal;

@@ -1,6 +1,6 @@
 -- Head, then length.
 use native.Mathlib.Omega.{arith}
-use mathlib.Core.Path.{_∙_}
+use mathlib.Core.Path.{sym, _∙_}
 use Rattle.setup.proofs.SetupAnswerLaws.{head-fits}
 use Rattle.image.proofs.ImageAnswers.{size-headless, size-other, size-there}
 use borrow.Author.Needs.{needs}
@@ -25,11 +25,11 @@ image-length-requires c κs =
 returns-2 : tie.Need-returns-2
 returns-2 c =
     let l = c .before .image-length .ensures in
-    size-other _ (c .before .before .before .before .before .check-head .ensures) (c .before .before .size-at .ensures) (c .before .before .before .if1 .left) (rw l at (c .if2 .taken))
+    size-other _ (c .before .before .before .before .before .check-head .ensures) (c .before .before .size-at .ensures) (c .before .before .before .if1 .left) (λ e. c .if2 .taken (l ∙ sym e))
 
 returns-3 : tie.Need-returns-3
 returns-3 c =
-    size-there _ (c .before .before .before .before .before .check-head .ensures) (c .before .before .size-at .ensures) (c .before .before .before .if1 .left) (c .if2 .left ∙ c .before .image-length .ensures)
+    size-there _ (c .before .before .before .before .before .check-head .ensures) (c .before .before .size-at .ensures) (c .before .before .before .if1 .left) (sym (c .if2 .left) ∙ c .before .image-length .ensures)
 
 pub image-size-spec : {M : Type 1} → statement M
 image-size-spec =
