@@ -4,6 +4,7 @@ use mathlib.Core.Path.{_≡_}
 use mathlib.Core.Bool.{true, cond, _&&_}
 use mathlib.Core.List.{List}
 use lib.ListN.{getD, length, replicate}
+use Rattle.words.specs.Word.{kindUnit}
 use Rattle.words.specs.Bits.{bit, full}
 use Rattle.words.specs.Array.{array}
 use Rattle.words.specs.Table.{updated}
@@ -57,7 +58,7 @@ opened s cast =
 -- Rule 7: all words of a round hold the syndromes of the round before, those of marked modules too. (A syndrome has no bit at 28 or above; the
 -- remainder keeps the sum a word whatever a state holds.)
 unfoldable pub sentWords : ℕ → List State → List ℕ
-sentWords n states = array n (λ j. busWord (stateAt states j .latest % 2 ^ 28))
+sentWords n states = array n (λ j. busWord (stateAt states j .latest % kindUnit))
 
 -- the step of module i + 1, on its read by rule 3 of this round's bus and the one before
 unfoldable pub stepAt : Setup → List State → Bus → Bus → ℕ → Stepped

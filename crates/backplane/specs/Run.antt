@@ -8,7 +8,7 @@ use Rattle.words.specs.Word.{wordAt}
 use Rattle.words.specs.Verdict.{isAccepted}
 use Rattle.setup.specs.Setup.{sizeIn, blankSetup}
 use Rattle.setup.specs.Check.{setupPart, readSetup}
-use Rattle.script.specs.Words.{castAt, castIn}
+use Rattle.script.specs.Words.{castAt, castIn, mostRounds}
 use Rattle.script.specs.Check.{checkScript}
 use Rattle.script.specs.Events.{none}
 use Rattle.script.specs.Cursor.{start, advanced}
@@ -37,7 +37,7 @@ startOf s =
 
 -- there is a next round, at the place c. (The bound does not stop an accepted script, which has at most 100,000 rounds.)
 unfoldable pub goesOn : Cursor → Backplane → Bool
-goesOn c b = not (c .over) && ltb (b .round) 100000
+goesOn c b = not (c .over) && ltb (b .round) mostRounds
 
 -- the run after its next round; a script that is over leaves the backplane as it is
 unfoldable pub nextOf : List ℕ → Run → Run

@@ -2,6 +2,7 @@
 use crate::Filled;
 use crate::Run;
 use presence::State;
+use script::MOST_ROUNDS;
 use text::line::put_lines;
 ghost use mathlib.Core.Path.{_≡_};
 ghost use Prim.Native.Nat.{_+_, _≤_, _<_};
@@ -45,7 +46,7 @@ impl Run {
         let last = self.cursor;
         let backplane = self.backplane;
         let cursor = last.advance(s);
-        if !cursor.over & (backplane.round < 100000) {
+        if !cursor.over & (backplane.round < MOST_ROUNDS) {
             let events = cursor.events;
             let played = backplane.play(events);
             return Run {

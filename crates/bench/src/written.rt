@@ -4,6 +4,7 @@ ghost use mathlib.Core.Path.{_≡_};
 ghost use mathlib.Core.Bool.{true};
 ghost use Prim.Native.Nat.{_+_, _≤_, _<_};
 ghost use lib.ListN.{length, take};
+ghost use Rattle.script.specs.Words.{mostRounds};
 ghost use Rattle.backplane.specs.Output.{partOf};
 
 // How many parts are written, and whether standard output took them whole.
@@ -25,7 +26,7 @@ impl Written {
 
     // Writes the next part of what the bench writes for a script: the first `end` bytes of `out`. A part that was not taken is not forgotten.
     pub fn with_part(self, script: &[u8], out: &[u8], end: usize) -> Written
-        requires { ⌜ (self .parts < 100000) × (end ≤ length (now out)) × (take end (now out) ≡ partOf (now script) (self .parts)) ⌝ }
+        requires { ⌜ (self .parts < mostRounds) × (end ≤ length (now out)) × (take end (now out) ≡ partOf (now script) (self .parts)) ⌝ }
         ensures { λ r. ⌜ (r .parts ≡ self .parts + 1) × ((r .whole ≡ true → self .whole ≡ true)) ⌝ }
     {
         let took = io::write_all(1, &out[..end]);

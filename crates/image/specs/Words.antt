@@ -22,13 +22,17 @@ ownIn w = field 16 5 w
 abbrev pub viewIn : ℕ → ℕ
 viewIn w = w % vectorUnit
 
+-- its bits from this unit on are the kind, and spare ones
+abbrev pub spareUnit : ℕ
+spareUnit = 2 ^ 21
+
 -- an own number 1..N, else number 7; tested only where the word is of kind 10
 unfoldable pub ownNumberOk : ℕ → ℕ → Bool
 ownNumberOk n w = not (eqb (w / kindUnit) 10) || between 1 n (ownIn w)
 
 -- kind 10, no spare bit, a view without bits at N or above, else number 8
 unfoldable pub ownOk : ℕ → ℕ → Bool
-ownOk n w = eqb (w / 2 ^ 21) (10 * 2 ^ 7) && ltb (viewIn w) (2 ^ n)
+ownOk n w = eqb (w / spareUnit) (10 * 2 ^ 7) && ltb (viewIn w) (2 ^ n)
 
 -- kind 12: 15..0 one aligned syndrome
 abbrev pub syndromeWord : ℕ → ℕ

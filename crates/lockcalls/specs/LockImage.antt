@@ -24,9 +24,13 @@ use Rattle.lockcalls.specs.declared.LocksRead.{LocksRead}
 
 -- ---- words
 
+-- the unit of N in word 0: the view stands below it
+abbrev pub viewUnit : ℕ
+viewUnit = 2 ^ 16
+
 -- word 0
 unfoldable pub lockHead : ℕ → ℕ → ℕ
-lockHead n view = n % 2 ^ 16 * 2 ^ 16 + view % 2 ^ 16
+lockHead n view = n % viewUnit * viewUnit + view % viewUnit
 
 -- the word of an axis
 unfoldable pub axisWord : Axis → ℕ
@@ -52,13 +56,13 @@ axesIn s = updated 8 (λ i. axisIn (wordAt s (i + 1))) (replicate 8 free)
 
 -- the locks that the words of s hold; whether they are right is checked apart (`checkLockImage`)
 unfoldable pub locksOf : List ℕ → Locks
-locksOf s = locks (wordAt s 0 / 2 ^ 16) (wordAt s 0 % 2 ^ 16) (axesIn s)
+locksOf s = locks (wordAt s 0 / viewUnit) (wordAt s 0 % viewUnit) (axesIn s)
 
 -- ---- which images are accepted: those of locks that a history can leave, in their one form
 
 -- N is 2..16, and the view has no bit at N or above
 unfoldable pub lockHeadOk : ℕ → Bool
-lockHeadOk w = leb 2 (w / 2 ^ 16) && leb (w / 2 ^ 16) 16 && ltb (w % 2 ^ 16) (2 ^ (w / 2 ^ 16))
+lockHeadOk w = leb 2 (w / viewUnit) && leb (w / viewUnit) 16 && ltb (w % viewUnit) (2 ^ (w / viewUnit))
 
 -- a word that is an axis's in its one form, and fits the view
 unfoldable pub axisOk : ℕ → ℕ → Bool
@@ -76,7 +80,7 @@ lockTests s =
     single (whole s) 1 0
     ∷ single (lockHeadOk (wordAt s 0)) 2 0
     ∷ single (eqb (length s) 36) 3 0
-    ∷ each 8 (λ i. axisOk (wordAt s 0 % 2 ^ 16) (wordAt s (i + 1))) 8 1
+    ∷ each 8 (λ i. axisOk (wordAt s 0 % viewUnit) (wordAt s (i + 1))) 8 1
     ∷ []
 
 -- the first refusal

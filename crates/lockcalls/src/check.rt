@@ -1,4 +1,5 @@
 // The check of a saved scan lock: 1, 2, 3, then 8 at the first wrong word of an axis.
+use crate::word::VIEW;
 use crate::word::axis_ok;
 use crate::word::head_ok;
 use words::Verdict;
@@ -41,7 +42,7 @@ pub fn check_lock(image: &[u8]) -> Verdict
     if image.len() != 36 {
         return refusal(3, 0);
     }
-    let first = wrong_axis(image, head % 65536);
+    let first = wrong_axis(image, head % VIEW);
     if first != 0 {
         return refusal(8, first as u32);
     }

@@ -1,6 +1,7 @@
 // Reading a saved scan lock.
 use crate::LocksRead;
 use crate::check::check_lock;
+use crate::word::VIEW;
 use crate::word::axis_in;
 use scanlock::Axis;
 use scanlock::Locks;
@@ -31,8 +32,8 @@ pub fn locks_in(image: &[u8]) -> Locks
     let head = word_at(image, 0);
     let axes = axes_in(image);
     Locks {
-        n: head / 65536,
-        view: head % 65536,
+        n: head / VIEW,
+        view: head % VIEW,
         axes,
     }
 }

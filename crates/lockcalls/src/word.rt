@@ -6,19 +6,22 @@ use words::bits::flag;
 ghost use mathlib.Core.Path.{_≡_};
 ghost use Rattle.lockcalls.specs.LockImage.{lockHead, lockHeadOk, axisWord, axisIn, axisOk};
 
+// 2^16: N of the head is head / VIEW, and the view head % VIEW.
+pub const VIEW: u32 = 65536;
+
 // The head: N and the view.
 pub fn head_word(n: u32, view: u32) -> u32
     ensures { λ r. ⌜ r ≡ lockHead n view ⌝ }
 {
-    n % 65536 * 65536 + view % 65536
+    n % VIEW * VIEW + view % VIEW
 }
 
 // Whether a word is a head: N is 2..16, and the view names no module above it.
 pub fn head_ok(w: u32) -> bool
     ensures { λ r. ⌜ r ≡ lockHeadOk w ⌝ }
 {
-    let n = w / 65536;
-    (2 <= n) & (n <= 16) & view_fits(n, w % 65536)
+    let n = w / VIEW;
+    (2 <= n) & (n <= 16) & view_fits(n, w % VIEW)
 }
 
 // The axis of a word, whatever its other bits are.

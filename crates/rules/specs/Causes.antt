@@ -6,7 +6,7 @@ use mathlib.Core.Bool.{Bool, true, false, _&&_}
 use mathlib.Core.List.{List, [], _∷_}
 use lib.ListN.{getD}
 use lib.Dec.{eqb}
-use Rattle.words.specs.Word.{wordAt, bytesOf}
+use Rattle.words.specs.Word.{wordAt, bytesOf, kindUnit}
 use Rattle.words.specs.Bits.{bit}
 use Rattle.rules.specs.Hearing.{receptionOf, heardRow, causeIn, readingOf, causesOf}
 
@@ -19,13 +19,13 @@ pub record Causes : Type 0 where
   -- 1, controller loss, exactly if the controller bit is 0, whatever the word
   pub loss : (n : ℕ) (on : Bool) (w : ℕ) → (causeOf n on w ≡ 1) ↔ (on ≡ false)
   -- 2, wrong kind, exactly if the controller bit is 1 and the top four bits are not 5, whatever the others
-  pub kind : (n : ℕ) (on : Bool) (w : ℕ) → (causeOf n on w ≡ 2) ↔ ((on ≡ true) × (w / 2 ^ 28 ≢ 5))
+  pub kind : (n : ℕ) (on : Bool) (w : ℕ) → (causeOf n on w ≡ 2) ↔ ((on ≡ true) × (w / kindUnit ≢ 5))
   -- 3, stray bits, exactly if the controller bit is 1, the top four bits are 5, and one of bits 27..N is set
   pub stray : (n : ℕ) (on : Bool) (w : ℕ)
-      → (causeOf n on w ≡ 3) ↔ ((on ≡ true) × (w / 2 ^ 28 ≡ 5) × ((b : ℕ) × (n ≤ b) × (b < 28) × (bit w b ≡ true)))
+      → (causeOf n on w ≡ 3) ↔ ((on ≡ true) × (w / kindUnit ≡ 5) × ((b : ℕ) × (n ≤ b) × (b < 28) × (bit w b ≡ true)))
   -- 0, heard, exactly if the controller bit is 1, the top four bits are 5, and none of bits 27..N is set
   pub heard : (n : ℕ) (on : Bool) (w : ℕ)
-      → (causeOf n on w ≡ 0) ↔ ((on ≡ true) × (w / 2 ^ 28 ≡ 5) × ((b : ℕ) → n ≤ b → b < 28 → bit w b ≡ false))
+      → (causeOf n on w ≡ 0) ↔ ((on ≡ true) × (w / kindUnit ≡ 5) × ((b : ℕ) → n ≤ b → b < 28 → bit w b ≡ false))
   -- there is no other code
   pub codes : (n : ℕ) (on : Bool) (w : ℕ) → causeOf n on w ≤ 3
   -- a heard word's row is its low N bits; of any other there is none

@@ -3,7 +3,7 @@ use Prim.Native.Nat.{ℕ, _+_, _*_, _/_, _%_, _^_}
 use mathlib.Core.Bool.{Bool, true, false, cond}
 use mathlib.Core.List.{List}
 use lib.Dec.{eqb, ltb}
-use Rattle.words.specs.Word.{wordAt}
+use Rattle.words.specs.Word.{wordAt, kindUnit}
 use Rattle.words.specs.Bits.{bit, pack}
 use Rattle.words.specs.Array.{array}
 use Rattle.rules.specs.declared.Reception.{Reception}
@@ -13,15 +13,15 @@ use Rattle.rules.specs.declared.Reading.{Reading}
 
 -- a bus word, kind 5: bits 15..0 a syndrome
 unfoldable pub busWord : ℕ → ℕ
-busWord syndrome = 5 * 2 ^ 28 + syndrome
+busWord syndrome = 5 * kindUnit + syndrome
 
 -- What reading a bus word w answers, where its controller bit is `on`: the first that applies of controller loss, wrong kind, which is another
 -- than 5, and stray bits, which are bits at N or above; else heard, with its row. Nothing else decides what is heard.
 unfoldable pub receptionOf : ℕ → Bool → ℕ → Reception
 receptionOf n on w =
     cond on
-    (cond (eqb (w / 2 ^ 28) 5)
-    (cond (ltb (w % 2 ^ 28) (2 ^ n)) (Heard (w % 2 ^ 28)) StrayBits)
+    (cond (eqb (w / kindUnit) 5)
+    (cond (ltb (w % kindUnit) (2 ^ n)) (Heard (w % kindUnit)) StrayBits)
     WrongKind)
     ControllerLoss
 

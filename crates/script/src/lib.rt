@@ -4,6 +4,9 @@ mod event;
 mod layout;
 mod play;
 
+// How many rounds a script has at most.
+pub use layout::MOST_ROUNDS;
+
 // How far a run script has been checked: whether the next word is a told word, whether an event waits for a play, and the rounds so far.
 struct Scan {
     pub told: bool,

@@ -11,7 +11,7 @@ use Rattle.words.specs.Verdict.{isAccepted, between, Test, single, each, andThe
 use Rattle.words.specs.declared.Verdict.{Verdict}
 use Rattle.setup.specs.Layout.{headAt, penaltyLimitAt, rewardLimitAt, modulesAt, setupLength}
 use Rattle.setup.specs.Limits.{leastModules, mostModules, mostPenaltyLimit, mostRewardLimit, mostCriticality}
-use Rattle.setup.specs.Setup.{headWord, sizeIn, limitWord, markIn, placeIn, criticalityIn, setupOf, setupBytes, blankSetup}
+use Rattle.setup.specs.Setup.{headWord, sizeIn, limitWord, placeUnit, markIn, placeIn, criticalityIn, setupOf, setupBytes, blankSetup}
 use Rattle.setup.specs.declared.Setup.{Setup}
 use Rattle.setup.specs.declared.SetupRead.{SetupRead}
 
@@ -92,7 +92,7 @@ setupPart s = take (cond (isAccepted (checkFront s)) (setupLength (sizeIn (wordA
 
 -- read places and criticalities have room in their words, and they and the marks hold nothing from n on
 unfoldable pub setupRoomy : Setup → Bool
-setupRoomy s = ltb (s .marks) (2 ^ s .n) && bounded (s .n) (2 ^ 5 - 1) (s .places) && bounded (s .n) (2 ^ 17 - 1) (s .criticality)
+setupRoomy s = ltb (s .marks) (2 ^ s .n) && bounded (s .n) (2 ^ 5 - 1) (s .places) && bounded (s .n) (placeUnit - 1) (s .criticality)
 
 -- what its words would not show: N out of range, a limit too wide for its word, and 5 with index 0 for the module words
 abbrev pub roomTests : Setup → List Test

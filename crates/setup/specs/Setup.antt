@@ -27,9 +27,16 @@ limitWord kind limit = kind * kindUnit + limit
 abbrev pub limitIn : ℕ → ℕ
 limitIn w = w % kindUnit
 
+-- the units of the send mark and the read place in a module word: the criticality stands below both
+abbrev pub markUnit : ℕ
+markUnit = 2 ^ 22
+
+abbrev pub placeUnit : ℕ
+placeUnit = 2 ^ 17
+
 -- kind 4, of module j + 1: 27..23 number, 22 send mark, 21..17 read place, 16..0 criticality
 abbrev pub moduleWord : ℕ → Bool → ℕ → ℕ → ℕ
-moduleWord j mark place criticality = 4 * kindUnit + (j + 1) * numberUnit + b2n mark * 2 ^ 22 + place * 2 ^ 17 + criticality
+moduleWord j mark place criticality = 4 * kindUnit + (j + 1) * numberUnit + b2n mark * markUnit + place * placeUnit + criticality
 
 -- the send mark in such a word
 abbrev pub markIn : ℕ → Bool
@@ -41,7 +48,7 @@ placeIn w = field 17 5 w
 
 -- the criticality in it
 abbrev pub criticalityIn : ℕ → ℕ
-criticalityIn w = w % 2 ^ 17
+criticalityIn w = w % placeUnit
 
 -- the setup that the first N + 3 words of s hold, N by the head; whether they are right is checked apart (`checkSetup`)
 unfoldable pub setupOf : List ℕ → Setup
