@@ -7,6 +7,7 @@ pub mod Shared
 pub mod Meets
 pub mod Ledger
 pub mod Demand
+pub mod BackInView
 pub mod Existence
 pub mod Images
 pub mod Stars

@@ -2,6 +2,7 @@ pub mod Fault
 pub mod Session
 pub mod Life
 pub mod Demand
+pub mod BackInView
 pub mod Existence
 pub mod Ledger
 pub mod Images

@@ -1,3 +1,4 @@
 pub mod ModuleCallLaws
 pub mod CallAnswers
 pub mod Refusals
+pub mod ReturnCases

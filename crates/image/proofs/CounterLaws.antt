@@ -3,7 +3,7 @@
 use mathlib.Core.Path.{_≡_, refl, ap, _∙_, sym}
 use mathlib.Core.Bool.{Bool, true, not}
 use mathlib.Core.Logic.{⊎-elim}
-use mathlib.Core.List.{List, [], _∷_}
+use mathlib.Core.List.{List}
 use Prim.Native.Nat.{ℕ, _+_, _-_, _*_, _/_, _%_, _^_, _<_, _≤_}
 use native.Mathlib.Omega.{arith}
 use native.Mathlib.Nat.{eq-zero-or-pos}
@@ -13,23 +13,23 @@ use borrow.Author.Tests.{leb-true, ltb-true, le-leb, lt-ltb, eqb-true, eq-eqb, n
 use Rattle.words.specs.Word.{wordAt}
 use Rattle.words.specs.Bits.{bit, full}
 use Rattle.words.specs.Array.{array, bounded}
-use Rattle.words.specs.Verdict.{Test, each}
-use Rattle.words.specs.Runs.{Run}
+use Rattle.words.specs.Verdict.{each}
 use Rattle.words.proofs.Truth.{and-l, and-r, and-true, or-l, or-r, or-cases, beq-eq, beq-refl, clash, not-both}
 use Rattle.words.proofs.BitLaws.{bit-full}
 use Rattle.words.proofs.ArrayLaws.{clearFrom, array-at, array-ext, array-own, array-clear, array-length, clear-of, bounded-at, bounded-clear, bounded-of}
 use Rattle.words.proofs.VerdictLaws.{Passed}
 use Rattle.words.proofs.RunLaws.{Follows}
-use Rattle.setup.specs.Layout.{penaltyLimitAt, rewardLimitAt, modulesAt}
-use Rattle.setup.specs.Setup.{sizeIn, limitIn, criticalityIn, setupOf}
+use Rattle.setup.specs.Layout.{headAt, penaltyLimitAt, rewardLimitAt, modulesAt}
+use Rattle.setup.specs.Setup.{returnLimitIn, sizeIn, limitIn, criticalityIn, setupOf}
 use Rattle.setup.proofs.SetupLaws.{SetupFits}
 use Rattle.setup.specs.declared.Setup.{Setup}
 use Rattle.rules.specs.Account.{accountAt, countersOf}
 use Rattle.rules.specs.declared.Counters.{Counters}
 use Rattle.rules.proofs.AccountLaws.{AccountFits, counters-fit}
-use Rattle.image.specs.Layout.{ownAt, penaltiesAt, rewardsAt}
+use Rattle.image.specs.Layout.{ownAt, penaltiesAt, rewardsAt, returnsAt}
 use Rattle.image.specs.Words.{viewIn}
 use Rattle.image.specs.Counters.{counterWord, counterIn, counterOf, penaltyFits, rewardFits, counterTests, countersIn, counterRuns, zeroCounters, ShapedCounters, countersRoomy}
+use Rattle.image.proofs.ReturnLaws.{return-zero, return-small, ReturnsFit, returns-after}
 
 -- ---- one word, of any kind
 
@@ -50,8 +50,8 @@ module _ (kind j v : ℕ) (h : v < 2 ^ 23) where
 
 -- ---- one account, as its words are tested
 
-pub account-is : (p r k : ℕ) (present : Bool) (penalty reward : ℕ) → penaltyFits p k present penalty ≡ true → rewardFits r penalty reward ≡ true
-    → AccountFits p r k (record { present = present; penalty = penalty; reward = reward })
+pub account-is : (p r k : ℕ) (present : Bool) (penalty reward : ℕ) {returns : ℕ} → penaltyFits p k present penalty ≡ true → rewardFits r penalty reward ≡ true
+    → AccountFits p r k (record { present = present; penalty = penalty; reward = reward; returns = returns })
 unfolding penaltyFits rewardFits
 account-is p r k present penalty reward e d = record {
   penalty = leb-true penalty (p + k) (and-l (leb penalty (p + k)) _ e);
@@ -62,14 +62,14 @@ account-is p r k present penalty reward e d = record {
       (or-cases (eqb reward 0) (not (eqb penalty 0)) (and-r (ltb reward r) _ d));
 }
 
-pub penalty-of : (p r k : ℕ) (present : Bool) (penalty reward : ℕ)
-    → AccountFits p r k (record { present = present; penalty = penalty; reward = reward }) → penaltyFits p k present penalty ≡ true
+pub penalty-of : (p r k : ℕ) (present : Bool) (penalty reward : ℕ) {returns : ℕ}
+    → AccountFits p r k (record { present = present; penalty = penalty; reward = reward; returns = returns }) → penaltyFits p k present penalty ≡ true
 unfolding penaltyFits
 penalty-of p r k present penalty reward f =
     and-true (leb penalty (p + k)) _ (le-leb penalty (p + k) (f .penalty)) (rw (f .view) (beq-refl (leb penalty p)))
 
-pub reward-of : (p r k : ℕ) (present : Bool) (penalty reward : ℕ)
-    → AccountFits p r k (record { present = present; penalty = penalty; reward = reward }) → rewardFits r penalty reward ≡ true
+pub reward-of : (p r k : ℕ) (present : Bool) (penalty reward : ℕ) {returns : ℕ}
+    → AccountFits p r k (record { present = present; penalty = penalty; reward = reward; returns = returns }) → rewardFits r penalty reward ≡ true
 unfolding rewardFits
 reward-of p r k present penalty reward f =
     and-true (ltb reward r) _ (lt-ltb reward r (f .reward))
@@ -83,24 +83,31 @@ pub record CountersSmall (n : ℕ) (c : Counters) : Type 0 where
   pub reward : (j : ℕ) → j < n → getD (c .reward) j 0 < 2 ^ 23
   pub no-penalty : clearFrom n (c .penalty) ≡ true
   pub no-reward : clearFrom n (c .reward) ≡ true
+  pub returns : (j : ℕ) → j < n → getD (c .returns) j 0 < 2 ^ 23
+  pub no-returns : clearFrom n (c .returns) ≡ true
 
 pub roomy-counters : (n : ℕ) (c : Counters) → n ≤ 16 → countersRoomy n c ≡ true → CountersSmall n c
 unfolding countersRoomy
 roomy-counters n c l e =
     let penalty = and-l (bounded n (2 ^ 23 - 1) (c .penalty)) _ e in
-    let reward = and-r (bounded n (2 ^ 23 - 1) (c .penalty)) _ e in
+    let others = and-r (bounded n (2 ^ 23 - 1) (c .penalty)) _ e in
+    let reward = and-l (bounded n (2 ^ 23 - 1) (c .reward)) _ others in
+    let returns = and-r (bounded n (2 ^ 23 - 1) (c .reward)) _ others in
     record {
       penalty = λ j h. omega (arith, bounded-at n _ (c .penalty) penalty j h l);
       reward = λ j h. omega (arith, bounded-at n _ (c .reward) reward j h l);
       no-penalty = bounded-clear n _ (c .penalty) penalty;
       no-reward = bounded-clear n _ (c .reward) reward;
+      returns = λ j h. omega (arith, bounded-at n _ (c .returns) returns j h l);
+      no-returns = bounded-clear n _ (c .returns) returns;
     }
 
 pub counters-roomy : (n : ℕ) (c : Counters) → CountersSmall n c → countersRoomy n c ≡ true
 unfolding countersRoomy
 counters-roomy n c m =
     and-true _ _ (bounded-of n _ (c .penalty) (λ j h. omega (arith, m .penalty j h)) (m .no-penalty))
-    (bounded-of n _ (c .reward) (λ j h. omega (arith, m .reward j h)) (m .no-reward))
+    (and-true _ _ (bounded-of n _ (c .reward) (λ j h. omega (arith, m .reward j h)) (m .no-reward))
+    (bounded-of n _ (c .returns) (λ j h. omega (arith, m .returns j h)) (m .no-returns)))
 
 -- ---- counters within the limits of a setup
 
@@ -108,6 +115,7 @@ pub record CountersFit (s : Setup) (c : Counters) : Type 0 where
   pub accounts : (j : ℕ) → j < s .n → AccountFits (s .p) (s .r) (getD (s .criticality) j 0) (accountAt c j)
   pub no-penalty : clearFrom (s .n) (c .penalty) ≡ true
   pub no-reward : clearFrom (s .n) (c .reward) ≡ true
+  pub returns : ReturnsFit s c
 
 -- they have room
 pub counters-small : (s : Setup) (c : Counters) → SetupFits s → CountersFit s c → CountersSmall (s .n) c
@@ -117,6 +125,8 @@ counters-small s c f fits = record {
   reward = λ j h. omega (arith, fits .accounts j h .reward, f .r-most);
   no-penalty = fits .no-penalty;
   no-reward = fits .no-reward;
+  returns = λ j h. omega (arith, return-small _ _ _ (f .q-most) (fits .returns .fits j h));
+  no-returns = fits .returns .none;
 }
 
 -- those of a module that is opened
@@ -131,6 +141,7 @@ zero-counters s f = record {
   };
   no-penalty = zeros;
   no-reward = zeros;
+  returns = record { fits = λ j k. return-zero _ _ _ (zero-at j k); none = zeros };
 }
   where
     zero-at : (j : ℕ) → j < s .n → getD {A = ℕ} (replicate 16 0) j 0 ≡ 0
@@ -146,20 +157,21 @@ round-counters s health c f fits = record {
   accounts = counters-fit s health c (f .most) (fits .accounts);
   no-penalty = array-clear (s .n) _;
   no-reward = array-clear (s .n) _;
+  returns = returns-after s health c (f .most);
 }
 
 -- ---- their arrays
 
 pub zero-shaped : (view : ℕ) → ShapedCounters (zeroCounters view)
-zero-shaped view = record { penalty = refl; reward = refl }
+zero-shaped view = record { penalty = refl; reward = refl; returns = refl }
 
 pub round-shaped : (s : Setup) (health : ℕ) (c : Counters) → ShapedCounters c → ShapedCounters (countersOf s health c)
 unfolding countersOf
-round-shaped s health c a = record { penalty = array-length _ _; reward = array-length _ _ }
+round-shaped s health c a = record { penalty = array-length _ _; reward = array-length _ _; returns = array-length _ _ }
 
 pub read-shaped : (s : List ℕ) (n : ℕ) → ShapedCounters (countersIn s n)
 unfolding countersIn
-read-shaped s n = record { penalty = array-length _ _; reward = array-length _ _ }
+read-shaped s n = record { penalty = array-length _ _; reward = array-length _ _; returns = array-length _ _ }
 
 -- ---- one section, of any kind
 
@@ -186,21 +198,24 @@ counter-same kind n at w l pass j h = sym (rw (array-at n (λ k. counterIn (w (a
 pub record SetupWords (w : ℕ → ℕ) (s : Setup) (view : ℕ) : Type 0 where
   pub p-there : limitIn (w penaltyLimitAt) ≡ s .p
   pub r-there : limitIn (w rewardLimitAt) ≡ s .r
+  pub q-there : returnLimitIn (w headAt) ≡ s .q
   pub criticality-there : (j : ℕ) → j < s .n → criticalityIn (w (modulesAt + j)) ≡ getD (s .criticality) j 0
   pub view-there : viewIn (w (ownAt (s .n))) ≡ view
 
 pub record CountersRead (w : ℕ → ℕ) (n : ℕ) (c : Counters) : Type 0 where
   pub penalty : (j : ℕ) → j < n → counterIn (w (penaltiesAt n + j)) ≡ getD (c .penalty) j 0
   pub reward : (j : ℕ) → j < n → counterIn (w (rewardsAt n + j)) ≡ getD (c .reward) j 0
+  pub returns : (j : ℕ) → j < n → counterIn (w (returnsAt n + j)) ≡ getD (c .returns) j 0
 
 module _ (w : ℕ → ℕ) (n : ℕ) (c : Counters) (m : CountersSmall n c) (f : Follows w (penaltiesAt n) (counterRuns n c)) where
   pub counters-read : CountersRead w n c
   unfolding Follows
   counters-read =
-      let (penalties, (rewards, _)) = f in
+      let (penalties, (rewards, (returns, _))) = f in
       record {
         penalty = counter-there 13 n (penaltiesAt n) w (c .penalty) (m .penalty) penalties;
         reward = counter-there 14 n (rewardsAt n) w (c .reward) (m .reward) rewards;
+        returns = counter-there 15 n (returnsAt n) w (c .returns) (m .returns) returns;
       }
 
 module _ (w : ℕ → ℕ) (s : Setup) (c : Counters) (m : CountersSmall (s .n) c) (f : Follows w (penaltiesAt (s .n)) (counterRuns (s .n) c))
@@ -215,7 +230,7 @@ module _ (w : ℕ → ℕ) (s : Setup) (c : Counters) (m : CountersSmall (s .n) 
   pub counters-ok : CountersFit s c → Passed (counterTests w n)
   unfolding Passed Follows accountAt
   counters-ok fits =
-      let (penalties, (rewards, _)) = f in (
+      let (penalties, (rewards, (returns, _))) = f in (
         λ j h.
             and-true (counterOf 13 j (w (penaltiesAt n + j))) _ (counter-passes 13 n (penaltiesAt n) w (c .penalty) (m .penalty) penalties j h)
             (rw (b .p-there, b .criticality-there j h, b .view-there, q .penalty j h)
@@ -225,30 +240,40 @@ module _ (w : ℕ → ℕ) (s : Setup) (c : Counters) (m : CountersSmall (s .n) 
               and-true (counterOf 14 j (w (rewardsAt n + j))) _ (counter-passes 14 n (rewardsAt n) w (c .reward) (m .reward) rewards j h)
               (rw (b .r-there, q .penalty j h, q .reward j h)
               (reward-of (s .p) (s .r) (getD (s .criticality) j 0) (bit (c .view) j) _ _ (fits .accounts j h))),
-          tt,
+          (
+            λ j h.
+                and-true (counterOf 15 j (w (returnsAt n + j))) _ (counter-passes 15 n (returnsAt n) w (c .returns) (m .returns) returns j h)
+                (rw (b .q-there, b .view-there, q .returns j h) (fits .returns .fits j h)),
+            tt,
+          ),
         ),
       )
 
   -- and are within the limits where they pass
   pub counters-pass : Passed (counterTests w n) → CountersFit s c
   unfolding Passed accountAt
-  counters-pass (penalties, (rewards, _)) = record {
+  counters-pass (penalties, (rewards, (returns, _))) = record {
     accounts = λ j h.
         account-is (s .p) (s .r) (getD (s .criticality) j 0) _ _ _
         (rw (b .p-there, b .criticality-there j h, b .view-there, q .penalty j h) at (and-r (counterOf 13 j (w (penaltiesAt n + j))) _ (penalties j h)))
         (rw (b .r-there, q .penalty j h, q .reward j h) at (and-r (counterOf 14 j (w (rewardsAt n + j))) _ (rewards j h)));
     no-penalty = m .no-penalty;
     no-reward = m .no-reward;
+    returns = record {
+      fits = λ j h. rw (b .q-there, b .view-there, q .returns j h) at (and-r (counterOf 15 j (w (returnsAt n + j))) _ (returns j h));
+      none = m .no-returns;
+    };
   }
 
 -- read from their bytes, they give them back
 pub counters-back : (s : List ℕ) (n : ℕ) (c : Counters) → n ≤ 16 → CountersSmall n c → ShapedCounters c
     → Follows (wordAt s) (penaltiesAt n) (counterRuns n c) → viewIn (wordAt s (ownAt n)) ≡ c .view → c ≡ countersIn s n
 unfolding countersIn Follows
-counters-back s n c l m a (penalties, (rewards, _)) v = λ i. record {
+counters-back s n c l m a (penalties, (rewards, (returns, _))) v = λ i. record {
   view = sym v i;
   penalty = array-back 13 n (penaltiesAt n) (wordAt s) (c .penalty) (m .penalty) penalties l (a .penalty) (m .no-penalty) i;
   reward = array-back 14 n (rewardsAt n) (wordAt s) (c .reward) (m .reward) rewards l (a .reward) (m .no-reward) i;
+  returns = array-back 15 n (returnsAt n) (wordAt s) (c .returns) (m .returns) returns l (a .returns) (m .no-returns) i;
 }
 
 -- ---- words that pass
@@ -261,7 +286,7 @@ module _ (s : List ℕ) (pass : Passed (counterTests (wordAt s) (sizeIn (wordAt 
   pub read-counters : CountersFit (setupOf s) (countersIn s size)
   unfolding Passed setupOf countersIn accountAt
   read-counters =
-      let (penalties, (rewards, _)) = pass in
+      let (penalties, (rewards, (returns, _))) = pass in
       record {
         accounts = λ j h.
             rw (
@@ -273,13 +298,22 @@ module _ (s : List ℕ) (pass : Passed (counterTests (wordAt s) (sizeIn (wordAt 
             (and-r (counterOf 14 j (wordAt s (rewardsAt size + j))) _ (rewards j h)));
         no-penalty = array-clear size _;
         no-reward = array-clear size _;
+        returns = record {
+          fits = λ j h.
+              rw (array-at size (λ k. counterIn (wordAt s (returnsAt size + k))) j h l)
+              (and-r (counterOf 15 j (wordAt s (returnsAt size + j))) _ (returns j h));
+          none = array-clear size _;
+        };
       }
 
   -- and they are written as they were read
   pub counters-same : Follows (wordAt s) (penaltiesAt size) (counterRuns size (countersIn s size))
   unfolding Passed Follows countersIn
   counters-same =
-      let (penalties, (rewards, _)) = pass in (
+      let (penalties, (rewards, (returns, _))) = pass in (
         counter-same 13 size (penaltiesAt size) (wordAt s) l (λ j h. and-l (counterOf 13 j (wordAt s (penaltiesAt size + j))) _ (penalties j h)),
-        (counter-same 14 size (rewardsAt size) (wordAt s) l (λ j h. and-l (counterOf 14 j (wordAt s (rewardsAt size + j))) _ (rewards j h)), tt),
+        (
+          counter-same 14 size (rewardsAt size) (wordAt s) l (λ j h. and-l (counterOf 14 j (wordAt s (rewardsAt size + j))) _ (rewards j h)),
+          (counter-same 15 size (returnsAt size) (wordAt s) l (λ j h. and-l (counterOf 15 j (wordAt s (returnsAt size + j))) _ (returns j h)), tt),
+        ),
       )

@@ -1,5 +1,6 @@
 pub mod SingleWords
 pub mod RowLaws
+pub mod ReturnLaws
 pub mod CounterLaws
 pub mod TailLaws
 pub mod ReadLaws

@@ -19,6 +19,7 @@ use Rattle.setup.specs.declared.Setup.{Setup}
 use Rattle.image.specs.Layout.{ownAt, latestAt, earlierAt}
 use Rattle.image.specs.Words.{ownNumberOk, ownOk, syndromeOk}
 use Rattle.image.specs.Rows.{rowTest}
+use Rattle.image.specs.Returns.{returnTest}
 use Rattle.image.specs.Counters.{counterOf, counterIn, penaltyFits, rewardFits, penaltyTest, rewardTest, counterTests}
 use Rattle.image.specs.Check.{wordsRight, imageTests}
 
@@ -71,11 +72,13 @@ pub read-criticality : {setup : Setup} (s : List ℕ) {n : ℕ} → n ≡ sizeIn
 unfolding setupOf
 read-criticality s h e = rw h (ap (λ (x : Setup). x .criticality) e)
 
--- the tests of both counters of every module in one pass
-pub counters-right : (w : ℕ → ℕ) (n : ℕ) {good : Bool} → good ≡ all n (λ j. penaltyTest w n j && rewardTest w n j) → good ≡ allRight (counterTests w n)
+-- the three tests of every module in one pass
+pub counters-right : (w : ℕ → ℕ) (n : ℕ) → all n (λ j. penaltyTest w n j && (rewardTest w n j && returnTest w n j)) ≡ allRight (counterTests w n)
 unfolding allRight
-counters-right w n e =
-    e ∙ all-both n (penaltyTest w n) (rewardTest w n) ∙ ap (λ (b : Bool). all n (penaltyTest w n) && b) (sym (and-end (all n (rewardTest w n))))
+counters-right w n =
+    all-both n (penaltyTest w n) (λ j. rewardTest w n j && returnTest w n j)
+    ∙ ap (λ (b : Bool). all n (penaltyTest w n) && b)
+    (all-both n (rewardTest w n) (returnTest w n) ∙ ap (λ (b : Bool). all n (rewardTest w n) && b) (sym (and-end (all n (returnTest w n)))))
 
 -- a word at a place that has a name
 pub word-by : {at place w : ℕ} (s : List ℕ) (j : ℕ) → at ≡ place → w ≡ wordAt s (at + j) → w ≡ wordAt s (place + j)

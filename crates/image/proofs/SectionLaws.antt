@@ -11,7 +11,7 @@ use Rattle.words.specs.Runs.{putRun, putRuns}
 use Rattle.words.proofs.VerdictLaws.{and-then-next, single-ok, single-refused}
 use Rattle.words.proofs.SearchLaws.{begins-refused, begins-well}
 use Rattle.rules.specs.declared.Counters.{Counters}
-use Rattle.image.specs.Layout.{ownAt, rowsAt, latestAt, earlierAt, penaltiesAt, rewardsAt}
+use Rattle.image.specs.Layout.{ownAt, rowsAt, latestAt, earlierAt, penaltiesAt, rewardsAt, returnsAt}
 use Rattle.image.specs.Words.{ownNumberOk, ownOk, syndromeOk}
 use Rattle.image.specs.Counters.{counterWord, counterTests, counterRuns}
 use Rattle.image.specs.Check.{sectionTest, checkTail}
@@ -38,10 +38,11 @@ module _ {b ok c fit : Bool} {r : Verdict} {at place : ℕ} (e : b ≡ ok) (d : 
   own-fails f t a = word-fails accepted 8 refl d p t a ∙ begins-well 7 place (single fit 8 place ∷ []) e f
 
 module _ (w : ℕ → ℕ) (n : ℕ) where
-  pub counters-joined : (v : Verdict) {v₁ v₂ : Verdict} {a b : ℕ} → a ≡ penaltiesAt n → v₁ ≡ andThen v (outcome (each n (sectionTest w n 13) 8 a))
-      → b ≡ rewardsAt n → v₂ ≡ andThen v₁ (outcome (each n (sectionTest w n 14) 8 b)) → v₂ ≡ thenTests v (counterTests w n)
+  pub counters-joined : (v : Verdict) {v₁ v₂ v₃ : Verdict} {a b c : ℕ} → a ≡ penaltiesAt n → v₁ ≡ andThen v (outcome (each n (sectionTest w n 13) 8 a))
+      → b ≡ rewardsAt n → v₂ ≡ andThen v₁ (outcome (each n (sectionTest w n 14) 8 b))
+      → c ≡ returnsAt n → v₃ ≡ andThen v₂ (outcome (each n (sectionTest w n 15) 8 c)) → v₃ ≡ thenTests v (counterTests w n)
   unfolding thenTests sectionTest
-  counters-joined v a₁ e₁ a₂ e₂ = rw (e₂, e₁, a₁, a₂)
+  counters-joined v a₁ e₁ a₂ e₂ a₃ e₃ = rw (e₃, e₂, e₁, a₁, a₂, a₃)
 
   pub tail-joined : {v₀ v₁ v₂ v₃ v₄ : Verdict} {a b c : ℕ}
       → v₀ ≡ firstRefusal (single (ownNumberOk n (w (ownAt n))) 7 (ownAt n) ∷ single (ownOk n (w (ownAt n))) 8 (ownAt n) ∷ [])
@@ -52,8 +53,9 @@ module _ (w : ℕ → ℕ) (n : ℕ) where
   unfolding checkTail thenTests sectionTest
   tail-joined e₀ a e₁ b e₂ c e₃ e₄ = rw (e₄, e₃, e₂, e₁, e₀, a, b, c)
 
-pub counters-written : (n : ℕ) (c : Counters) (o : List ℕ) {o₁ o₂ : List ℕ} {a b : ℕ}
+pub counters-written : (n : ℕ) (c : Counters) (o : List ℕ) {o₁ o₂ o₃ : List ℕ} {a b d : ℕ}
     → a ≡ penaltiesAt n → o₁ ≡ putRun o a n (λ j. counterWord 13 j (getD (c .penalty) j 0))
-    → b ≡ rewardsAt n → o₂ ≡ putRun o₁ b n (λ j. counterWord 14 j (getD (c .reward) j 0)) → o₂ ≡ putRuns o (penaltiesAt n) (counterRuns n c)
+    → b ≡ rewardsAt n → o₂ ≡ putRun o₁ b n (λ j. counterWord 14 j (getD (c .reward) j 0))
+    → d ≡ returnsAt n → o₃ ≡ putRun o₂ d n (λ j. counterWord 15 j (getD (c .returns) j 0)) → o₃ ≡ putRuns o (penaltiesAt n) (counterRuns n c)
 unfolding putRuns
-counters-written n c o a e₁ b e₂ = rw (e₂, e₁, a, b)
+counters-written n c o a e₁ b e₂ d e₃ = rw (e₃, e₂, e₁, a, b, d)

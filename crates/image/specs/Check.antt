@@ -1,7 +1,7 @@
 -- The check of a saved state: numbers 1 to 8 in their order, each with the index of its word. (document 01, "Answers and their order")
 use Prim.Native.Nat.{ℕ}
 use mathlib.Core.Bool.{Bool, cond, _&&_}
-use mathlib.Core.List.{List, [], _∷_, _++_}
+use mathlib.Core.List.{List, _∷_, _++_}
 use lib.ListN.{length}
 use lib.Dec.{eqb}
 use Rattle.words.specs.Word.{wordAt}
@@ -13,6 +13,7 @@ use Rattle.setup.specs.Check.{wordTests, checkHead}
 use Rattle.image.specs.Layout.{ownAt, latestAt, earlierAt, imageLength}
 use Rattle.image.specs.Words.{ownNumberOk, ownOk, syndromeOk}
 use Rattle.image.specs.Rows.{rowTest, rowTests}
+use Rattle.image.specs.Returns.{returnTest}
 use Rattle.image.specs.Counters.{penaltyTest, rewardTest, counterTests}
 
 -- numbers 7 and 8 of the words w of an image of n modules: own number and view, rows, the two syndromes, counters
@@ -51,4 +52,5 @@ wordsRight w n =
 
 -- The test of a word by the kind of its section, where there is one word a module; only the search through such a section names it.
 unfoldable pub sectionTest : (ℕ → ℕ) → ℕ → ℕ → ℕ → Bool
-sectionTest w n kind j = cond (eqb kind 11) (rowTest w n j) (cond (eqb kind 13) (penaltyTest w n j) (rewardTest w n j))
+sectionTest w n kind j =
+    cond (eqb kind 11) (rowTest w n j) (cond (eqb kind 13) (penaltyTest w n j) (cond (eqb kind 15) (returnTest w n j) (rewardTest w n j)))

@@ -1,4 +1,4 @@
--- Where the words of a saved state stand, of n modules, section after section. (document 01, "What runs", kinds 10 to 14)
+-- Where the words of a saved state stand, of n modules, section after section. (document 01, "What runs", kinds 10 to 14; document 02, E6, kind 15)
 use Prim.Native.Nat.{ℕ, _+_, _*_}
 use Rattle.setup.specs.Layout.{setupWords}
 
@@ -26,9 +26,13 @@ penaltiesAt n = earlierAt n + 1
 abbrev pub rewardsAt : ℕ → ℕ
 rewardsAt n = penaltiesAt n + n
 
+-- the return counts
+abbrev pub returnsAt : ℕ → ℕ
+returnsAt n = rewardsAt n + n
+
 -- the end: how many words an image has
 abbrev pub endAt : ℕ → ℕ
-endAt n = rewardsAt n + n
+endAt n = returnsAt n + n
 
 -- and how many bytes
 abbrev pub imageLength : ℕ → ℕ

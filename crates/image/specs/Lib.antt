@@ -1,5 +1,6 @@
 pub mod Layout
 pub mod Words
 pub mod Rows
+pub mod Returns
 pub mod Counters
 pub mod Check

@@ -6,8 +6,10 @@ use crate::layout::image_length;
 use crate::layout::latest_at;
 use crate::layout::own_at;
 use crate::layout::penalties_at;
+use crate::layout::returns_at;
 use crate::layout::rewards_at;
 use crate::layout::rows_at;
+use crate::returns::return_right;
 use crate::rows::row_right;
 use crate::word::own_number_ok;
 use crate::word::own_ok;
@@ -40,6 +42,7 @@ fn word_right(s: &[u8], n: usize, kind: u32, j: usize) -> bool
     match kind {
         11 => row_right(s, n, j),
         13 => penalty_right(s, n, j),
+        15 => return_right(s, n, j),
         _ => reward_right(s, n, j),
     }
 }
@@ -115,7 +118,8 @@ fn then_counters(v: Verdict, s: &[u8], n: usize) -> Verdict
     ensures { λ r. ⌜ r ≡ thenTests v (counterTests (wordAt (now (s .entry))) n) ⌝ }
 {
     let penalties = then_section(v, s, n, 13, penalties_at(n));
-    then_section(penalties, s, n, 14, rewards_at(n))
+    let rewards = then_section(penalties, s, n, 14, rewards_at(n));
+    then_section(rewards, s, n, 15, returns_at(n))
 }
 
 // Numbers 7 and 8.

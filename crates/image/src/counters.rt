@@ -1,10 +1,12 @@
-// The counters of the modules, kinds 13 and 14: tested, read and written.
+// The counters of the modules, kinds 13 and 14, and 15 of returns.rt: tested, read and written.
 use crate::CountersPart;
 use crate::layout::penalties_at;
+use crate::layout::returns_at;
 use crate::layout::rewards_at;
 use crate::read::criticality_in;
 use crate::read::limit_in;
 use crate::read::view_in;
+use crate::returns::return_ok;
 use rules::Counters;
 use setup::layout::PENALTY_LIMIT_AT;
 use setup::layout::REWARD_LIMIT_AT;
@@ -22,8 +24,8 @@ ghost use Rattle.words.specs.Word.{wordAt};
 ghost use Rattle.words.specs.Array.{array};
 ghost use Rattle.words.specs.Verdict.{allRight};
 ghost use Rattle.words.specs.Runs.{putRun, putRuns};
-ghost use Rattle.setup.specs.Layout.{penaltyLimitAt, rewardLimitAt, modulesAt};
-ghost use Rattle.setup.specs.Setup.{limitIn, criticalityIn};
+ghost use Rattle.setup.specs.Layout.{headAt, penaltyLimitAt, rewardLimitAt, modulesAt};
+ghost use Rattle.setup.specs.Setup.{returnLimitIn, limitIn, criticalityIn};
 ghost use Rattle.image.specs.Layout.{ownAt, penaltiesAt, imageLength};
 ghost use Rattle.image.specs.Words.{viewIn};
 ghost use Rattle.image.specs.Counters.{counterWord, counterIn, counterOf, penaltyFits, rewardFits, penaltyTest, rewardTest, counterTests, countersIn, counterRuns, zeroCounters, countersRoomy};
@@ -101,6 +103,7 @@ pub fn reward_right(s: &[u8], n: usize, j: usize) -> bool
 pub fn load_counters(
     s: &[u8],
     n: usize,
+    q: u32,
     p: u32,
     limit: u32,
     criticality: [u32; 16],
@@ -108,22 +111,28 @@ pub fn load_counters(
 ) -> CountersPart
     requires { ⌜ (n ≤ 16) × (length (now s) ≡ imageLength n) ⌝ }
     requires { ⌜ (p ≡ limitIn (wordAt (now s) penaltyLimitAt)) × (limit ≡ limitIn (wordAt (now s) rewardLimitAt)) × (view ≡ viewIn (wordAt (now s) (ownAt n)))
-        × (criticality ≡ array n (λ j. criticalityIn (wordAt (now s) (modulesAt + j)))) ⌝ }
+        × (criticality ≡ array n (λ j. criticalityIn (wordAt (now s) (modulesAt + j)))) × (q ≡ returnLimitIn (wordAt (now s) headAt)) ⌝ }
     ensures { λ r. ⌜ (r .good ≡ allRight (counterTests (wordAt (now (s .entry))) n)) × (r .counters ≡ countersIn (now (s .entry)) n) ⌝ }
 {
     let i = penalties_at(n);
     let k = rewards_at(n);
+    let l = returns_at(n);
     let mut good = true;
     let mut penalty = [0u32; 16];
     let mut reward = [0u32; 16];
+    let mut returns = [0u32; 16];
     for j in 0..n {
         let w = word_at(s, i + j);
         let v = word_at(s, k + j);
+        let u = word_at(s, l + j);
         let x = w % NUMBER;
-        let fits = penalty_ok(p, criticality[j], bit_at(view, j), j, w);
-        good = good & (fits & reward_ok(limit, x, j, v));
+        let present = bit_at(view, j);
+        let fits = penalty_ok(p, criticality[j], present, j, w);
+        let others = reward_ok(limit, x, j, v) & return_ok(q, present, j, u);
+        good = good & (fits & others);
         penalty[j] = x;
         reward[j] = v % NUMBER;
+        returns[j] = u % NUMBER;
     }
     CountersPart {
         good,
@@ -131,6 +140,7 @@ pub fn load_counters(
             view,
             penalty,
             reward,
+            returns,
         },
     }
 }
@@ -144,6 +154,7 @@ pub fn zero_counters(view: u32) -> Counters
         view,
         penalty: zeros,
         reward: zeros,
+        returns: zeros,
     }
 }
 
@@ -175,6 +186,8 @@ pub fn save_counters(n: usize, counters: Counters, out: &mut [u8])
     let reward = counters.reward;
     save_counter(13, n, penalty, out, penalties_at(n));
     save_counter(14, n, reward, out, rewards_at(n));
+    let returns = counters.returns;
+    save_counter(15, n, returns, out, returns_at(n));
 }
 
 // Whether every counter has room in its word, and nothing stands in the entries from n on.
@@ -183,5 +196,7 @@ pub fn counters_roomy(n: usize, counters: Counters) -> bool
 {
     let penalty = counters.penalty;
     let reward = counters.reward;
-    bounded(n, NUMBER - 1, penalty) & bounded(n, NUMBER - 1, reward)
+    let returns = counters.returns;
+    bounded(n, NUMBER - 1, penalty)
+        & (bounded(n, NUMBER - 1, reward) & bounded(n, NUMBER - 1, returns))
 }

@@ -2,7 +2,7 @@
 use setup::layout::setup_words;
 ghost use mathlib.Core.Path.{_≡_};
 ghost use Prim.Native.Nat.{_≤_};
-ghost use Rattle.image.specs.Layout.{ownAt, rowsAt, latestAt, earlierAt, penaltiesAt, rewardsAt, imageLength};
+ghost use Rattle.image.specs.Layout.{ownAt, rowsAt, latestAt, earlierAt, penaltiesAt, rewardsAt, returnsAt, imageLength};
 
 // Own number and view, after the setup's words.
 pub fn own_at(n: usize) -> usize
@@ -52,10 +52,18 @@ pub fn rewards_at(n: usize) -> usize
     penalties_at(n) + n
 }
 
+// The return counts.
+pub fn returns_at(n: usize) -> usize
+    requires { ⌜ n ≤ 16 ⌝ }
+    ensures { λ r. ⌜ r ≡ returnsAt n ⌝ }
+{
+    rewards_at(n) + n
+}
+
 // How many bytes an image has.
 pub fn image_length(n: usize) -> usize
     requires { ⌜ n ≤ 16 ⌝ }
     ensures { λ r. ⌜ r ≡ imageLength n ⌝ }
 {
-    (rewards_at(n) + n) * 4
+    (returns_at(n) + n) * 4
 }

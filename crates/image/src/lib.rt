@@ -27,6 +27,7 @@ pub mod check;
 mod counters;
 mod layout;
 mod read;
+mod returns;
 mod rows;
 mod word;
 

@@ -1,12 +1,12 @@
 -- Somebody is charged exactly if rule 8 makes a penalty grow.
-use mathlib.Core.Path.{_≡_, ap, _∙_, sym}
-use mathlib.Core.Bool.{Bool, true, false, not, _&&_}
-use Prim.Native.Nat.{ℕ, _+_, _≤_}
+use mathlib.Core.Path.{_≡_, refl, ap, _∙_, sym}
+use mathlib.Core.Bool.{Bool, true, false, cond, not, _&&_}
+use Prim.Native.Nat.{ℕ, _+_, _≤_, _<_}
 use native.Mathlib.Omega.{arith}
 use native.Mathlib.Nat.{le-refl}
 use lib.ListN.{getD}
 use lib.Dec.{eqb, leb, ltb}
-use borrow.Author.Tests.{lt-ltb, le-ltb}
+use borrow.Author.Tests.{leb-false, lt-ltb, le-ltb}
 use Rattle.words.specs.Bits.{bit}
 use Rattle.words.proofs.Truth.{cond-both}
 use Rattle.words.specs.Count.{any}
@@ -16,7 +16,8 @@ use Rattle.setup.specs.declared.Setup.{Setup}
 use Rattle.setup.proofs.SetupLaws.{SetupFits}
 use Rattle.rules.specs.declared.Account.{Account}
 use Rattle.rules.specs.declared.Counters.{Counters}
-use Rattle.rules.specs.Account.{charged, rewarded, accounted, accountAt, accountedAt, countersOf}
+use Rattle.rules.specs.Account.{charged, rewarded, awaited, accounted, accountAt, accountedAt, countersOf}
+use Rattle.rules.proofs.AccountLaws.{AccountFits}
 use Rattle.page.specs.Page.{somebodyCharged}
 
 rewarded-most : (r : ℕ) (a : Account) → rewarded r a .penalty ≤ a .penalty
@@ -25,20 +26,32 @@ rewarded-most r a =
     cond-both (λ (x : Account). x .penalty ≤ a .penalty) (eqb (a .penalty) 0) _ _ (le-refl (a .penalty))
     (cond-both (λ (x : Account). x .penalty ≤ a .penalty) (leb r (a .reward + 1)) _ _ (omega arith) (le-refl (a .penalty)))
 
+-- one out of the view returns with penalty P, if it does, which its penalty is above
+awaited-most : (p q : ℕ) (healthy : Bool) (a : Account) → p ≤ a .penalty → awaited p q healthy a .penalty ≤ a .penalty
+unfolding awaited
+awaited-most p q healthy a h =
+    cond-both (λ (x : Account). x .penalty ≤ a .penalty) (healthy && ltb 0 q) _ _
+    (cond-both (λ (x : Account). x .penalty ≤ a .penalty) (leb q (a .returns + 1)) _ _ h (le-refl (a .penalty))) (le-refl (a .penalty))
+
 -- one module, present or not, healthy or not
-grows : (p r k penalty reward : ℕ) (present healthy : Bool) → 1 ≤ k
-    → present && not healthy ≡ ltb penalty (accounted p r k healthy (record { present = present; penalty = penalty; reward = reward }) .penalty)
+grows : (p r q k : ℕ) (healthy : Bool) (a : Account) → 1 ≤ k → AccountFits p r k a
+    → a .present && not healthy ≡ ltb (a .penalty) (accounted p r q k healthy a .penalty)
 unfolding accounted charged
-grows p r k penalty reward true true h =
-    sym (le-ltb penalty _ (rewarded-most r (record { present = true; penalty = penalty; reward = reward })))
-grows p r k penalty reward true false h = sym (lt-ltb penalty (penalty + k) (omega arith))
-grows p r k penalty reward false true h = sym (le-ltb penalty penalty (le-refl penalty))
-grows p r k penalty reward false false h = sym (le-ltb penalty penalty (le-refl penalty))
+grows p r q k healthy a h f = go (a .present) healthy refl
+  where
+    go : (b g : Bool) → a .present ≡ b
+        → b && not g ≡ ltb (a .penalty) (cond b (cond g (rewarded r a) (charged p k a)) (awaited p q healthy a) .penalty)
+    go true true e = sym (le-ltb (a .penalty) _ (rewarded-most r a))
+    go true false e = sym (lt-ltb (a .penalty) (a .penalty + k) (omega arith))
+    go false g e =
+        let above : p < a .penalty = leb-false (a .penalty) p (sym (f .view) ∙ e) in
+        sym (le-ltb (a .penalty) _ (awaited-most p q healthy a (omega arith)))
 
 pub charged-grows : (s : Setup) (c : Counters) (health : ℕ) → SetupFits s
+    → ((j : ℕ) → j < s .n → AccountFits (s .p) (s .r) (getD (s .criticality) j 0) (accountAt c j))
     → somebodyCharged (s .n) (c .view) health ≡ any (s .n) (λ j. ltb (getD (c .penalty) j 0) (getD (countersOf s health c .penalty) j 0))
 unfolding somebodyCharged countersOf accountedAt accountAt
-charged-grows s c health f =
+charged-grows s c health f fits =
     any-ext (s .n) _ _
-    (λ j h. grows (s .p) (s .r) (getD (s .criticality) j 0) (getD (c .penalty) j 0) (getD (c .reward) j 0) (bit (c .view) j) (bit health j) (f .each j h .least)
+    (λ j h. grows (s .p) (s .r) (s .q) (getD (s .criticality) j 0) (bit health j) (accountAt c j) (f .each j h .least) (fits j h)
     ∙ ap (ltb (getD (c .penalty) j 0)) (sym (array-at (s .n) (λ i. accountedAt s health c i .penalty) j h (f .most))))

@@ -4,11 +4,10 @@ use mathlib.Core.Bool.{false}
 use mathlib.Core.List.{List, [], _++_}
 use Prim.Native.Nat.{ℕ, _+_}
 use native.Mathlib.Omega.{arith}
-use lib.ListN.{length, getD}
+use lib.ListN.{length}
 use borrow.Author.Tests.{ne-eqb}
 use Rattle.words.specs.Word.{wordAt, bytesOf}
 use Rattle.words.specs.Runs.{runsOf}
-use Rattle.words.specs.Bits.{bit}
 use Rattle.words.proofs.ByteLaws.{word-first}
 use Rattle.setup.specs.Setup.{headWord, sizeIn}
 use Rattle.image.specs.Layout.{ownAt, imageLength}
@@ -38,7 +37,7 @@ refused-by number index out g f z = f (ap (λ (x : Called). x .answer .number) (
 module _ (st : State) (v : Valid st) where
   pub image-size : sizeIn (wordAt (imageOf st) 0) ≡ st .setup .n
   unfolding imageOf runsOf bytesOf
-  image-size = ap sizeIn (word-first (headWord (st .setup .n)) _) ∙ omega (arith, valid-small st v .size)
+  image-size = ap sizeIn (word-first (headWord (st .setup .q) (st .setup .n)) _) ∙ omega (arith, valid-small st v .size)
 
   pub image-view : viewIn (wordAt (imageOf st) (ownAt (st .setup .n))) ≡ st .counters .view
   image-view =

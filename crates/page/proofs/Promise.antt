@@ -3,7 +3,7 @@ use mathlib.Core.Path.{_≡_, ap, ap₂, _∙_, sym, subst}
 use mathlib.Core.Logic.{_≢_, _↔_, ⊎-elim}
 use mathlib.Core.Bool.{Bool, true, false, not, _&&_, _||_}
 use mathlib.Core.List.{List}
-use Prim.Native.Nat.{ℕ, _+_, _≤_, _<_}
+use Prim.Native.Nat.{ℕ, _≤_, _<_}
 use native.Mathlib.Omega.{arith}
 use lib.ListN.{length, getD}
 use lib.Dec.{eqb}
@@ -25,7 +25,7 @@ use Rattle.presence.specs.Valid.{Valid}
 use Rattle.presence.specs.Opening.{openOf}
 use Rattle.presence.specs.Step.{acceptedStep, stepOf}
 use Rattle.presence.specs.Image.{imageOf, stateOf}
-use Rattle.calls.specs.Calls.{openCall, stepCall, saveCall}
+use Rattle.calls.specs.Calls.{openCall, stepCall}
 use Rattle.presence.specs.declared.State.{State}
 use Rattle.presence.specs.declared.Stepped.{Stepped}
 use Rattle.presence.proofs.ValidLaws.{valid-fits}
@@ -269,7 +269,9 @@ promise = record {
   health = health-word;
   view = view-word;
   shown = shows;
-  grew = λ image health z. charged-grows (stateOf image .setup) (stateOf image .counters) health (valid-fits (stateOf image) (load-valid image z) .setup);
+  grew = λ image health z.
+      let f = valid-fits (stateOf image) (load-valid image z) in
+      charged-grows (stateOf image .setup) (stateOf image .counters) health (f .setup) (f .counters .accounts);
   change-flag = change-is;
   charge-flag = charge-is;
   other-flags = others-are;

@@ -72,14 +72,14 @@ refuses c number lent = case (answered (c .call .answer)) (number ∷ 0 ∷ 0 �
 abbrev pub writes : Written → ℕ → ℕ → List ℕ → List Case
 writes w number word next = case (told (w .answer)) (number ∷ 0 ∷ word ∷ []) ∷ case (w .page) next ∷ []
 
--- ---- a module: N = 4, P = 1, R = 3, criticality 1, all l = 4
+-- ---- a module: N = 4, Q = 0, P = 1, R = 3, criticality 1, all l = 4
 
 -- its setup
 abbrev pub setup : List ℕ
 setup =
     bytesOf 7 (λ i. getD (0x1000_0004 ∷ 0x2000_0001 ∷ 0x3000_0003 ∷ 0x4088_0001 ∷ 0x4108_0001 ∷ 0x4188_0001 ∷ 0x4208_0001 ∷ []) i 0)
 
--- an output for its image, 22 words
+-- an output for its image, 26 words
 abbrev pub out : List ℕ
 out = replicate (imageLength 4) 0
 

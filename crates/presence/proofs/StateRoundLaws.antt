@@ -5,7 +5,7 @@ use mathlib.Core.Logic.{⊎-elim}
 use mathlib.Core.List.{List}
 use Prim.Native.Nat.{ℕ, _-_, _*_, _^_, _<_, _≤_}
 use native.Mathlib.Omega.{arith}
-use lib.ListN.{getD, length, replicate}
+use lib.ListN.{getD, length}
 use lib.Dec.{leb, ltb}
 use borrow.Author.Tests.{eq-eqb, ne-eqb, lt-ltb, le-ltb, lt-leb, ltb-true, ltb-false}
 use Rattle.words.specs.Bits.{full}
@@ -26,6 +26,7 @@ use Rattle.rules.specs.declared.Reading.{Reading}
 use Rattle.rules.specs.declared.Counters.{Counters}
 use Rattle.rules.specs.declared.Judgement.{Judgement}
 use Rattle.image.specs.Counters.{zeroCounters}
+use Rattle.image.proofs.ReturnLaws.{return-small}
 use Rattle.presence.specs.Valid.{stateVerdict, Valid}
 use Rattle.presence.specs.Opening.{fresh, blank, checkOpening, openOf}
 use Rattle.presence.specs.Step.{skewOf, placeOf, ownSyndrome, alignedFor, judgementFor, outgoingFor, afterRound, refusedStep, acceptedStep, testedStep, readStep, stepOf}
@@ -72,7 +73,8 @@ after-made st this {j} {c} e h =
 pub in-range : (st : State) → StateFits st → (j : ℕ) → j < st .setup .n
     → InRange (getD (st .setup .criticality) j 0) (accountAt (st .counters) j)
 in-range st f j h =
-    fits-in-range (st .setup .p) (st .setup .r) _ _ (f .setup .p-most) (f .setup .r-most) (f .setup .each j h .most) (f .counters .accounts j h)
+    fits-in-range (st .setup .p) (st .setup .r) _ _ (f .setup .p-most) (f .setup .r-most) (f .setup .each j h .most)
+    (return-small _ _ _ (f .setup .q-most) (f .counters .returns .fits j h)) (f .counters .accounts j h)
 
 -- ---- rules 7 to 9
 

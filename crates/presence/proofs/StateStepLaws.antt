@@ -14,7 +14,7 @@ use Rattle.words.specs.Verdict.{accepted, isAccepted, between, single, andThen,
 use Rattle.words.specs.declared.Verdict.{Verdict}
 use Rattle.words.proofs.VerdictLaws.{between-is, between-of, and-then-next, and-then-pass, single-ok, single-pass}
 use Rattle.setup.specs.Setup.{blankSetup}
-use Rattle.setup.specs.Check.{headOk, roomVerdict, setupVerdict}
+use Rattle.setup.specs.Check.{headFits, roomVerdict, setupVerdict}
 use Rattle.setup.specs.declared.Setup.{Setup}
 use Rattle.setup.proofs.SetupLaws.{SetupFits, verdict-fits, fits-verdict as setup-accepted}
 use Rattle.rules.specs.Hearing.{wordHeard, readingOf, causesOf}
@@ -165,5 +165,5 @@ open-valid s own zero =
 
 -- what a refused opening holds cannot be stepped
 pub blank-refused : (read : List ℕ) (controller : ℕ) → stepOf blank read controller ≡ refusedStep blank 2 0
-unfolding stepOf stateVerdict andThen setupVerdict roomVerdict thenTests outcome lowest headOk blank blankSetup
+unfolding stepOf stateVerdict andThen setupVerdict roomVerdict thenTests outcome lowest headFits blank blankSetup
 blank-refused read controller = refl

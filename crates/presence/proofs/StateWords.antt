@@ -1,6 +1,6 @@
 -- Where the words of a state's image stand, and the fields that are read from them.
-use mathlib.Core.Path.{_≡_, refl, ap, _∙_, sym, subst}
-use mathlib.Core.List.{List, []}
+use mathlib.Core.Path.{_≡_, refl, ap, _∙_, subst}
+use mathlib.Core.List.{[]}
 use Prim.Native.Nat.{ℕ, _+_, _<_}
 use native.Mathlib.Omega.{arith}
 use lib.ListN.{getD, length}
@@ -8,10 +8,10 @@ use Rattle.words.specs.Word.{wordAt}
 use Rattle.words.specs.Bits.{bit}
 use Rattle.words.specs.Runs.{total, runsOf, runWord}
 use Rattle.words.proofs.RunLaws.{Follows, runs-length, runs-follow, run-words}
-use Rattle.setup.specs.Setup.{limitWord, limitIn, criticalityIn}
+use Rattle.setup.specs.Setup.{headWord, returnLimitIn, limitWord, limitIn, criticalityIn}
 use Rattle.setup.proofs.SetupLaws.{SetupFits}
 use Rattle.setup.proofs.SetupWords.{moduleOf}
-use Rattle.setup.proofs.WordFields.{limit-back, criticality-back}
+use Rattle.setup.proofs.WordFields.{return-back, limit-back, criticality-back}
 use Rattle.image.specs.Layout.{ownAt, rowsAt, latestAt, earlierAt, penaltiesAt, imageLength}
 use Rattle.image.specs.Words.{ownWord, ownIn, viewIn, syndromeWord, syndromeIn}
 use Rattle.image.specs.Rows.{rowWord}
@@ -33,6 +33,7 @@ image-length st = runs-length (imageRuns st) ∙ omega arith
 
 -- w are the words of the image
 pub record Stands (st : State) (w : ℕ → ℕ) : Type 0 where
+  pub head : w 0 ≡ headWord (st .setup .q) (st .setup .n)
   pub p : w 1 ≡ limitWord 2 (st .setup .p)
   pub r : w 2 ≡ limitWord 3 (st .setup .r)
   pub modules : (j : ℕ) → j < st .setup .n → w (3 + j) ≡ moduleOf (st .setup) j
@@ -47,6 +48,7 @@ unfolding imageOf runsOf Follows
 stands-bytes st =
     let (head, (p, (r, (modules, (own, (rows, (latest, (earlier, counters)))))))) = runs-follow [] 0 (imageRuns st) refl in
     record {
+      head = head 0 (omega arith);
       p = p 0 (omega arith);
       r = r 0 (omega arith);
       modules = modules;
@@ -78,6 +80,7 @@ state-read st w f m d =
           record {
             p-there = ap limitIn (d .p) ∙ limit-back 2 (st .setup .p) (omega (arith, f .p-most));
             r-there = ap limitIn (d .r) ∙ limit-back 3 (st .setup .r) (omega (arith, f .r-most));
+            q-there = ap returnLimitIn (d .head) ∙ return-back (st .setup .q) (st .setup .n) (record { limit = f .q-most; least = f .least; most = f .most });
             criticality-there = λ j h.
                 ap criticalityIn (d .modules j h)
                 ∙ criticality-back j (bit (st .setup .marks) j) _ _ (omega (arith, f .each j h .within, f .most)) (omega (arith, f .each j h .most));

@@ -35,7 +35,7 @@ pub fn load(s: &[u8], n: usize) -> Loaded
     let read = load_rows(s, n);
     let previous = read.previous;
     let criticality = setup.criticality;
-    let last = load_counters(s, n, setup.p, setup.r, criticality, alone.view);
+    let last = load_counters(s, n, setup.q, setup.p, setup.r, criticality, alone.view);
     let counters = last.counters;
     Loaded {
         good: first.good & (alone.good & (read.good & last.good)),

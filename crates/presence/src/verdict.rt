@@ -56,7 +56,7 @@ impl State {
             return refusal(8, 0);
         }
         // room for the longest image
-        let mut out = [0u8; 280];
+        let mut out = [0u8; 344];
         let k = image_length(setup.n);
         image_verdict(self, &mut out[..k])
     }

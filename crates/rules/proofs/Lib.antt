@@ -8,4 +8,5 @@ pub mod CompareLaws
 pub mod SyndromeLaws
 pub mod StruckOff
 pub mod AccountLaws
+pub mod TakenBack
 pub mod RangeLaws

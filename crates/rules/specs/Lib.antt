@@ -6,4 +6,5 @@ pub mod Accusation
 pub mod Syndrome
 pub mod StruckOff
 pub mod Account
+pub mod TakenBack
 pub mod Range

@@ -35,16 +35,19 @@ pub struct Judgement {
     pub syndrome: u32,
 }
 
-// The counters of one module, and whether it is in the view.
+// The counters of one module, and whether it is in the view. `returns` counts the rounds towards its return.
 pub struct Account {
     pub present: bool,
     pub penalty: u32,
     pub reward: u32,
+    pub returns: u32,
 }
 
-// The counters of all modules, and the view.
+// The counters of all modules, and the view. It stands between the arrays since the compiler copies what lies between two single numbers as one
+// block, and calls memcpy of the C library for a block of more than 128 bytes.
 pub struct Counters {
-    pub view: u32,
     pub penalty: [u32; 16],
     pub reward: [u32; 16],
+    pub view: u32,
+    pub returns: [u32; 16],
 }

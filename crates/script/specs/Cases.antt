@@ -46,8 +46,10 @@ abbrev pub cases : List Case
 cases =
     -- the sheet
     run (0x6000_0000 ∷ 0x7100_000F ∷ 0x9000_0002 ∷ []) 0 0
-    -- 1: no word; 2: N = 17; 3: fewer than N + 3 words
+    -- 1: no word; 2: N = 17, Q = 1,000,001, a bit between Q and N; 3: fewer than N + 3 words, with Q = 0 and with Q = 1,000,000
     ∷ record { words = []; number = 1; index = 0 } ∷ record { words = 0x1000_0011 ∷ []; number = 2; index = 0 }
+    ∷ record { words = 0x1F42_4104 ∷ []; number = 2; index = 0 } ∷ record { words = 0x1000_0024 ∷ []; number = 2; index = 0 }
+    ∷ record { words = 0x1000_0084 ∷ []; number = 2; index = 0 } ∷ record { words = 0x1F42_4004 ∷ []; number = 3; index = 0 }
     ∷ record { words = 0x1000_0004 ∷ 0x2000_0001 ∷ 0x3000_0003 ∷ []; number = 3; index = 0 }
     -- 14: no cast; no play; an event never played; a told word missing
     ∷ run [] 14 7 ∷ run (0x6000_0000 ∷ []) 14 8 ∷ run (0x6000_0000 ∷ 0x9000_0001 ∷ 0x7100_000F ∷ []) 14 10

@@ -2,7 +2,7 @@
 use mathlib.Core.Path.{_≡_, ap, _∙_, sym, subst}
 use mathlib.Core.Bool.{true}
 use mathlib.Core.List.{List}
-use Prim.Native.Nat.{ℕ, _+_, _*_, _<_, _≤_}
+use Prim.Native.Nat.{ℕ, _+_, _<_, _≤_}
 use native.Mathlib.Omega.{arith}
 use native.Mathlib.Decide.{decLt}
 use lib.ListN.{length, getD, take, List·getD-eq-default}
@@ -15,7 +15,7 @@ use Rattle.words.proofs.BitLaws.{pack-ext}
 use Rattle.words.proofs.ArrayLaws.{array-ext}
 use Rattle.words.proofs.WordLaws.{read-take}
 use Rattle.words.proofs.ByteLaws.{bytes-own}
-use Rattle.setup.specs.Setup.{sizeIn, limitIn, markIn, placeIn, criticalityIn, setupOf, setupBytes}
+use Rattle.setup.specs.Setup.{returnLimitIn, sizeIn, limitIn, markIn, placeIn, criticalityIn, setupOf, setupBytes}
 use Rattle.setup.specs.Layout.{setupWords, setupLength}
 use Rattle.setup.specs.Limits.{mostPenaltyLimit, mostRewardLimit}
 use Rattle.setup.specs.Check.{limitOk, moduleOk, markOk, checkSetup}
@@ -38,6 +38,7 @@ module _ (a b : List ℕ) (n : ℕ) (same : (i : ℕ) → i < setupWords n → w
   unfolding setupOf
   setup-same e =
       let z : sizeIn (wordAt b 0) ≡ n = ap sizeIn (sym (same 0 (omega arith))) ∙ e in
+      let q : returnLimitIn (wordAt a 0) ≡ returnLimitIn (wordAt b 0) = ap returnLimitIn (same 0 (omega arith)) in
       let p : limitIn (wordAt a 1) ≡ limitIn (wordAt b 1) = ap limitIn (same 1 (omega arith)) in
       let r : limitIn (wordAt a 2) ≡ limitIn (wordAt b 2) = ap limitIn (same 2 (omega arith)) in
       let m : pack n (λ j. markIn (wordAt a (3 + j))) ≡ pack n (λ j. markIn (wordAt b (3 + j))) =
@@ -49,7 +50,7 @@ module _ (a b : List ℕ) (n : ℕ) (same : (i : ℕ) → i < setupWords n → w
       let c : array n (λ j. criticalityIn (wordAt a (3 + j))) ≡ array n (λ j. criticalityIn (wordAt b (3 + j))) =
       array-ext n _ _ (λ j h. ap criticalityIn (same (3 + j) (omega arith)))
       in
-      rw (e, z, p, r, m, l, c)
+      rw (e, z, q, p, r, m, l, c)
 
 -- a byte of a front part, or none
 take-small : (s : List ℕ) (k : ℕ) → k ≤ length s → ((i : ℕ) → getD s i 0 < 256) → (i : ℕ) → getD (take k s) i 0 < 256

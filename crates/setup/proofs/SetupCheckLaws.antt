@@ -1,22 +1,23 @@
 -- What holds of bytes that pass the check of a setup.
 use mathlib.Core.Path.{_≡_, refl, ap, _∙_}
-use mathlib.Core.Bool.{Bool, true, not, _&&_}
+use mathlib.Core.Bool.{Bool, true, not}
 use mathlib.Core.List.{List}
-use Prim.Native.Nat.{ℕ, _+_, _*_, _%_, _<_, _≤_}
+use Prim.Native.Nat.{ℕ, _+_, _%_, _<_, _≤_}
 use native.Mathlib.Omega.{arith}
 use lib.ListN.{length}
 use lib.Dec.{eqb, leb}
-use borrow.Author.Tests.{eqb-true, eqb-false, eq-eqb, ne-eqb, leb-true, le-leb, not-true}
+use borrow.Author.Tests.{eqb-true, eqb-false, eq-eqb, ne-eqb, leb-true, not-true}
 use Rattle.words.specs.Word.{wordAt}
 use Rattle.words.specs.Count.{all}
 use Rattle.words.specs.Verdict.{accepted, isAccepted, andThen, allRight}
 use Rattle.words.specs.declared.Verdict.{Verdict}
 use Rattle.words.proofs.Truth.{and-l, and-r, and-true}
-use Rattle.words.proofs.VerdictLaws.{Passed, numbered, between-is, and-then-next, and-then-pass, tests-pass, tests-ok, tests-accept}
+use Rattle.words.proofs.VerdictLaws.{Passed, numbered, and-then-next, and-then-pass, tests-pass, tests-ok, tests-accept}
 use Rattle.setup.specs.Layout.{setupLength}
 use Rattle.setup.specs.Limits.{mostPenaltyLimit, mostRewardLimit}
-use Rattle.setup.specs.Setup.{headWord, sizeIn}
+use Rattle.setup.specs.Setup.{sizeIn}
 use Rattle.setup.specs.Check.{whole, headOk, limitOk, moduleOk, markOk, moduleTest, headTests, wordTests, checkHead, checkWords, checkSetup, checkFront}
+use Rattle.setup.proofs.WordFields.{head-made}
 
 -- ---- numbers 1 to 3
 
@@ -26,12 +27,6 @@ pub record HeadFits (s : List ℕ) : Type 0 where
   pub head : headOk (wordAt s 0) ≡ true
   pub least : 2 ≤ sizeIn (wordAt s 0)
   pub most : sizeIn (wordAt s 0) ≤ 16
-
-head-size : (w : ℕ) → headOk w ≡ true → (2 ≤ sizeIn w) × (sizeIn w ≤ 16)
-unfolding headOk
-head-size w e =
-    let b = between-is (headWord 2) (headWord 16) w e in
-    (omega arith, omega arith)
 
 pub whole-is : (s : List ℕ) → whole s ≡ true → (length s % 4 ≡ 0) × (4 ≤ length s)
 unfolding whole
@@ -52,9 +47,9 @@ pub head-pass : (s : List ℕ) (fits : Bool) → checkHead s fits .number ≡ 0 
 unfolding checkHead Passed
 head-pass s fits e =
     let (w, (h, (f, _))) = tests-pass (headTests s fits) (head-numbers s fits) e in
-    let n = head-size (wordAt s 0) (h 0 (omega arith)) in
+    let n = head-made (wordAt s 0) (h 0 (omega arith)) .0 in
     let l = whole-is s (w 0 (omega arith)) in
-    (record { whole = l .0; room = l .1; head = h 0 (omega arith); least = n .0; most = n .1 }, f 0 (omega arith))
+    (record { whole = l .0; room = l .1; head = h 0 (omega arith); least = n .least; most = n .most }, f 0 (omega arith))
 
 pub head-ok : (s : List ℕ) (fits : Bool) → HeadFits s → fits ≡ true → checkHead s fits ≡ accepted
 unfolding checkHead Passed

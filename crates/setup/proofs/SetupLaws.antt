@@ -12,7 +12,7 @@ use Rattle.words.specs.Verdict.{accepted, andThen}
 use Rattle.words.specs.declared.Verdict.{Verdict}
 use Rattle.words.proofs.Truth.{and-l, and-r, and-true}
 use Rattle.words.proofs.VerdictLaws.{between-is, between-of, and-then-next, and-then-pass}
-use Rattle.setup.specs.Limits.{mostPenaltyLimit, mostRewardLimit, mostCriticality}
+use Rattle.setup.specs.Limits.{mostReturnLimit, mostPenaltyLimit, mostRewardLimit, mostCriticality}
 use Rattle.setup.specs.Setup.{limitWord, setupBytes}
 use Rattle.setup.specs.Check.{limitOk, moduleFits, markFits, moduleOk, markOk, setupRoomy, checkWords, roomVerdict, setupVerdict}
 use Rattle.setup.specs.declared.Setup.{Setup}
@@ -29,6 +29,7 @@ pub record ModuleFits (n place criticality : ℕ) : Type 0 where
 pub record SetupFits (s : Setup) : Type 0 where
   pub least : 2 ≤ s .n
   pub most : s .n ≤ 16
+  pub q-most : s .q ≤ mostReturnLimit
   pub p-least : 1 ≤ s .p
   pub p-most : s .p ≤ mostPenaltyLimit
   pub r-least : 1 ≤ s .r
@@ -73,6 +74,7 @@ verdict-fits s e =
     record {
       least = m .least;
       most = m .most;
+      q-most = m .q;
       p-least = p .0;
       p-most = p .1;
       r-least = r .0;
@@ -85,7 +87,7 @@ verdict-fits s e =
     }
 
 pub fits-room : (s : Setup) → SetupFits s → Room s
-fits-room s f = record { least = f .least; most = f .most; p = omega (arith, f .p-most); r = omega (arith, f .r-most); roomy = f .roomy }
+fits-room s f = record { q = f .q-most; least = f .least; most = f .most; p = omega (arith, f .p-most); r = omega (arith, f .r-most); roomy = f .roomy }
 
 -- its words pass
 pub fits-words : (s : Setup) → SetupFits s → WordsFit (setupBytes s) (s .n)

@@ -13,7 +13,7 @@ use Rattle.words.proofs.BitLaws.{pack-step}
 use Rattle.words.proofs.ArrayLaws.{array-step}
 use Rattle.words.proofs.CountLaws.{all-both}
 use Rattle.setup.specs.Limits.{mostPenaltyLimit, mostRewardLimit}
-use Rattle.setup.specs.Setup.{sizeIn, limitIn, markIn, placeIn, criticalityIn, setupOf}
+use Rattle.setup.specs.Setup.{returnLimitIn, sizeIn, limitIn, markIn, placeIn, criticalityIn, setupOf}
 use Rattle.setup.specs.Check.{limitOk, moduleOk, markOk, moduleTest, wordTests}
 
 -- the marks, places and criticalities of the first j modules
@@ -31,11 +31,11 @@ modules-step s j i e mark m place = (
   array-step j (λ k. criticalityIn (wordAt s (3 + k))) (i .2) (ap criticalityIn e),
 )
 
-pub setup-by : {p r marks j n : ℕ} {places criticality : List ℕ} (s : List ℕ) → j ≡ n → n ≡ sizeIn (wordAt s 0)
-    → p ≡ wordAt s 1 → r ≡ wordAt s 2 → ModulesRead s j marks places criticality
-    → record { n = n; p = limitIn p; r = limitIn r; marks = marks; places = places; criticality = criticality } ≡ setupOf s
+pub setup-by : {w q p r marks j n : ℕ} {places criticality : List ℕ} (s : List ℕ) → j ≡ n → n ≡ sizeIn (wordAt s 0)
+    → w ≡ wordAt s 0 → q ≡ returnLimitIn w → p ≡ wordAt s 1 → r ≡ wordAt s 2 → ModulesRead s j marks places criticality
+    → record { n = n; q = q; p = limitIn p; r = limitIn r; marks = marks; places = places; criticality = criticality } ≡ setupOf s
 unfolding setupOf
-setup-by s e h p r i = rw (i .0, i .1, i .2, e, h, p, r)
+setup-by s e h w q p r i = rw (i .0, i .1, i .2, e, h, q, w, p, r)
 
 -- what the pass has found, as the tests in their order
 pub words-good : {p r good : Bool} (s : List ℕ) (n : ℕ) → p ≡ limitOk 2 mostPenaltyLimit (wordAt s 1) → r ≡ limitOk 3 mostRewardLimit (wordAt s 2)

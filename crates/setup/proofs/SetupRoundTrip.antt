@@ -1,13 +1,13 @@
 -- What is read is what was written, and what is written is what was read.
 use mathlib.Core.Path.{_≡_, refl, ap, _∙_, sym, subst}
-use mathlib.Core.Bool.{true, _&&_}
-use mathlib.Core.List.{List, []}
-use Prim.Native.Nat.{ℕ, _+_, _*_, _/_, _^_, _<_, _≤_}
+use mathlib.Core.Bool.{true}
+use mathlib.Core.List.{List}
+use Prim.Native.Nat.{ℕ, _+_, _*_, _/_, _^_, _<_}
 use native.Mathlib.Omega.{arith}
 use lib.ListN.{getD, length}
 use lib.Dec.{eqb}
 use borrow.Author.Tests.{eqb-true}
-use Rattle.words.specs.Word.{wordAt, bytesOf, numberUnit}
+use Rattle.words.specs.Word.{wordAt, numberUnit}
 use Rattle.words.specs.Runs.{total}
 use Rattle.words.specs.Bits.{bit, pack}
 use Rattle.words.specs.Array.{array}
@@ -20,12 +20,12 @@ use Rattle.words.proofs.RunLaws.{Follows, follow-runs}
 use Rattle.setup.specs.declared.Setup.{Setup}
 use Rattle.setup.specs.Layout.{setupLength}
 use Rattle.setup.specs.Limits.{mostPenaltyLimit, mostRewardLimit}
-use Rattle.setup.specs.Setup.{headWord, sizeIn, limitWord, limitIn, moduleWord, markIn, placeIn, criticalityIn, setupOf, setupRuns, setupBytes}
+use Rattle.setup.specs.Setup.{headWord, returnLimitIn, sizeIn, limitWord, limitIn, moduleWord, markIn, placeIn, criticalityIn, setupOf, setupRuns, setupBytes}
 use Rattle.setup.specs.Check.{moduleFits, markFits, moduleOk, markOk, checkSetup, setupVerdict, readSetup}
 use Rattle.setup.specs.RoundTrip.{ShapedSetup, SetupRoundTrip}
 use Rattle.setup.proofs.WordFields.{head-made, head-right, limit-made, module-made}
 use Rattle.setup.proofs.SetupCheckLaws.{BytesFit, setup-pass, setup-ok, WordsFit}
-use Rattle.setup.proofs.SetupWords.{roomy-of, marks-small, places-bounded, criticality-bounded, written-length, stands, fields-back}
+use Rattle.setup.proofs.SetupWords.{room-head, roomy-of, marks-small, places-bounded, criticality-bounded, written-length, stands, fields-back}
 use Rattle.setup.proofs.SetupLaws.{SetupFits, module-is, verdict-fits, fits-verdict, fits-room, fits-words}
 use Rattle.setup.proofs.SetupAnswerLaws.{read-accepted}
 
@@ -77,6 +77,7 @@ module _ (s : List ℕ) (e : checkSetup s .number ≡ 0) where
       record {
         least = fit .front .least;
         most = fit .front .most;
+        q-most = head-made (wordAt s 0) (fit .front .head) .0 .limit;
         p-least = p .least;
         p-most = p .most;
         r-least = r .least;
@@ -105,7 +106,7 @@ module _ (s : List ℕ) (e : checkSetup s .number ≡ 0) where
   pub written-read : ((i : ℕ) → getD s i 0 < 256) → setupBytes (setupOf s) ≡ s
   unfolding setupOf setupBytes Follows total
   written-read b =
-      let h : headWord size ≡ wordAt s 0 = head-made (wordAt s 0) (fit .front .head) in
+      let h : headWord (returnLimitIn (wordAt s 0)) size ≡ wordAt s 0 = head-made (wordAt s 0) (fit .front .head) .1 in
       let p : limitWord 2 (limitIn (wordAt s 1)) ≡ wordAt s 1 = limit-made 2 mostPenaltyLimit (wordAt s 1) (omega arith) (fit .words .p) .word in
       let r : limitWord 3 (limitIn (wordAt s 2)) ≡ wordAt s 2 = limit-made 3 mostRewardLimit (wordAt s 2) (omega arith) (fit .words .r) .word in
       let l : length s ≡ total (setupRuns (setupOf s)) * 4 = fit .size ∙ count in
@@ -138,7 +139,7 @@ module _ (s : Setup) (e : setupVerdict s .number ≡ 0) where
             record {
               whole = omega arith;
               room = omega arith;
-              head = rw (stands s .head) (head-right (s .n) (f .least) (f .most));
+              head = rw (stands s .head) (head-right (s .q) (s .n) (room-head s (fits-room s f)));
               least = omega arith;
               most = omega arith;
             };
@@ -162,7 +163,7 @@ module _ (s : Setup) (e : setupVerdict s .number ≡ 0) where
       ∙ array-own (s .n) (s .criticality) (fits .most) (shaped .criticality)
       (bounded-clear (s .n) 131071 (s .criticality) (criticality-bounded s (fits .roomy)))
       in
-      rw (k .size, k .p, k .r, m, a, c)
+      rw (k .size, k .q, k .p, k .r, m, a, c)
 
   -- a setup that is written is read back
   pub read-back : ShapedSetup s → readSetup (setupBytes s) ≡ record { number = 0; index = 0; setup = s }

@@ -1,6 +1,6 @@
 -- A setup that its words have room for: where the words stand, and the fields that are read from them.
 use mathlib.Core.Path.{_≡_, refl, ap, _∙_}
-use mathlib.Core.Bool.{Bool, true, _&&_}
+use mathlib.Core.Bool.{true, _&&_}
 use mathlib.Core.List.{List, []}
 use Prim.Native.Nat.{ℕ, _+_, _*_, _/_, _^_, _<_, _≤_}
 use native.Mathlib.Omega.{arith}
@@ -8,21 +8,23 @@ use lib.ListN.{getD, length}
 use lib.Dec.{ltb}
 use borrow.Author.Tests.{ltb-true, lt-ltb}
 use Rattle.words.specs.Word.{wordAt, putWord, kindUnit, numberUnit}
-use Rattle.words.specs.Runs.{total, runsOf, putRun, putRuns}
+use Rattle.words.specs.Runs.{total, putRun, putRuns}
 use Rattle.words.specs.Bits.{bit}
 use Rattle.words.specs.Array.{bounded}
 use Rattle.words.proofs.Truth.{and-l, and-r, and-true}
-use Rattle.words.proofs.ArrayLaws.{clearFrom, bounded-at, bounded-clear, bounded-of}
+use Rattle.words.proofs.ArrayLaws.{clearFrom, bounded-at, bounded-of}
 use Rattle.words.proofs.RunLaws.{Follows, runs-length, runs-follow, put-runs, put-one}
-use Rattle.words.proofs.VerdictLaws.{Passed, numbered, between-is, tests-pass, tests-ok}
+use Rattle.words.proofs.VerdictLaws.{Passed, numbered, tests-pass, tests-ok}
 use Rattle.words.specs.Verdict.{accepted}
 use Rattle.setup.specs.Layout.{setupLength}
-use Rattle.setup.specs.Setup.{headWord, sizeIn, limitWord, limitIn, moduleWord, markIn, placeIn, criticalityIn, setupRuns, setupBytes}
-use Rattle.setup.specs.Check.{headOk, setupRoomy, roomTests, roomVerdict}
+use Rattle.setup.specs.Limits.{mostReturnLimit}
+use Rattle.setup.specs.Setup.{headWord, returnLimitIn, sizeIn, limitWord, limitIn, moduleWord, markIn, placeIn, criticalityIn, setupRuns, setupBytes}
+use Rattle.setup.specs.Check.{setupRoomy, roomTests, roomVerdict}
 use Rattle.setup.specs.declared.Setup.{Setup}
-use Rattle.setup.proofs.WordFields.{head-right, size-back, limit-back, number-back, mark-back, place-back, criticality-back}
+use Rattle.setup.proofs.WordFields.{HeadMade, head-is, head-of, size-back, return-back, limit-back, number-back, mark-back, place-back, criticality-back}
 
 pub record Room (s : Setup) : Type 0 where
+  pub q : s .q ≤ mostReturnLimit
   pub least : 2 ≤ s .n
   pub most : s .n ≤ 16
   pub p : s .p < kindUnit
@@ -30,23 +32,27 @@ pub record Room (s : Setup) : Type 0 where
   pub roomy : setupRoomy s ≡ true
 
 pub room-pass : (s : Setup) → roomVerdict s .number ≡ 0 → Room s
-unfolding roomVerdict Passed headOk numbered
+unfolding roomVerdict Passed numbered
 room-pass s e =
     let (h, (p, (r, (roomy, _)))) = tests-pass (roomTests s) refl e in
-    let n = between-is (headWord 2) (headWord 16) (headWord (s .n)) (h 0 (omega arith)) in
+    let m = head-is (s .q) (s .n) (h 0 (omega arith)) in
     record {
-      least = omega arith;
-      most = omega arith;
+      q = m .limit;
+      least = m .least;
+      most = m .most;
       p = ltb-true (s .p) kindUnit (p 0 (omega arith));
       r = ltb-true (s .r) kindUnit (r 0 (omega arith));
       roomy = roomy 0 (omega arith);
     }
 
+pub room-head : (s : Setup) → Room s → HeadMade (s .q) (s .n)
+room-head s f = record { limit = f .q; least = f .least; most = f .most }
+
 pub room-ok : (s : Setup) → Room s → roomVerdict s ≡ accepted
 unfolding roomVerdict Passed
 room-ok s f =
     tests-ok (roomTests s)
-    (λ _ _. head-right (s .n) (f .least) (f .most), (λ _ _. lt-ltb (s .p) kindUnit (f .p), (λ _ _. lt-ltb (s .r) kindUnit (f .r), (λ _ _. f .roomy, tt))))
+    (λ _ _. head-of (s .q) (s .n) (room-head s f), (λ _ _. lt-ltb (s .p) kindUnit (f .p), (λ _ _. lt-ltb (s .r) kindUnit (f .r), (λ _ _. f .roomy, tt))))
 
 -- ---- marks, read places and criticalities that have room
 
@@ -82,7 +88,7 @@ unfolding setupBytes total
 written-length s = runs-length (setupRuns s) ∙ omega arith
 
 pub record Stands (s : Setup) : Type 0 where
-  pub head : wordAt (setupBytes s) 0 ≡ headWord (s .n)
+  pub head : wordAt (setupBytes s) 0 ≡ headWord (s .q) (s .n)
   pub p : wordAt (setupBytes s) 1 ≡ limitWord 2 (s .p)
   pub r : wordAt (setupBytes s) 2 ≡ limitWord 3 (s .r)
   pub modules : (j : ℕ) → j < s .n → wordAt (setupBytes s) (3 + j) ≡ moduleOf s j
@@ -97,6 +103,7 @@ stands s =
 
 pub record FieldsBack (s : Setup) : Type 0 where
   pub size : sizeIn (wordAt (setupBytes s) 0) ≡ s .n
+  pub q : returnLimitIn (wordAt (setupBytes s) 0) ≡ s .q
   pub p : limitIn (wordAt (setupBytes s) 1) ≡ s .p
   pub r : limitIn (wordAt (setupBytes s) 2) ≡ s .r
   pub number : (j : ℕ) → j < s .n → wordAt (setupBytes s) (3 + j) / numberUnit ≡ 4 * 2 ^ 5 + (j + 1)
@@ -115,7 +122,8 @@ module _ (s : Setup) (f : Room s) where
   fields-back =
       let w = stands s in
       record {
-        size = ap sizeIn (w .head) ∙ size-back (s .n) (f .most);
+        size = ap sizeIn (w .head) ∙ size-back (s .q) (s .n) (room-head s f);
+        q = ap returnLimitIn (w .head) ∙ return-back (s .q) (s .n) (room-head s f);
         p = ap limitIn (w .p) ∙ limit-back 2 (s .p) (f .p);
         r = ap limitIn (w .r) ∙ limit-back 3 (s .r) (f .r);
         number = λ j h.
@@ -128,7 +136,7 @@ module _ (s : Setup) (f : Room s) where
 
 -- ---- the words as they are written, one after the other
 
-pub words-written : {a b c d : List ℕ} (s : Setup) (o : List ℕ) → length o ≡ setupLength (s .n) → a ≡ putWord o 0 (headWord (s .n))
+pub words-written : {a b c d : List ℕ} (s : Setup) (o : List ℕ) → length o ≡ setupLength (s .n) → a ≡ putWord o 0 (headWord (s .q) (s .n))
     → b ≡ putWord a 1 (limitWord 2 (s .p)) → c ≡ putWord b 2 (limitWord 3 (s .r)) → d ≡ putRun c 3 (s .n) (moduleOf s) → d ≡ setupBytes s
 unfolding setupBytes putRuns total
 words-written s o l ea eb ec ed =

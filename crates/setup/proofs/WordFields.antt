@@ -3,38 +3,70 @@ use mathlib.Core.Path.{_≡_, refl, _∙_}
 use mathlib.Core.Bool.{Bool, true, false}
 use Prim.Native.Nat.{ℕ, _+_, _*_, _/_, _%_, _^_, _<_, _≤_}
 use native.Mathlib.Omega.{arith}
+use lib.Dec.{eqb, leb}
+use borrow.Author.Tests.{eqb-true, eq-eqb, leb-true, le-leb}
+use Rattle.words.specs.Word.{kindUnit}
 use Rattle.words.specs.Bits.{bit, b2n}
-use Rattle.words.specs.Verdict.{between}
-use Rattle.words.proofs.Truth.{iff-eq}
+use Rattle.words.proofs.Truth.{and-l, and-r, and-true}
 use Rattle.words.proofs.BitLaws.{b2n-bit, b2n-le}
-use Rattle.setup.specs.Setup.{headWord, sizeIn, limitWord, limitIn, moduleWord, markIn, placeIn, criticalityIn}
-use Rattle.setup.specs.Check.{headOk, limitOk}
+use Rattle.setup.specs.Limits.{mostReturnLimit}
+use Rattle.setup.specs.Setup.{headWord, returnUnit, returnLimitIn, sizeIn, limitWord, limitIn, moduleWord, markIn, placeIn, criticalityIn}
+use Rattle.setup.specs.Check.{headFits, headOk, limitOk}
 use Rattle.words.proofs.VerdictLaws.{between-is, between-of}
 
 -- ---- the head
 
-pub head-made : (w : ℕ) → headOk w ≡ true → headWord (sizeIn w) ≡ w
+-- the fields of a head are in range
+pub record HeadMade (q n : ℕ) : Type 0 where
+  pub limit : q ≤ mostReturnLimit
+  pub least : 2 ≤ n
+  pub most : n ≤ 16
+
+pub head-is : (q n : ℕ) → headFits q n ≡ true → HeadMade q n
+unfolding headFits
+head-is q n e =
+    let b = between-is 2 16 n (and-r (leb q mostReturnLimit) _ e) in
+    record { limit = leb-true q mostReturnLimit (and-l (leb q mostReturnLimit) _ e); least = b .0; most = b .1 }
+
+pub head-of : (q n : ℕ) → HeadMade q n → headFits q n ≡ true
+unfolding headFits
+head-of q n f = and-true (leb q mostReturnLimit) _ (le-leb q mostReturnLimit (f .limit)) (between-of 2 16 n (f .least) (f .most))
+
+-- a head is made of its Q and its N
+pub head-made : (w : ℕ) → headOk w ≡ true → HeadMade (returnLimitIn w) (sizeIn w) × (headWord (returnLimitIn w) (sizeIn w) ≡ w)
 unfolding headOk
 head-made w e =
-    let b = between-is (headWord 2) (headWord 16) w e in
-    omega arith
+    let k = eqb-true (w / kindUnit) 1 (and-l (eqb (w / kindUnit) 1) _ e) in
+    let f = head-is (returnLimitIn w) (w % returnUnit) (and-r (eqb (w / kindUnit) 1) _ e) in
+    let least : 2 ≤ w % returnUnit = f .least in
+    let most : w % returnUnit ≤ 16 = f .most in
+    let z : sizeIn w ≡ w % returnUnit = omega arith in
+    let a : w / 2 ^ 8 ≡ w / 2 ^ 28 * 2 ^ 20 + w / 2 ^ 8 % 2 ^ 20 = omega arith in
+    let b : w ≡ w / 2 ^ 8 * 2 ^ 8 + w % 2 ^ 8 = omega arith in
+    (rw z f, omega arith)
 
-pub head-right : (n : ℕ) → 2 ≤ n → n ≤ 16 → headOk (headWord n) ≡ true
-unfolding headOk
-head-right n h l = between-of (headWord 2) (headWord 16) (headWord n) (omega arith) (omega arith)
+-- the fields of a word that was made of them
+module _ (q n : ℕ) (f : HeadMade q n) where
+  pub size-back : sizeIn (headWord q n) ≡ n
+  size-back =
+      let l = f .most in
+      omega arith
 
--- the test of N that the code makes
-pub head-asked : (n : ℕ) → between 2 16 n ≡ headOk (headWord n)
-unfolding headOk
-head-asked n =
-    iff-eq (between 2 16 n) _
-    (λ t. head-right n (between-is 2 16 n t .0) (between-is 2 16 n t .1))
-    (λ t.
-    let b = between-is (headWord 2) (headWord 16) (headWord n) t in
-    between-of 2 16 n (omega arith) (omega arith))
+  pub return-back : returnLimitIn (headWord q n) ≡ q
+  return-back =
+      let m = f .limit in
+      let l = f .most in
+      let e : headWord q n / 2 ^ 8 ≡ 1 * 2 ^ 20 + q = omega arith in
+      rw e (omega arith)
 
-pub size-back : (n : ℕ) → n ≤ 16 → sizeIn (headWord n) ≡ n
-size-back n h = omega arith
+  pub head-right : headOk (headWord q n) ≡ true
+  unfolding headOk
+  head-right =
+      let m = f .limit in
+      let l = f .most in
+      let k : headWord q n / kindUnit ≡ 1 = omega arith in
+      let z : headWord q n % returnUnit ≡ n = omega arith in
+      and-true (eqb (headWord q n / kindUnit) 1) _ (eq-eqb _ 1 k) (rw (return-back, z) (head-of q n f))
 
 -- ---- a limit
 

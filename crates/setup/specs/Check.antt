@@ -10,8 +10,8 @@ use Rattle.words.specs.Array.{bounded}
 use Rattle.words.specs.Verdict.{isAccepted, between, Test, single, each, andThen, outcome, firstRefusal}
 use Rattle.words.specs.declared.Verdict.{Verdict}
 use Rattle.setup.specs.Layout.{headAt, penaltyLimitAt, rewardLimitAt, modulesAt, setupLength}
-use Rattle.setup.specs.Limits.{leastModules, mostModules, mostPenaltyLimit, mostRewardLimit, mostCriticality}
-use Rattle.setup.specs.Setup.{headWord, sizeIn, limitWord, placeUnit, markIn, placeIn, criticalityIn, setupOf, setupBytes, blankSetup}
+use Rattle.setup.specs.Limits.{leastModules, mostModules, mostReturnLimit, mostPenaltyLimit, mostRewardLimit, mostCriticality}
+use Rattle.setup.specs.Setup.{returnUnit, returnLimitIn, sizeIn, limitWord, placeUnit, markIn, placeIn, criticalityIn, setupOf, setupBytes, blankSetup}
 use Rattle.setup.specs.declared.Setup.{Setup}
 use Rattle.setup.specs.declared.SetupRead.{SetupRead}
 
@@ -21,9 +21,13 @@ use Rattle.setup.specs.declared.SetupRead.{SetupRead}
 unfoldable pub whole : List ℕ → Bool
 whole s = not (eqb (length s) 0) && eqb (length s % 4) 0
 
--- kind 1, N 2..16 and no other bit, else number 2
+-- a return limit 0..1,000,000, N 2..16
+unfoldable pub headFits : ℕ → ℕ → Bool
+headFits q n = leb q mostReturnLimit && between leastModules mostModules n
+
+-- kind 1, Q and N in range, no bit set between them, else number 2
 unfoldable pub headOk : ℕ → Bool
-headOk w = between (headWord leastModules) (headWord mostModules) w
+headOk w = eqb (w / kindUnit) 1 && headFits (returnLimitIn w) (w % returnUnit)
 
 -- the kind, a limit from 1 to the most, else number 4
 unfoldable pub limitOk : ℕ → ℕ → ℕ → Bool
@@ -94,10 +98,10 @@ setupPart s = take (cond (isAccepted (checkFront s)) (setupLength (sizeIn (wordA
 unfoldable pub setupRoomy : Setup → Bool
 setupRoomy s = ltb (s .marks) (2 ^ s .n) && bounded (s .n) (2 ^ 5 - 1) (s .places) && bounded (s .n) (placeUnit - 1) (s .criticality)
 
--- what its words would not show: N out of range, a limit too wide for its word, and 5 with index 0 for the module words
+-- what its words would not show: Q or N out of range, a limit too wide for its word, and 5 with index 0 for the module words
 abbrev pub roomTests : Setup → List Test
 roomTests s =
-    single (headOk (headWord (s .n))) 2 headAt
+    single (headFits (s .q) (s .n)) 2 headAt
     ∷ single (ltb (s .p) kindUnit) 4 penaltyLimitAt
     ∷ single (ltb (s .r) kindUnit) 4 rewardLimitAt
     ∷ single (setupRoomy s) 5 0

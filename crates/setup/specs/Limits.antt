@@ -8,6 +8,10 @@ leastModules = 2
 abbrev pub mostModules : ℕ
 mostModules = 16
 
+-- Q; 0 is for never
+abbrev pub mostReturnLimit : ℕ
+mostReturnLimit = 1000000
+
 -- P and R are at least 1
 abbrev pub mostPenaltyLimit : ℕ
 mostPenaltyLimit = 1000000

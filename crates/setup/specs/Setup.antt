@@ -11,9 +11,17 @@ use Rattle.words.specs.Array.{array}
 use Rattle.setup.specs.Layout.{headAt, penaltyLimitAt, rewardLimitAt, modulesAt}
 use Rattle.setup.specs.declared.Setup.{Setup}
 
--- kind 1: bits 4..0 N
-abbrev pub headWord : ℕ → ℕ
-headWord n = 1 * kindUnit + n
+-- the unit of the return limit in a head: N stands below it, and above N the spare bits 7..5, which the check refuses
+abbrev pub returnUnit : ℕ
+returnUnit = 2 ^ 8
+
+-- kind 1: 27..8 the return limit Q, 4..0 N (document 02, E6)
+abbrev pub headWord : ℕ → ℕ → ℕ
+headWord q n = 1 * kindUnit + q * returnUnit + n
+
+-- the Q in a head
+abbrev pub returnLimitIn : ℕ → ℕ
+returnLimitIn w = field 8 20 w
 
 -- the N in a head
 abbrev pub sizeIn : ℕ → ℕ
@@ -56,6 +64,7 @@ setupOf s =
     let n = sizeIn (wordAt s headAt) in
     record {
       n = n;
+      q = returnLimitIn (wordAt s headAt);
       p = limitIn (wordAt s penaltyLimitAt);
       r = limitIn (wordAt s rewardLimitAt);
       marks = pack n (λ j. markIn (wordAt s (modulesAt + j)));
@@ -66,7 +75,7 @@ setupOf s =
 -- the words that a setup is written as: the head, the two limits, the module words
 abbrev pub setupRuns : Setup → List Run
 setupRuns s =
-    one (headWord (s .n))
+    one (headWord (s .q) (s .n))
     ∷ one (limitWord 2 (s .p))
     ∷ one (limitWord 3 (s .r))
     ∷ record { count = s .n; word = λ j. moduleWord j (bit (s .marks) j) (getD (s .places) j 0) (getD (s .criticality) j 0) }
@@ -78,4 +87,4 @@ setupBytes s = runsOf (setupRuns s)
 
 -- What is held where no setup was accepted, which document 01 leaves free: all zeros. No accepted setup has N = 0.
 unfoldable pub blankSetup : Setup
-blankSetup = record { n = 0; p = 0; r = 0; marks = 0; places = replicate 16 0; criticality = replicate 16 0 }
+blankSetup = record { n = 0; q = 0; p = 0; r = 0; marks = 0; places = replicate 16 0; criticality = replicate 16 0 }

@@ -1,12 +1,11 @@
 // The check of a setup that is already a struct: whether its words have room for it, then its words.
 use crate::Setup;
 use crate::check::check_words;
-use crate::layout::LEAST_MODULES;
-use crate::layout::MOST_MODULES;
 use crate::layout::PENALTY_LIMIT_AT;
 use crate::layout::PLACE;
 use crate::layout::REWARD_LIMIT_AT;
 use crate::layout::setup_length;
+use crate::word::head_fits;
 use crate::write::write_words;
 use words::Verdict;
 use words::array::bounded;
@@ -37,7 +36,7 @@ fn roomy(setup: Setup) -> bool
 fn room_verdict(setup: Setup) -> Verdict
     ensures { λ r. ⌜ r ≡ roomVerdict setup ⌝ }
 {
-    if !((LEAST_MODULES <= setup.n) & (setup.n <= MOST_MODULES)) {
+    if !head_fits(setup.q, setup.n) {
         return refusal(2, 0);
     }
     if !(setup.p < KIND) {

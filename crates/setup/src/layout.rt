@@ -1,4 +1,4 @@
-// Where the words of a setup stand, the units of a module word, and the limits of the fields.
+// Where the words of a setup stand, the units of the head and of a module word, and the limits of the fields.
 ghost use mathlib.Core.Path.{_≡_};
 ghost use Prim.Native.Nat.{_<_};
 ghost use Rattle.setup.specs.Layout.{setupWords, setupLength};
@@ -15,10 +15,15 @@ pub const MARK: u32 = 4194304;
 
 pub const PLACE: u32 = 131072;
 
-// The limits of N, P, R and a criticality.
+// 2^8: the return limit of the head stands there, and N below it.
+pub const RETURN: u32 = 256;
+
+// The limits of N, Q, P, R and a criticality.
 pub const LEAST_MODULES: usize = 2;
 
 pub const MOST_MODULES: usize = 16;
+
+pub const MOST_RETURN_LIMIT: u32 = 1000000;
 
 pub const MOST_PENALTY_LIMIT: u32 = 1000000;
 

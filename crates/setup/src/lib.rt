@@ -3,7 +3,8 @@
 // The entries of module j + 1 stand at j; bit j of `marks` is its send mark. Entries from n on are 0.
 pub struct Setup {
     pub n: usize,
-    // The penalty limit P and the reward limit R.
+    // The return limit Q, the penalty limit P and the reward limit R.
+    pub q: u32,
     pub p: u32,
     pub r: u32,
     pub marks: u32,

@@ -35,6 +35,7 @@ pub fn blank() -> Setup
     let criticality = [0u32; 16];
     Setup {
         n: 0,
+        q: 0,
         p: 0,
         r: 0,
         marks: 0,
@@ -48,6 +49,7 @@ pub fn load_setup(s: &[u8], n: usize) -> SetupPart
     requires { ⌜ (n ≤ 16) × (setupLength n ≤ length (now s)) × (n ≡ sizeIn (wordAt (now s) 0)) ⌝ }
     ensures { λ r. ⌜ (r .good ≡ allRight (wordTests (now (s .entry)) n)) × (r .setup ≡ setupOf (now (s .entry))) ⌝ }
 {
+    let head = word_at(s, 0);
     let p = word_at(s, PENALTY_LIMIT_AT);
     let r = word_at(s, REWARD_LIMIT_AT);
     let limits = limit_ok(2, MOST_PENALTY_LIMIT, p) & limit_ok(3, MOST_REWARD_LIMIT, r);
@@ -66,6 +68,7 @@ pub fn load_setup(s: &[u8], n: usize) -> SetupPart
         good: limits & good,
         setup: Setup {
             n,
+            q: field(head, 8, 20),
             p: p % KIND,
             r: r % KIND,
             marks,

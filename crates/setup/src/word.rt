@@ -2,14 +2,16 @@
 use crate::layout::LEAST_MODULES;
 use crate::layout::MOST_CRITICALITY;
 use crate::layout::MOST_MODULES;
+use crate::layout::MOST_RETURN_LIMIT;
 use crate::layout::PLACE;
+use crate::layout::RETURN;
 use words::bits::bit_at;
 use words::word::KIND;
 use words::word::NUMBER;
 use words::word::field;
 ghost use mathlib.Core.Path.{_≡_};
 ghost use Prim.Native.Nat.{_^_, _<_};
-ghost use Rattle.setup.specs.Check.{moduleFits, markFits, headOk, limitOk, moduleOk, markOk};
+ghost use Rattle.setup.specs.Check.{headFits, moduleFits, markFits, headOk, limitOk, moduleOk, markOk};
 
 // A read place from 0 to n, a criticality from 1 to 100,000.
 pub fn module_fits(n: usize, place: u32, criticality: u32) -> bool
@@ -26,11 +28,18 @@ pub fn mark_fits(j: usize, mark: bool, place: u32) -> bool
     !mark | ((0 < j) & (place <= j as u32))
 }
 
-// Kind 1, N from 2 to 16.
+// A return limit up to 1,000,000, N from 2 to 16.
+pub fn head_fits(q: u32, n: usize) -> bool
+    ensures { λ r. ⌜ r ≡ headFits q n ⌝ }
+{
+    (q <= MOST_RETURN_LIMIT) & ((LEAST_MODULES <= n) & (n <= MOST_MODULES))
+}
+
+// Kind 1, Q and N in range, no bit set between them.
 pub fn head_ok(w: u32) -> bool
     ensures { λ r. ⌜ r ≡ headOk w ⌝ }
 {
-    (KIND + LEAST_MODULES as u32 <= w) & (w <= KIND + MOST_MODULES as u32)
+    (w / KIND == 1) & head_fits(field(w, 8, 20), (w % RETURN) as usize)
 }
 
 // The kind, a limit from 1 to the most.

@@ -5,6 +5,7 @@ use crate::layout::MARK;
 use crate::layout::MODULES_AT;
 use crate::layout::PENALTY_LIMIT_AT;
 use crate::layout::PLACE;
+use crate::layout::RETURN;
 use crate::layout::REWARD_LIMIT_AT;
 use crate::layout::setup_length;
 use words::Verdict;
@@ -16,13 +17,21 @@ use words::word::KIND;
 use words::word::NUMBER;
 use words::word::put_word;
 ghost use mathlib.Core.Path.{_≡_};
-ghost use Prim.Native.Nat.{_^_, _<_};
+ghost use Prim.Native.Nat.{_^_, _≤_, _<_};
 ghost use lib.ListN.{length, getD};
 ghost use Rattle.words.specs.Bits.{bit};
 ghost use Rattle.words.specs.Runs.{putRun};
 ghost use Rattle.setup.specs.Layout.{modulesAt, setupLength};
-ghost use Rattle.setup.specs.Setup.{moduleWord, setupBytes};
+ghost use Rattle.setup.specs.Setup.{headWord, moduleWord, setupBytes};
 ghost use Rattle.setup.specs.Check.{roomVerdict, writeVerdict, writtenSetup};
+
+// The head.
+fn head_word(q: u32, n: usize) -> u32
+    requires { ⌜ (q < 2 ^ 20) × (n ≤ 16) ⌝ }
+    ensures { λ r. ⌜ r ≡ headWord q n ⌝ }
+{
+    KIND + q * RETURN + n as u32
+}
 
 // The word of module j + 1.
 fn module_word(j: usize, mark: bool, place: u32, criticality: u32) -> u32
@@ -53,7 +62,7 @@ pub fn write_words(setup: Setup, out: &mut [u8])
     requires { ⌜ (roomVerdict setup .number ≡ 0) × (length (now out) ≡ setupLength (setup .n)) ⌝ }
     ensures { λ _. ⌜ now (out .exit) ≡ setupBytes setup ⌝ }
 {
-    put_word(out, 0, KIND + setup.n as u32);
+    put_word(out, 0, head_word(setup.q, setup.n));
     put_word(out, PENALTY_LIMIT_AT, 2 * KIND + setup.p);
     put_word(out, REWARD_LIMIT_AT, 3 * KIND + setup.r);
     write_modules(setup, out);

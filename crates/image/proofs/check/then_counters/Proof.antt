@@ -16,9 +16,17 @@ rewards-at-requires c κs = search needs
 then-section-requires-2 : tie.Need-then-section-requires-2
 then-section-requires-2 c κs = search needs
 
+returns-at-requires : tie.Need-returns-at-requires
+returns-at-requires c κs = search needs
+
+then-section-requires-3 : tie.Need-then-section-requires-3
+then-section-requires-3 c κs = search needs
+
 returns : tie.Need-returns
 returns c =
-    counters-joined _ _ _ (c .before .before .before .penalties-at .ensures) (c .before .before .then-section .ensures) (c .before .rewards-at .ensures) (c .then-section2 .ensures)
+    let b = c .before .before in
+    counters-joined _ _ _ (b .before .before .before .penalties-at .ensures) (b .before .before .then-section .ensures) (b .before .rewards-at .ensures) (b .then-section2 .ensures)
+    (c .before .returns-at .ensures) (c .then-section3 .ensures)
 
 pub then-counters-spec : {M : Type 1} → statement M
 then-counters-spec =
@@ -28,4 +36,6 @@ then-counters-spec =
     then-section-requires
     rewards-at-requires
     then-section-requires-2
+    returns-at-requires
+    then-section-requires-3
     returns)

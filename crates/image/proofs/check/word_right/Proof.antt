@@ -11,6 +11,9 @@ row-right-requires c κs = search needs
 penalty-right-requires : tie.Need-penalty-right-requires
 penalty-right-requires c κs = search needs
 
+return-right-requires : tie.Need-return-right-requires
+return-right-requires c κs = search needs
+
 reward-right-requires : tie.Need-reward-right-requires
 reward-right-requires c κs = search needs
 
@@ -24,9 +27,13 @@ returns-2 c = rw (c .before .match .keys2) (c .penalty-right .ensures)
 
 returns-3 : tie.Need-returns-3
 unfolding sectionTest
-returns-3 c =
+returns-3 c = rw (c .before .match .keys3) (c .return-right .ensures)
+
+returns-4 : tie.Need-returns-4
+unfolding sectionTest
+returns-4 c =
     let m = c .before .match .rest in
-    rw (ne-eqb _ 11 (m .0 .1), ne-eqb _ 13 (m .1)) (c .reward-right .ensures)
+    rw (ne-eqb _ 11 (m .0 .0 .1), ne-eqb _ 13 (m .0 .1), ne-eqb _ 15 (m .1)) (c .reward-right .ensures)
 
 pub word-right-spec : {M : Type 1} → statement M
 word-right-spec =
@@ -34,7 +41,9 @@ word-right-spec =
     (tie.spec
     row-right-requires
     penalty-right-requires
+    return-right-requires
     reward-right-requires
     returns
     returns-2
-    returns-3)
+    returns-3
+    returns-4)

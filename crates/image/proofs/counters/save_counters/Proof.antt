@@ -29,12 +29,26 @@ save-counter-requires-2 c κs =
     let l = c .before .before .before .before .save-counter .kept .1 .1 .1 .0 ∙ a .pre .2 in
     (omega arith, a .pre .0, m .reward, omega arith, omega arith)
 
+returns-at-requires : tie.Need-returns-at-requires
+returns-at-requires c κs = search needs
+
+save-counter-requires-3 : tie.Need-save-counter-requires-3
+save-counter-requires-3 c κs =
+    let b = c .before .before .before .before .before in
+    let a = b .before .before .before .before .before .before .before .before .before .before .before in
+    let m = roomy-counters _ _ (a .pre .0) (a .pre .1) in
+    let e = c .returns-at .ensures in
+    let l = b .save-counter2 .kept .1 .1 .1 .0 ∙ b .before .before .before .before .before .save-counter .kept .1 .1 .1 .0 ∙ a .pre .2 in
+    (omega arith, a .pre .0, m .returns, omega arith, omega arith)
+
 same-length : tie.Need-same-length
 same-length c = search needs
 
 returns : tie.Need-returns
 returns c =
-    counters-written _ (c .before .before .before .before .before .before .before .before .before .before .before .before .before .args .counters) _ (c .before .before .before .before .before .before .before .before .penalties-at .ensures) (c .before .before .before .before .before .before .before .save-counter .ensures) (c .before .before .before .rewards-at .ensures) (c .before .before .save-counter2 .ensures)
+    let b = c .before .before .before .before .before .before in
+    counters-written _ (b .before .before .before .before .before .before .before .before .before .before .before .before .before .args .counters) _ (b .before .before .before .before .before .before .before .before .penalties-at .ensures) (b .before .before .before .before .before .before .before .save-counter .ensures) (b .before .before .before .rewards-at .ensures) (b .before .before .save-counter2 .ensures)
+    (c .before .before .before .returns-at .ensures) (c .before .before .save-counter3 .ensures)
 
 pub save-counters-spec : {M : Type 1} → statement M
 save-counters-spec =
@@ -44,5 +58,7 @@ save-counters-spec =
     save-counter-requires
     rewards-at-requires
     save-counter-requires-2
+    returns-at-requires
+    save-counter-requires-3
     same-length
     returns)

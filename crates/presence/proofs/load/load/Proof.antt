@@ -1,7 +1,6 @@
 -- The parts give the state and the tests of their words; joined, the tests are those of the whole check.
-use native.Mathlib.Omega.{arith}
-use mathlib.Core.Path.{_∙_}
 use Rattle.image.proofs.ReadLaws.{loaded-good, read-limits, read-criticality}
+use Rattle.image.proofs.ReturnLaws.{return-limit}
 use Rattle.presence.proofs.LoadLaws.{state-by}
 use borrow.Author.Needs.{needs}
 use Rattle.presence.proofs.load.load.Statement.{statement}
@@ -21,7 +20,7 @@ load-counters-requires c κs =
     let a = c .before .before .before .before .before .before .before .pre in
     let e = c .before .before .before .before .before .load-setup .ensures .1 in
     let (p, r) = read-limits _ e in
-    ((a .0, a .1), (p, r, c .before .before .before .load-words .ensures .2, read-criticality _ (a .2) e))
+    ((a .0, a .1), (p, r, c .before .before .before .load-words .ensures .2, read-criticality _ (a .2) e, return-limit _ e))
 
 returns : tie.Need-returns
 returns c =

@@ -1,18 +1,14 @@
--- What the picks choose is the case of the definition.
-use native.Mathlib.Omega.{arith}
+-- The picks choose the account inside the view, or the one outside it.
 use borrow.Author.Needs.{needs}
 use Rattle.rules.proofs.AccountLaws.{account-by}
 use Rattle.rules.proofs.Account.accounted.Statement.{statement}
 use Rattle.rules.proofs.Account.accounted.Tie as tie
 
-add-grown : tie.Need-add-grown
-add-grown c = omega (arith, c .before .pre .penalty, c .before .pre .charge)
+charged-or-rewarded-requires : tie.Need-charged-or-rewarded-requires
+charged-or-rewarded-requires c κs = search needs
 
-flag-requires : tie.Need-flag-requires
-flag-requires c κs = search needs
-
-add-more : tie.Need-add-more
-add-more c = omega (arith, c .before .before .before .before .before .before .pre .reward, c .before .flag .ensures .1)
+awaited-requires : tie.Need-awaited-requires
+awaited-requires c κs = search needs
 
 pick-requires : tie.Need-pick-requires
 pick-requires c κs = search needs
@@ -25,10 +21,19 @@ pick-requires-3 c κs = search needs
 
 returns : tie.Need-returns
 returns c =
-    let a = c .before .before .before .before .before .before .before .before .before .before .args in
-    account-by (a .p) (a .r) (a .criticality) (a .healthy) (a .self) (c .before .before .before .before .before .flag .ensures .0)
+    let o = c .before .before .before .before .before .before .before in
+    let i = o .before in
+    let a = i .before .args in
+    account-by (a .p) (a .r) (a .q) (a .criticality) (a .healthy) (a .self) (i .charged-or-rewarded .ensures) (o .awaited .ensures)
     (c .before .before .pick .ensures) (c .before .pick2 .ensures) (c .pick3 .ensures)
 
 pub accounted-spec : {M : Type 1} → statement M
 accounted-spec =
-    tie.close (tie.spec add-grown flag-requires add-more pick-requires pick-requires-2 pick-requires-3 returns)
+    tie.close
+    (tie.spec
+    charged-or-rewarded-requires
+    awaited-requires
+    pick-requires
+    pick-requires-2
+    pick-requires-3
+    returns)

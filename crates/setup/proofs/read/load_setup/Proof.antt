@@ -15,19 +15,22 @@ use Rattle.setup.proofs.read.load_setup.Statement.{statement}
 use Rattle.setup.proofs.read.load_setup.Tie as tie
 
 abbrev Inv-loop : tie.InvT-loop
-Inv-loop s n p r limits good₀ marks₀ places₀ criticality₀ j₀ good marks places criticality j =
+Inv-loop s n head p r limits good₀ marks₀ places₀ criticality₀ j₀ good marks places criticality j =
     (j ≤ n)
     × (good ≡ all j (λ k. moduleOk n k (wordAt s (3 + k)) && markOk k (wordAt s (3 + k))))
     × ModulesRead s j marks places criticality
 
 abbrev μ-loop : tie.MeasureT-loop
-μ-loop s n p r limits good₀ marks₀ places₀ criticality₀ j₀ good marks places criticality j = n - j
+μ-loop s n head p r limits good₀ marks₀ places₀ criticality₀ j₀ good marks places criticality j = n - j
 
 word-at-requires : tie.Need-word-at-requires Inv-loop μ-loop
 word-at-requires c κs = omega arith
 
 word-at-requires-2 : tie.Need-word-at-requires-2 Inv-loop μ-loop
 word-at-requires-2 c κs = omega arith
+
+word-at-requires-3 : tie.Need-word-at-requires-3 Inv-loop μ-loop
+word-at-requires-3 c κs = omega arith
 
 limit-ok-requires : tie.Need-limit-ok-requires Inv-loop μ-loop
 limit-ok-requires c κs = omega arith
@@ -42,8 +45,8 @@ loop-holds c = (omega arith, refl, (refl, refl, refl))
 add-word-at : tie.Need-add-word-at Inv-loop μ-loop
 add-word-at c = omega arith
 
-word-at-requires-3 : tie.Need-word-at-requires-3 Inv-loop μ-loop
-word-at-requires-3 c κs = omega arith
+word-at-requires-4 : tie.Need-word-at-requires-4 Inv-loop μ-loop
+word-at-requires-4 c κs = omega arith
 
 module-ok-requires : tie.Need-module-ok-requires Inv-loop μ-loop
 module-ok-requires c κs = omega arith
@@ -72,6 +75,9 @@ mul-criticality c = omega arith
 array-write-criticality : tie.Need-array-write-criticality Inv-loop μ-loop
 array-write-criticality c = omega arith
 
+field-requires-2 : tie.Need-field-requires-2 Inv-loop μ-loop
+field-requires-2 c κs = omega arith
+
 add-j : tie.Need-add-j Inv-loop μ-loop
 add-j c = omega arith
 
@@ -82,7 +88,7 @@ loop-again : tie.Need-loop-again Inv-loop μ-loop
 loop-again c =
     let g = c .before .before .before .before in
     let l = g .before .before .before .loop in
-    let e = g .before .word-at3 .ensures in (
+    let e = g .before .word-at4 .ensures in (
       omega arith,
       all-step _ _ (l .inv .1)
           (ap₂ _&&_ (g .module-ok .ensures ∙ ap (moduleOk _ _) e) (c .before .before .before .mark-ok .ensures ∙ ap (markOk _) e)),
@@ -91,14 +97,16 @@ loop-again c =
 
 returns : tie.Need-returns Inv-loop μ-loop
 returns c =
-    let i = c .before .loop .inv in
-    let b = c .before .before in
-    let p = b .before .before .before .word-at .ensures in
-    let r = b .before .before .word-at2 .ensures in
-    let a = b .before .before .before .before .before in
-    let e : c .before .loop .j ≡ a .args .n = omega arith in (
+    let l = c .before .before .loop in
+    let i = l .inv in
+    let b = c .before .before .before in
+    let p = b .before .before .before .word-at2 .ensures in
+    let r = b .before .before .word-at3 .ensures in
+    let h = b .before .before .before .before .word-at .ensures in
+    let a = b .before .before .before .before .before .before in
+    let e : l .j ≡ a .args .n = omega arith in (
       words-good _ _ (b .before .limit-ok .ensures ∙ ap (limitOk _ _) p) (b .limit-ok2 .ensures ∙ ap (limitOk _ _) r) (all-end _ e (i .1)),
-      setup-by _ e (a .pre .2) p r (i .2),
+      setup-by _ e (a .pre .2) h (c .field2 .ensures) p r (i .2),
     )
 
 pub load-setup-spec : {M : Type 1} → statement M
@@ -109,11 +117,12 @@ load-setup-spec =
     μ-loop
     word-at-requires
     word-at-requires-2
+    word-at-requires-3
     limit-ok-requires
     limit-ok-requires-2
     loop-holds
     add-word-at
-    word-at-requires-3
+    word-at-requires-4
     module-ok-requires
     mark-ok-requires
     bit-at-requires
@@ -126,4 +135,5 @@ load-setup-spec =
     add-j
     loop-less
     loop-again
+    field-requires-2
     returns)

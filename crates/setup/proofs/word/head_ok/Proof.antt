@@ -1,24 +1,21 @@
--- The code and the definition make the same two comparisons.
+-- The top four bits are compared with kind 1, and the two fields are handed on.
 use Rattle.setup.specs.Check.{headOk}
 use borrow.Author.Needs.{needs}
 use Rattle.setup.proofs.word.head_ok.Statement.{statement}
 use Rattle.setup.proofs.word.head_ok.Tie as tie
 
-cast-result : tie.Need-cast-result
-cast-result c = search needs
+field-requires : tie.Need-field-requires
+field-requires c κs = search needs
 
-add-result : tie.Need-add-result
-add-result c = search needs
+cast-head-fits : tie.Need-cast-head-fits
+cast-head-fits c = search needs
 
-cast-result-2 : tie.Need-cast-result-2
-cast-result-2 c = search needs
-
-add-result-2 : tie.Need-add-result-2
-add-result-2 c = search needs
+head-fits-requires : tie.Need-head-fits-requires
+head-fits-requires c κs = search needs
 
 returns : tie.Need-returns
 unfolding headOk
-returns c = search needs
+returns c = rw (c .head-fits .ensures, c .before .field .ensures)
 
 pub head-ok-spec : {M : Type 1} → statement M
-head-ok-spec = tie.close (tie.spec cast-result add-result cast-result-2 add-result-2 returns)
+head-ok-spec = tie.close (tie.spec field-requires cast-head-fits head-fits-requires returns)

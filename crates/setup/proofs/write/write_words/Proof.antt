@@ -1,20 +1,16 @@
 -- The head, the limits and the module words, each at its place, are the bytes of the setup.
 use native.Mathlib.Omega.{arith}
-use mathlib.Core.Path.{refl}
+use mathlib.Core.Path.{ap, _∙_}
+use Rattle.words.specs.Word.{putWord}
 use Rattle.setup.proofs.SetupWords.{room-pass, words-written}
 use borrow.Author.Needs.{needs}
 use Rattle.setup.proofs.write.write_words.Statement.{statement}
 use Rattle.setup.proofs.write.write_words.Tie as tie
 
-cast-put-word : tie.Need-cast-put-word
-cast-put-word c =
-    let f = room-pass _ (c .before .before .before .pre .0) in
-    omega arith
-
-add-put-word : tie.Need-add-put-word
-add-put-word c =
-    let f = room-pass _ (c .before .before .before .pre .0) in
-    omega arith
+head-word-requires : tie.Need-head-word-requires
+head-word-requires c κs =
+    let f = room-pass _ (c .before .before .pre .0) in
+    (omega (arith, f .q), f .most)
 
 put-word-requires : tie.Need-put-word-requires
 put-word-requires c κs = search needs
@@ -22,8 +18,8 @@ put-word-requires c κs = search needs
 mul-put-word : tie.Need-mul-put-word
 mul-put-word c = search needs
 
-add-put-word-2 : tie.Need-add-put-word-2
-add-put-word-2 c =
+add-put-word : tie.Need-add-put-word
+add-put-word c =
     let f = room-pass _ (c .before .before .before .before .before .before .before .before .pre .0) in
     omega arith
 
@@ -33,8 +29,8 @@ put-word-requires-2 c κs = search needs
 mul-put-word-2 : tie.Need-mul-put-word-2
 mul-put-word-2 c = search needs
 
-add-put-word-3 : tie.Need-add-put-word-3
-add-put-word-3 c =
+add-put-word-2 : tie.Need-add-put-word-2
+add-put-word-2 c =
     let f = room-pass _ (c .before .before .before .before .before .before .before .before .before .before .before .before .before .pre .0) in
     omega arith
 
@@ -53,20 +49,19 @@ returns c =
     let p = r .before .before .before .before .before in
     let h = p .before .before .before .before .before in
     let a = h .before .before .before .before in
-    words-written _ _ (a .pre .1) (h .put-word .ensures) (p .put-word2 .ensures) (r .put-word3 .ensures) (c .before .before .write-modules .ensures)
+    words-written _ _ (a .pre .1) (h .put-word .ensures ∙ ap (putWord _ 0) (h .before .head-word .ensures)) (p .put-word2 .ensures) (r .put-word3 .ensures) (c .before .before .write-modules .ensures)
 
 pub write-words-spec : {M : Type 1} → statement M
 write-words-spec =
     tie.close
     (tie.spec
-    cast-put-word
-    add-put-word
+    head-word-requires
     put-word-requires
     mul-put-word
-    add-put-word-2
+    add-put-word
     put-word-requires-2
     mul-put-word-2
-    add-put-word-3
+    add-put-word-2
     put-word-requires-3
     write-modules-requires
     same-length

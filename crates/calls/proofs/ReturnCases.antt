@@ -1,0 +1,32 @@
+-- What the calls give is what document 02 says: computed.
+use mathlib.Core.Path.{refl}
+use Rattle.words.specs.Word.{wordAt, putWord, bytesOf}
+use Rattle.words.specs.Bits.{bit, pack}
+use Rattle.words.specs.Count.{count, any, all, lowest}
+use Rattle.words.specs.Array.{array, bounded}
+use Rattle.rules.specs.Lag.{skewed}
+use Rattle.rules.specs.Hearing.{busWord, receptionOf, isHeard, heardRow, causeIn, entryOf, readingOf, causesOf}
+use Rattle.rules.specs.Alignment.{alignedOf}
+use Rattle.vote.specs.Vote.{decision, tally, voteOf, healthOf}
+use Rattle.rules.specs.Accusation.{differsAt, accusationOf, accusationsOf}
+use Rattle.rules.specs.Syndrome.{syndromeOf, votersOf, judgementOf, outgoingOf}
+use Rattle.rules.specs.Account.{charged, rewarded, awaited, accounted, accountAt, accountedAt, countersOf}
+use Rattle.words.specs.Verdict.{andThen, outcome, thenTests}
+use Rattle.words.specs.Runs.{runsOf, runWord}
+use Rattle.setup.specs.Setup.{setupOf, setupBytes, blankSetup}
+use Rattle.setup.specs.Check.{moduleFits, markFits, whole, headFits, headOk, limitOk, moduleOk, markOk, moduleTest, checkHead, checkWords, checkSetup, setupRoomy, roomVerdict, setupVerdict}
+use Rattle.image.specs.Words.{ownNumberOk, ownOk, syndromeOk}
+use Rattle.image.specs.Rows.{rowFits, rowOk, readingIn, rowsRoomy}
+use Rattle.image.specs.Counters.{penaltyFits, rewardFits, countersIn, countersRoomy}
+use Rattle.image.specs.Returns.{returnFits}
+use Rattle.image.specs.Check.{checkTail, checkImage}
+use Rattle.presence.specs.Valid.{roomy, stateVerdict}
+use Rattle.presence.specs.Opening.{fresh, blank, checkOpening, openOf}
+use Rattle.presence.specs.Step.{placeOf, markOf, ownSyndrome, alignedFor, judgementFor, outgoingFor, afterRound, refusedStep, acceptedStep, testedStep, readStep, stepOf}
+use Rattle.presence.specs.Image.{imageOf, stateOf, roomFor}
+use Rattle.calls.specs.Calls.{refusedCall, wrote, checkCall, openCall, stepCall, saveCall}
+use Rattle.calls.specs.ReturnCases.{ReturnCasesRight}
+
+pub return-cases-right : ReturnCasesRight
+unfolding wordAt putWord bytesOf bit pack count any all lowest array bounded andThen outcome thenTests runsOf runWord setupOf setupBytes blankSetup moduleFits markFits whole headFits headOk limitOk moduleOk markOk moduleTest checkHead checkWords checkSetup setupRoomy roomVerdict setupVerdict skewed busWord receptionOf isHeard heardRow causeIn entryOf readingOf causesOf alignedOf decision tally voteOf healthOf differsAt accusationOf accusationsOf syndromeOf votersOf judgementOf outgoingOf charged rewarded awaited accounted accountAt accountedAt countersOf rowFits penaltyFits rewardFits returnFits ownNumberOk ownOk rowOk syndromeOk readingIn rowsRoomy countersIn countersRoomy checkTail checkImage roomy stateVerdict fresh blank checkOpening openOf placeOf markOf ownSyndrome alignedFor judgementFor outgoingFor afterRound refusedStep acceptedStep testedStep readStep stepOf imageOf stateOf roomFor refusedCall wrote openCall stepCall checkCall saveCall
+return-cases-right = refl
