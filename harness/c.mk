@@ -17,9 +17,9 @@ C_FLAGS = -std=c99 -Wall -Wextra -Werror -Iinclude
 C_LINK = -L$(PRESENCE_LIB) -lgirmaut $(PRESENCE_LIBS)
 C_ARCHIVE = $(PRESENCE_LIB)/libgirmaut.a
 
-.PHONY: check check-asan check-valgrind header firmware stage goals measure c-all
+.PHONY: check check-asan check-valgrind header alone firmware stage goals measure c-all
 
-c-all: header check check-asan firmware stage goals
+c-all: header alone check check-asan firmware stage goals
 
 # Every function against document 01 and plain.c.
 check: $(C_BUILD)/check
@@ -38,6 +38,11 @@ header: | $(C_BUILD)
 	printf '#include "scanlock.h"\n#include "presence.h"\n#include "presence.h"\n#include "scanlock.h"\nextern int x;\n' > $(C_BUILD)/header.c
 	gcc $(C_FLAGS) -pedantic -Wstrict-prototypes -c $(C_BUILD)/header.c -o $(C_BUILD)/header.o
 	g++ -x c++ -std=c++98 -Wall -Wextra -Werror -Iinclude -c $(C_BUILD)/header.c -o $(C_BUILD)/header.o
+
+# The library has all that it calls: nothing of the C library, memcpy and memset included.
+alone: $(C_ARCHIVE)
+	@if nm -u $(C_ARCHIVE) | grep ' U '; then echo 'the library calls what it does not have' >&2; exit 1; fi
+	@echo library: has all that it calls
 
 # The example; its output must be the stored one.
 firmware: $(C_BUILD)/card

@@ -29,21 +29,22 @@
  * A module's state is its image, a block of bytes that the caller keeps.
  * Nothing is kept between calls: the result of a call and the bytes it writes
  * follow from its arguments alone.  The functions use no heap, no static
- * variables and no C library calls.  presence_step takes 1,648 bytes of stack
- * (measured, for every N), presence_page_step 2,624; no other call takes more
- * than 1,520.
+ * variables and no C library calls.  presence_step takes 2,304 bytes of stack
+ * (measured, for every N), presence_page_step 3,264; no other call takes more
+ * than 1,728.
  *
  * Instructions of an accepted presence_step and presence_page_step (page),
- * the most that were counted in quiet and loud rounds, with every l at N and
- * with others.  They do not grow steadily with N: 3 modules take more than 4,
- * 5 to 7 more than 8, 11 more than 12, 13 to 15 more than 16.
+ * the most that were counted in quiet and loud rounds and in rounds in which
+ * modules outside the view count or return, with every l at N and with others.
+ * They do not grow steadily with N: 3 modules take more than 4, 5 to 7 more
+ * than 8, 10 and 11 more than 12, 11 and 13 to 15 more than 16.
  *
  *    N   step   page        N   step   page        N   step   page
- *    2  1,324  1,576        7  2,387  2,717       12  2,397  2,719
- *    3  1,603  1,880        8  1,701  1,977       13  2,786  3,132
- *    4  1,440  1,696        9  2,107  2,405       14  3,065  3,436
- *    5  1,829  2,109       10  2,386  2,709       15  3,344  3,740
- *    6  2,108  2,413       11  2,665  3,013       16  2,574  2,911
+ *    2  1,587  1,824        7  2,866  3,165       12  2,859  3,165
+ *    3  1,936  2,189        8  2,041  2,306       13  3,330  3,646
+ *    4  1,697  1,954        9  2,538  2,813       14  3,679  4,011
+ *    5  2,168  2,435       10  2,887  3,178       15  4,028  4,376
+ *    6  2,517  2,800       11  3,236  3,543       16  3,119  3,431
  *
  *
  * CALLS AT THE SAME TIME
@@ -106,7 +107,8 @@
  * SETUP: N+3 words, the same for all modules of a backplane
  *
  *   word      kind  content
- *   0         1     bits 4..0 N, 2..16
+ *   0         1     27..8 return limit Q, 0..1,000,000 (0: never);
+ *                   4..0 N, 2..16
  *   1         2     penalty limit P, 1..1,000,000
  *   2         3     reward limit R, 1..8,000,000
  *   2+j       4     module j, for j = 1..N in this order:
@@ -125,7 +127,7 @@
  * round before handed out; in round 1 the word of the opened image.
  *
  *
- * IMAGE: 4N+6 words
+ * IMAGE: 5N+6 words
  *
  *   word      kind  content
  *   0..N+2          the setup
@@ -136,9 +138,67 @@
  *   2N+5      12    15..0 syndrome of the step before
  *   2N+5+j    13    27..23 j; 20..0 penalty of j
  *   3N+5+j    14    27..23 j; 22..0 reward of j
+ *   4N+5+j    15    27..23 j; 19..0 return count of j: below Q; 0 while j is
+ *                   in the view, and where Q is 0
  *
  * A fresh image has all modules in the view, all rows heard and all ones,
  * both syndromes all ones and all counters 0.
+ *
+ *
+ * HOW A CARD LEAVES AND COMES BACK
+ *
+ * A module in the view whose health is 0 in a step is charged: its penalty
+ * grows by its criticality and its reward becomes 0.  Above P it leaves the
+ * view.  With health 1 and a penalty its reward grows by 1; at R both become
+ * 0.
+ *
+ * A module outside the view counts the steps running in which its health is 1.
+ * A health of 0 makes the count 0 again.  At Q it returns: it is in the view
+ * that this step leaves, with penalty P, reward 0 and count 0, and votes from
+ * the next step on.  So the next bad round puts it out at once, until R good
+ * ones in the view have cleared its penalty.  With Q = 0 it never returns.
+ * The count is in the image, so a saved one goes on where it was.
+ *
+ * What the others see.  Let r be the first round, after the card has left
+ * their views, from which on all of them hear it.  They have its health for
+ * that round in the step of round r + 1 if every l is N, else of round r + 3,
+ * and it is 1 from then on: outside the view its word has only to be heard.  It
+ * is back in their views after the step of round r + Q, or r + Q + 2.  That is
+ * Q + 1 rounds after the beginning of round r, or Q + 3; at 2.5 ms a round:
+ *
+ *         Q   every l is N         else
+ *         1         5.0 ms      10.0 ms
+ *        40       102.5 ms     107.5 ms
+ *       400     1,002.5 ms   1,007.5 ms
+ *     4,000    10,002.5 ms  10,007.5 ms
+ *
+ * What the card does.  One that was not heard, but made the step of every
+ * round, has nothing to do.  It holds the same view and counters as the others
+ * all along, its own return included, while the fault limit is kept (proved).
+ *
+ * One that lost its state, or left a step out, opens anew (presence_open)
+ * before the first round in which it sends, and then makes the step of every
+ * round with what it hears.  It may do so in any round; nobody has to tell the
+ * others.  They return it as said above.  What it holds itself is another
+ * matter, since it knows nothing of the rounds before:
+ *
+ *   - Its view is full when it opens, though the others hold it outside; and it
+ *     may have a card in its view that is outside theirs.  So it should drive
+ *     nothing by its view before it is back.  If it hears what the others hear,
+ *     it is back once it has made Q + 1 steps (every l is N), or Q + 3, and its
+ *     own health was 1 in the last Q of them.
+ *   - In its first step, or in up to three (not every l is N), the others'
+ *     words say that it was not heard.  It charges itself for that, and may so
+ *     leave its own view; then it returns there in the same step as in theirs.
+ *   - If it opens while it is still in the others' views, its first words,
+ *     which may differ from theirs, can be held against it.
+ *   - R good rounds after its return it holds what the others hold, if no other
+ *     card has a penalty or is outside.
+ *
+ * That cards agree is proved of cards that were opened before round 1 and made
+ * every step since.  In the fault limit a card that opened anew counts as a
+ * rule-breaker from its return on; while it is outside the view it counts only
+ * in rounds in which they do not all hear it alike.
  *
  *
  * READ: N words
@@ -207,10 +267,10 @@
  *    0   not refused                                        0
  *    1   setup or image empty, or its length is no          0
  *        multiple of 4
- *    2   first word no head: kind not 1, N not 2..16, or    0
- *        another bit set; n of presence_read_cause not
- *        2..16
- *    3   setup not of N+3 words, image not of 4N+6 words    0
+ *    2   first word no head: kind not 1, N not 2..16, Q     0
+ *        over 1,000,000, or one of bits 7..5 set; n of
+ *        presence_read_cause not 2..16
+ *    3   setup not of N+3 words, image not of 5N+6 words    0
  *    4   limit word wrong: kind, or P or R out of range     1 (P) or 2 (R)
  *    5   module word wrong: kind, number not in turn, l     its word,
  *        over N, criticality out of range                   3..N+2
@@ -220,14 +280,17 @@
  *        (in an image tested only if word N+3 is of         image: N+3
  *        kind 10)
  *    8   wrong word in the part of an image after the       its word,
- *        setup: kind, order or number of a word; a bit set  N+3..4N+5
+ *        setup: kind, order or number of a word; a bit set  N+3..5N+5
  *        that must be 0; a vector with a bit at N or        (view against
  *        above; a row that is not 0 though not heard;       penalty: the
  *        penalty over P + criticality; reward R or more,    penalty word;
  *        or over 0 with penalty 0; a module in the view     reward with
- *        with penalty over P, or out of it without          penalty 0: the
- *                                                           reward word)
- *    9   read not of N words, output not of 4N+6 words, or  0
+ *        with penalty over P, or out of it without; a       penalty 0: the
+ *        return count of Q or more, or over 0 for a module  reward word;
+ *        in the view or where Q is 0                        view against
+ *                                                           return count:
+ *                                                           the count's)
+ *    9   read not of N words, output not of 5N+6 words, or  0
  *        page not of 16 (a length that is no multiple of
  *        4 included)
  *   10   controller has a bit at N or above; that of        0
@@ -254,7 +317,7 @@
  * Inputs are only read, and may overlap one another.
  *
  * An accepted call of presence_open, presence_step or presence_save, with a
- * page or without, writes all 4N+6 words of the output.  presence_page_open
+ * page or without, writes all 5N+6 words of the output.  presence_page_open
  * writes all 16 words of the page, presence_page_step words 0 to 2 and 4 to 7,
  * presence_page_write the one word.
  */
@@ -271,14 +334,14 @@ extern "C" {
 /* Largest N. */
 #define PRESENCE_MAX_MODULES 16u
 
-/* Lengths in bytes for n modules: setup n+3, image 4n+6, read n words. */
+/* Lengths in bytes for n modules: setup n+3, image 5n+6, read n words. */
 #define PRESENCE_SETUP_BYTES(n) (4u * ((size_t)(n) + 3u))
-#define PRESENCE_IMAGE_BYTES(n) (4u * (4u * (size_t)(n) + 6u))
+#define PRESENCE_IMAGE_BYTES(n) (4u * (5u * (size_t)(n) + 6u))
 #define PRESENCE_READ_BYTES(n) (4u * (size_t)(n))
 
 /* The same for N = 16. */
 #define PRESENCE_MAX_SETUP_BYTES 76u
-#define PRESENCE_MAX_IMAGE_BYTES 280u
+#define PRESENCE_MAX_IMAGE_BYTES 344u
 #define PRESENCE_MAX_READ_BYTES 64u
 
 /* The page: its length, the offsets of its words, and the flags. */
@@ -384,12 +447,14 @@ presence_answer presence_open(const uint8_t *setup, size_t setup_len,
  * before this one if every l is N, else the one three rounds before this one.
  * A module outside the view of the image that is passed has no vote in this
  * step, and what its word says is not held against it; the others still vote
- * on it.  One that leaves the view in this step has voted in it.
+ * on it.  One that leaves the view in this step has voted in it, one that
+ * returns in this step has not.
  * Refused: the output stays as it was, no step has been made, and the image
  * that was passed is still the current one.
  * That cards agree is proved of cards that make the step of every round, each
  * on the read of that round.  A card that leaves a step out no longer follows
- * the rules: for the others it counts as a rule-breaker from then on.
+ * the rules: for the others it counts as a rule-breaker from then on.  HOW A
+ * CARD LEAVES AND COMES BACK says what it does.
  */
 presence_answer presence_step(const uint8_t *state, size_t state_len,
                               const uint8_t *read, size_t read_len,

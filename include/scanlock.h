@@ -75,7 +75,8 @@
  * A module begins locks on an axis that nobody else holds, up to 8 deep on
  * each axis.  An end ends the innermost of them; the outer one is restored.
  * A holder that is not in the view handed last loses all its locks for good:
- * they do not come back if the module is in a later view.
+ * they do not come back if the module is in a later view.  A module that has
+ * returned to the view may begin new ones, once that view is handed over.
  *
  * Whoever holds an axis may start a move on it.  An axis has at most one
  * unfinished move: a start during it joins it, also if another module started
@@ -106,7 +107,10 @@
  * tests the image it is given.  A card that goes on from a stored image hands
  * over the view of its presence image first.  A card that opens its scan lock
  * anew while others hold locks knows nothing of those, and so holds other
- * locks than the rest: open the scan locks of all cards together.
+ * locks than the rest: open the scan locks of all cards together.  A card that
+ * lost its state and comes back to the views while there are locks or moves
+ * therefore goes on from another card's image, of the same interval; to carry
+ * it is the caller's part.
  *
  *
  * ANSWERS

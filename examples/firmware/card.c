@@ -6,7 +6,8 @@
  * which the host learns of presence.  The second part is the host, which is
  * connected to card 1 and prints which cards were not heard, and why.  The
  * third part stands for the hardware: it carries the words, lets card 3 fall
- * silent for some rounds and restarts card 2.
+ * silent for some rounds, so that it leaves the view and comes back, and
+ * restarts card 2.
  *
  * Build, with libgirmaut.a in the folder LIB:
  *   gcc -std=c99 -O2 -Iinclude examples/firmware/card.c -LLIB -lgirmaut -o card
@@ -29,9 +30,9 @@
 #define MODULE(number, mark, place, criticality) \
     WORD(0x40000000u | (number) << 23 | (mark) << 22 | (place) << 17 | (criticality))
 
-/* The setup, the same in all cards: P = 4, R = 6. */
+/* The setup, the same in all cards: Q = 8, P = 4, R = 6. */
 static const uint8_t setup[PRESENCE_SETUP_BYTES(N)] = {
-    WORD(0x10000000u | N),
+    WORD(0x10000000u | 8u << 8 | N),
     WORD(0x20000000u | 4u),
     WORD(0x30000000u | 6u),
     MODULE(1u, 0u, 4u, 1u), /* steps at the end of the round */

@@ -9,14 +9,17 @@
  * The second part stands for the bus and the stage, and plays the same rounds
  * twice.  First each card tells its scan lock an event when it comes, in the
  * middle of a round, where some cards have stepped and others have not: two
- * cards come to differ for good.  Then by the rule: all agree.
+ * cards come to differ for good.  Then by the rule: all agree.  This run goes
+ * on until the joystick's card, whose plug sits again, is back in the views:
+ * its locks are lost for good, and it may begin new ones.
  *
  * Build, with libgirmaut.a in the folder LIB:
  *   gcc -std=c99 -O2 -Iinclude examples/stage/stage.c -LLIB -lgirmaut -o stage
  *
  * Prints what happens; exit status 0 if it is as said: in the first run the
- * cards differ from round 5 on, in the second they never do, no call is
- * refused, and the joystick is live in the end.
+ * cards differ from round 5 on, in the second they never do, every event is
+ * answered as the table of events says, no other call is refused, and the
+ * joystick is live in the end.
  */
 #include <stdio.h>
 #include <string.h>
@@ -28,6 +31,7 @@
 
 #define N 4u
 #define JOYSTICK 4u /* the joystick's card */
+#define Q 6u        /* good rounds after which a card is back */
 #define QUEUE 8u    /* as many events as the bus carries in a round */
 
 #define WORD(w) \
@@ -38,7 +42,7 @@
 /* The setup, the same in all cards: P = 3, R = 3; the joystick's card is
    struck off after two charges, another one after four. */
 static const uint8_t setup[PRESENCE_SETUP_BYTES(N)] = {
-    WORD(0x10000000u | N), WORD(0x20000003u), WORD(0x30000003u),
+    WORD(0x10000000u | Q << 8 | N), WORD(0x20000003u), WORD(0x30000003u),
     MODULE(1u, 0u, 4u, 1u), /* steps at the end of the round */
     MODULE(2u, 1u, 1u, 1u), /* steps after 1 has sent, then sends */
     MODULE(3u, 1u, 0u, 1u), /* steps at the beginning, then sends */
@@ -61,6 +65,8 @@ struct card {
     unsigned locked;                      /* which one is the scan lock */
     struct event queue[QUEUE];            /* events of this round, in order */
     unsigned queued;
+    uint32_t answers[QUEUE];              /* to the events told last */
+    unsigned told;
     uint32_t word;                        /* word to send in this round */
     uint32_t joystick;                    /* 1 while the joystick is live */
     uint32_t number;                      /* latest answer of the scan lock */
@@ -93,6 +99,7 @@ static void card_start(struct card *c, uint32_t own)
     c->current = 0;
     c->locked = 0;
     c->queued = 0;
+    c->told = 0;
     c->joystick = s.joystick;
     c->refused = p.number != PRESENCE_ACCEPTED || s.number != SCANLOCK_ACCEPTED;
 }
@@ -142,8 +149,11 @@ static void card_end_round(struct card *c)
 {
     unsigned i;
 
-    for (i = 0; i < c->queued; i++)
+    for (i = 0; i < c->queued; i++) {
         card_tell(c, &c->queue[i]);
+        c->answers[i] = c->number;
+    }
+    c->told = c->queued;
     c->queued = 0;
 }
 
@@ -181,12 +191,15 @@ static void card_step(struct card *c)
 
 /* ================= bus and stage ================= */
 
-#define ROUNDS 8u
+#define ROUNDS 8u       /* of the first run */
+#define ALL_ROUNDS 15u  /* of the second, in which card 4 comes back */
 
 static struct card cards[N];
 
 /* In rounds 1 to 3 the joystick's plug is loose: cards 1 and 3 do not hear it,
-   card 2 does. */
+   card 2 does.  These rounds are judged in steps 4 to 6, and card 4 is struck
+   off in step 5.  Rounds 4 to 9 are good; they are judged in steps 7 to 12, and
+   with the sixth of them, in step 12, card 4 is back. */
 static int lost(uint32_t round, uint32_t sender, uint32_t receiver)
 {
     return round >= 1 && round <= 3 && sender == JOYSTICK &&
@@ -199,23 +212,34 @@ static const struct coming {
     uint32_t round, slot;
     struct event event;
     const char *text;
+    uint32_t number; /* what the scan locks answer, told by the rule */
 } comings[] = {
-    { 0, 0, { BEGIN, JOYSTICK, 1 }, "card 4 begins a scan of axis 1" },
-    { 0, 0, { BEGIN, JOYSTICK, 1 }, "card 4 begins a nested one" },
-    { 0, 0, { START, JOYSTICK, 1 }, "card 4 starts a move" },
-    { 2, 3, { FINISHED, 0, 1 }, "axis 1 reports the move finished" },
-    { 5, 1, { BEGIN, 1, 1 }, "card 1 begins a scan of axis 1" },
-    { 6, 0, { START, 1, 1 }, "card 1 starts a move" },
-    { 6, 2, { ABORT, 2, 1 }, "card 2 aborts it" },
-    { 7, 4, { STOPPED, 0, 1 }, "axis 1 reports that it has stopped" }
+    { 0, 0, { BEGIN, JOYSTICK, 1 }, "card 4 begins a scan of axis 1", 0 },
+    { 0, 0, { BEGIN, JOYSTICK, 1 }, "card 4 begins a nested one", 0 },
+    { 0, 0, { START, JOYSTICK, 1 }, "card 4 starts a move", 0 },
+    { 2, 3, { FINISHED, 0, 1 }, "axis 1 reports the move finished", 0 },
+    { 5, 1, { BEGIN, 1, 1 }, "card 1 begins a scan of axis 1", 0 },
+    { 6, 0, { START, 1, 1 }, "card 1 starts a move", 0 },
+    { 6, 2, { ABORT, 2, 1 }, "card 2 aborts it", 0 },
+    { 7, 4, { STOPPED, 0, 1 }, "axis 1 reports that it has stopped", 0 },
+    { 11, 1, { BEGIN, JOYSTICK, 2 }, "card 4, still struck off, begins a scan "
+      "of axis 2", SCANLOCK_OUT_OF_RANGE },
+    { 12, 1, { END, JOYSTICK, 1 }, "card 4, now back, ends its scan of axis 1, "
+      "which it has lost", SCANLOCK_WRONG_DEPTH },
+    { 12, 3, { BEGIN, JOYSTICK, 1 }, "card 4 begins a new scan of axis 1", 0 },
+    { 13, 0, { START, JOYSTICK, 1 }, "card 4 starts a move", 0 },
+    { 14, 2, { FINISHED, 0, 1 }, "axis 1 reports the move finished", 0 },
+    { 15, 0, { END, JOYSTICK, 1 }, "card 4 ends its scan", 0 }
 };
+
+#define COMINGS (sizeof comings / sizeof comings[0])
 
 /* By the rule, or told when it comes. */
 static void carry(const struct coming *e, int by_rule)
 {
     uint32_t i;
 
-    if (e->round > 5 && cards[0].refused != 0)
+    if (!by_rule && e->round > 5 && cards[0].refused != 0)
         return; /* card 1 scans only if its own scan lock let it begin */
     printf("round %u, after slot %u: %s%s", (unsigned)e->round,
            (unsigned)e->slot, e->text, by_rule ? "" : ", answers");
@@ -261,12 +285,33 @@ static void play(uint32_t round, int by_rule)
         for (i = 0; i < N; i++)
             if (read_place(i + 1) == slot && round > 0)
                 card_step(&cards[i]);
-        for (e = 0; e < sizeof comings / sizeof comings[0]; e++)
+        for (e = 0; e < COMINGS; e++)
             if (comings[e].round == round && comings[e].slot == slot)
                 carry(&comings[e], by_rule);
     }
     for (i = 0; i < N; i++)
         card_end_round(&cards[i]);
+}
+
+/* At the end of a round: the answers to its events, the same at all cards, are
+   those of the table.  Answers whether it was so. */
+static int print_answers(uint32_t round)
+{
+    unsigned told = 0;
+    uint32_t e, i;
+    int right = 1;
+
+    for (e = 0; e < COMINGS; e++)
+        if (comings[e].round == round) {
+            printf("%s %u", told == 0 ? ": answers" : "",
+                   (unsigned)cards[0].answers[told]);
+            for (i = 0; i < N; i++)
+                right = right && told < cards[i].told &&
+                        cards[i].answers[told] == comings[e].number;
+            told++;
+        }
+    printf(told == 0 ? ":" : ",");
+    return right;
 }
 
 /* All cards hold the same locks and give the same answer. */
@@ -283,15 +328,19 @@ static int all_agree(void)
 }
 
 /* A whole run.  Answers the first round, from 0 on, after which the cards
-   differed; ROUNDS + 1 if there was none. */
-static uint32_t run(const char *title, int by_rule)
+   differed or an answer was not that of the table; rounds + 1 if there was
+   none. */
+static uint32_t run(const char *title, int by_rule, uint32_t rounds)
 {
     uint32_t round, i, first = 0;
+    int right;
 
     printf("%s\n", title);
-    for (round = 0; round <= ROUNDS; round++) {
+    for (round = 0; round <= rounds; round++) {
         play(round, by_rule);
-        printf("end of round %u: view", (unsigned)round);
+        printf("end of round %u", (unsigned)round);
+        right = !by_rule || print_answers(round);
+        printf("%s view", by_rule ? "" : ":");
         for (i = 0; i < N; i++)
             printf(" %X", (unsigned)PRESENCE_VIEW(
                        cards[i].image[cards[i].current], N));
@@ -299,7 +348,7 @@ static uint32_t run(const char *title, int by_rule)
         for (i = 0; i < N; i++)
             printf(" %s", cards[i].joystick ? "live" : "dead");
         printf("%s\n", all_agree() ? "" : ", the locks differ");
-        if (first == round && all_agree())
+        if (first == round && all_agree() && right)
             first++;
     }
     return first;
@@ -308,14 +357,16 @@ static uint32_t run(const char *title, int by_rule)
 int main(void)
 {
     int right;
-    uint32_t i;
+    uint32_t i, e, refused = 0;
 
-    right = run("Events told when they come", 0) == 5 &&
+    right = run("Events told when they come", 0, ROUNDS) == 5 &&
             cards[0].joystick != cards[1].joystick;
-    right = run("\nEvents told after step k and before step k + 1", 1) ==
-            ROUNDS + 1 && right;
+    right = run("\nEvents told after step k and before step k + 1", 1,
+                ALL_ROUNDS) == ALL_ROUNDS + 1 && right;
+    for (e = 0; e < COMINGS; e++)
+        refused += comings[e].number != SCANLOCK_ACCEPTED;
     for (i = 0; i < N; i++)
-        right = right && cards[i].refused == 0 && cards[i].joystick == 1;
+        right = right && cards[i].refused == refused && cards[i].joystick == 1;
     printf("\n%s\n", right ? "by the rule no two cards differed" : "FAILED");
     return right ? 0 : 1;
 }

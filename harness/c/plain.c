@@ -2,7 +2,8 @@
  * plain.c - the functions of presence.h by hand in plain C99.
  *
  * Rule numbers are those of "One step, round k", refusal numbers those of
- * "Answers and their order" in document 01.  Module j stands at place j-1 of
+ * "Answers and their order" in document 01; E4 and E6 of document 02 change
+ * rules 4, 5 and 8.  Module j stands at place j-1 of
  * the arrays and is bit j-1 of the vectors.
  *
  * load_setup, load_state and plain_step are longer than 40 lines.  They stay
@@ -25,13 +26,15 @@ enum kind {
     PREVIOUS = 11,
     SYNDROME = 12,
     PENALTY = 13,
-    REWARD = 14
+    REWARD = 14,
+    RETURN = 15
 };
 
 struct setup {
     uint32_t n;             /* number of modules */
     uint32_t penalty_limit; /* P */
     uint32_t reward_limit;  /* R */
+    uint32_t return_limit;  /* Q, 0 for never */
     bool mark[MAX];         /* send mark */
     uint32_t place[MAX];    /* read place l */
     uint32_t criticality[MAX];
@@ -47,6 +50,7 @@ struct state {
     uint32_t before;     /* syndrome of the step before */
     uint32_t penalty[MAX];
     uint32_t reward[MAX];
+    uint32_t returns[MAX]; /* good rounds running outside the view */
 };
 
 static presence_answer answer(uint32_t number, uint32_t index, uint32_t health)
@@ -119,8 +123,9 @@ static presence_answer load_setup(struct setup *s, const uint8_t *bytes,
 
     word = get_word(bytes, 0);
     s->n = word & 0x1F;
-    if (kind_of(word) != HEAD || (word & 0x0FFFFFE0) != 0 ||
-        s->n < 2 || s->n > MAX)
+    s->return_limit = word >> 8 & 0xFFFFF;
+    if (kind_of(word) != HEAD || (word & 0xE0) != 0 ||
+        s->n < 2 || s->n > MAX || s->return_limit > 1000000)
         return answer(2, 0, 0);
 
     if (len != (image ? PRESENCE_IMAGE_BYTES(s->n)
@@ -223,6 +228,17 @@ static presence_answer load_state(struct state *s, const uint8_t *bytes,
             return answer(8, at, 0);
     }
 
+    for (j = 0; j < n; j++) {
+        at = 4 * n + 6 + j;
+        word = get_word(bytes, at);
+        s->returns[j] = word & 0x000FFFFF;
+        if (kind_of(word) != RETURN || number_of(word) != j + 1 ||
+            (word & 0x00700000) != 0 ||
+            (s->returns[j] > 0 &&
+             (bit(s->view, j) || s->returns[j] >= s->setup.return_limit)))
+            return answer(8, at, 0);
+    }
+
     return answer(0, 0, 0);
 }
 
@@ -230,7 +246,7 @@ static void store_setup(const struct setup *s, uint8_t *out)
 {
     uint32_t j;
 
-    put_word(out, 0, (uint32_t)HEAD << 28 | s->n);
+    put_word(out, 0, (uint32_t)HEAD << 28 | s->return_limit << 8 | s->n);
     put_word(out, 1, (uint32_t)PENALTY_LIMIT << 28 | s->penalty_limit);
     put_word(out, 2, (uint32_t)REWARD_LIMIT << 28 | s->reward_limit);
     for (j = 0; j < s->n; j++)
@@ -258,6 +274,9 @@ static void store_state(const struct state *s, uint8_t *out)
     for (j = 0; j < n; j++)
         put_word(out, 3 * n + 6 + j,
                  (uint32_t)REWARD << 28 | (j + 1) << 23 | s->reward[j]);
+    for (j = 0; j < n; j++)
+        put_word(out, 4 * n + 6 + j,
+                 (uint32_t)RETURN << 28 | (j + 1) << 23 | s->returns[j]);
 }
 
 /* Rule 7: without the mark the latest syndrome, with it the one before. */
@@ -314,15 +333,31 @@ static bool is_accused(uint32_t j, uint32_t row, uint32_t health)
     return ((row ^ health) & ~(1u << j)) != 0;
 }
 
+/* E6 of document 02: a module that rule 8 finds outside the view returns with
+   health 1 for Q rounds running. */
+static void count_outside(struct state *s, uint32_t j, bool healthy)
+{
+    if (s->setup.return_limit == 0)
+        return;
+    if (!healthy) {
+        s->returns[j] = 0;
+    } else if (++s->returns[j] == s->setup.return_limit) {
+        s->view |= 1u << j;
+        s->penalty[j] = s->setup.penalty_limit;
+        s->reward[j] = 0;
+        s->returns[j] = 0;
+    }
+}
+
 /* Rule 8. */
 static void count(struct state *s, uint32_t health)
 {
     uint32_t j;
 
     for (j = 0; j < s->setup.n; j++) {
-        if (!bit(s->view, j))
-            continue;
-        if (!bit(health, j)) {
+        if (!bit(s->view, j)) {
+            count_outside(s, j, bit(health, j));
+        } else if (!bit(health, j)) {
             s->penalty[j] += s->setup.criticality[j];
             s->reward[j] = 0;
             if (s->penalty[j] > s->setup.penalty_limit)
@@ -366,6 +401,7 @@ presence_answer plain_open(const uint8_t *setup, size_t setup_len,
         s.row[j] = all(n);
         s.penalty[j] = 0;
         s.reward[j] = 0;
+        s.returns[j] = 0;
     }
     s.latest = all(n);
     s.before = all(n);

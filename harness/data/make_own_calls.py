@@ -1,5 +1,5 @@
 #!/usr/bin/env python3
-"""Writes own-calls.txt: calls with the answers that document 01 gives, and E1, E4 and E5 of document 02.
+"""Writes own-calls.txt: calls with the answers that document 01 gives, and E1, E4, E5 and E6 of document 02.
 
     python3 make_own_calls.py > own-calls.txt
 
@@ -34,6 +34,10 @@ def reward(number, value):
     return 14 << 28 | number << 23 | value
 
 
+def returns(number, count):
+    return 15 << 28 | number << 23 | count
+
+
 def kind(word, new):
     """The word with another kind."""
     return word & 0x0FFFFFFF | new << 28
@@ -54,12 +58,12 @@ def full(n):
 # ---- setups ----
 
 
-def setup_words(n, p=1, r=3, l=None, crit=None, marks=()):
+def setup_words(n, p=1, r=3, q=0, l=None, crit=None, marks=()):
     """l and crit: one a module; the default is l = N and criticality 1."""
     l = l or [n] * n
     crit = crit or [1] * n
     modules = [module(j, l[j - 1], crit[j - 1], int(j in marks)) for j in range(1, n + 1)]
-    return [head(n), limit_p(p), limit_r(r)] + modules
+    return [head(n, q), limit_p(p), limit_r(r)] + modules
 
 
 SHEET = setup_words(4)
@@ -74,6 +78,11 @@ WIDE = setup_words(4, p=5, crit=[3] * 4)
 STAIRS = setup_words(4, p=5, crit=[1, 2, 3, 4])
 LARGE = setup_words(4, p=1000000, r=8000000, crit=[100000] * 4)
 REWARD_ONE = setup_words(4, r=1)
+RETURN_THREE = setup_words(4, q=3)
+RETURN_ONE = setup_words(4, q=1)
+RETURN_LATEST = setup_words(4, p=1000000, q=1000000, crit=[100000] * 4)
+SIXTEEN_RETURN = setup_words(16, q=2)
+MARKED_RETURN = setup_words(4, q=2, l=[0, 0, 1, 2], marks=[2, 3, 4])
 
 
 # ---- states ----
@@ -92,9 +101,10 @@ class State:
         self.before = full(self.n)
         self.penalty = [0] * self.n
         self.reward = [0] * self.n
+        self.returns = [0] * self.n
 
     def but(self, **fields):
-        """A copy with other fields; row, penalty and reward take {module: value}."""
+        """A copy with other fields; row, penalty, reward and returns take {module: value}."""
         state = copy.deepcopy(self)
         for name, value in fields.items():
             if isinstance(value, dict):
@@ -111,6 +121,7 @@ class State:
         words += [syndrome(self.latest), syndrome(self.before)]
         words += [penalty(j, self.penalty[j - 1]) for j in numbers]
         words += [reward(j, self.reward[j - 1]) for j in numbers]
+        words += [returns(j, self.returns[j - 1]) for j in numbers]
         return words
 
 
@@ -149,7 +160,7 @@ def state(data, number, index):
 
 
 def image_bytes(n):
-    return 4 * (4 * n + 6)
+    return 4 * (5 * n + 6)
 
 
 def opened(words, own):
@@ -294,10 +305,23 @@ def setups_with_wrong_head():
     setup([head(1), limit_p(1), limit_r(3), module(1, 1)], 2, 0)
     setup([head(17), limit_p(1), limit_r(3)] + [module(j, 16) for j in range(1, 18)], 2, 0)
     setup([head(0), limit_p(1), limit_r(3)], 2, 0)
-    also("2: kind 2; spare bits 5 and 27.")
+    also("2: kind 2; spare bits 5, 6 and 7, without and with Q.")
     setup(put(SHEET, {0: kind(head(4), 2)}), 2, 0)
-    setup(put(SHEET, {0: head(4) | 1 << 5}), 2, 0)
-    setup(put(SHEET, {0: head(4) | 1 << 27}), 2, 0)
+    for bit in (5, 6, 7):
+        setup(put(SHEET, {0: head(4) | 1 << bit}), 2, 0)
+        setup(put(SHEET, {0: head(4, 3) | 1 << bit}), 2, 0)
+    also("2: Q 1 and 1,000,000 are accepted, and 524,288, which is bit 27 alone; 1,000,001 and all bits are not.")
+    for q in (1, 524288, 1000000):
+        setup(put(SHEET, {0: head(4, q)}), 0, 0)
+    for q in (1000001, 0xFFFFF):
+        setup(put(SHEET, {0: head(4, q)}), 2, 0)
+    also("2: Q = 1,000,000 with N = 2 and 16 is accepted, with N = 1 and 17 it is not.")
+    setup(put(TWO, {0: head(2, 1000000)}), 0, 0)
+    setup(put(SIXTEEN, {0: head(16, 1000000)}), 0, 0)
+    setup([head(1, 1000000), limit_p(1), limit_r(3), module(1, 1)], 2, 0)
+    setup([head(17, 1000000), limit_p(1), limit_r(3)] + [module(j, 16) for j in range(1, 18)], 2, 0)
+    also("2 before 3 and 4: Q = 1,000,001, one word short and P = 0.")
+    setup(put(SHEET, {0: head(4, 1000001), 1: limit_p(0)})[:6], 2, 0)
 
 
 def setups_of_wrong_length():
@@ -379,8 +403,9 @@ def setups_with_wrong_marks():
 
 # ---- state ----
 
-# The sheet's module 2, fresh: 22 words. Words 0 to 6 are the setup, 7 own number and view,
-# 8 to 11 the previous read, 12 and 13 the syndromes, 14 to 17 penalties, 18 to 21 rewards.
+# The sheet's module 2, fresh: 26 words. Words 0 to 6 are the setup, 7 own number and view,
+# 8 to 11 the previous read, 12 and 13 the syndromes, 14 to 17 penalties, 18 to 21 rewards, 22 to 25
+# return counts.
 FRESH = State(SHEET, 2)
 FRESH_WORDS = FRESH.words()
 
@@ -390,10 +415,17 @@ MIDDLE = State(SHEET, 3).but(
     penalty={2: 2, 3: 1}, reward={2: 1, 3: 2})
 
 
+# Q = 3, module 1 of four; 2 is out of the view, with a reward from before it left.
+AWAY = State(RETURN_THREE, 1).but(view=0xD, penalty={2: 2}, reward={2: 1})
+
+
 def states_accepted():
     note("States that are accepted: fresh ones with N = 2, 4 and 16; one where 1 is unheard, 2 is heard",
          "with row 0, the syndromes differ, and 2 is out of the view with a reward below R.")
     for image in [State(TWO, 1), FRESH, State(SIXTEEN, 16), MIDDLE]:
+        state(image, 0, 0)
+    also("With Q = 3: a fresh one; one where 2 and 4 are out of the view, 2 in the middle of its run.")
+    for image in [State(RETURN_THREE, 4), AWAY.but(view=0x5, penalty={4: 2}, returns={2: 2})]:
         state(image, 0, 0)
 
 
@@ -403,12 +435,15 @@ def states_with_wrong_setup():
     state(raw(FRESH_WORDS) + b"\x00", 1, 0)
     also("2: N = 17. 3: one word short, one over, the setup alone.")
     state(put(FRESH_WORDS, {0: head(17)}), 2, 0)
-    state(FRESH_WORDS[:21], 3, 0)
+    state(FRESH_WORDS[:25], 3, 0)
     state(FRESH_WORDS + [0], 3, 0)
     state(SHEET, 3, 0)
+    also("3: without return counts, also with Q = 3.")
+    state(FRESH_WORDS[:22], 3, 0)
+    state(AWAY.words()[:22], 3, 0)
     also("3: N = 2 one word over, N = 16 one word short.")
     state(State(TWO, 1).words() + [0], 3, 0)
-    state(State(SIXTEEN, 1).words()[:69], 3, 0)
+    state(State(SIXTEEN, 1).words()[:85], 3, 0)
     also("4: P = 0, R = 8,000,001. 5: l = 5 at module 4. 6: mark on 1.")
     state(put(FRESH_WORDS, {1: limit_p(0)}), 4, 1)
     state(put(FRESH_WORDS, {2: limit_r(8000001)}), 4, 2)
@@ -518,10 +553,47 @@ def states_with_wrong_rewards():
     state(put(FRESH_WORDS, {20: kind(reward(3, 0), 13)}), 8, 20)
 
 
+def states_with_wrong_returns():
+    note("8, return counts, Q = 3 and 2 out of the view (word 23): Q-1 is accepted; Q, Q+1 and all bits are not.")
+    state(AWAY.but(returns={2: 2}), 0, 0)
+    for count in (3, 4, 0xFFFFF):
+        state(AWAY.but(returns={2: count}), 8, 23)
+    also("8: a count of 1 for a module in the view: 1, 3, 4; the word of the count is named.")
+    for j in (1, 3, 4):
+        state(AWAY.but(returns={j: 1}), 8, 21 + j)
+    also("8: a count of 1 where Q is 0, out of the view and in it. Q = 1: a count of 1.")
+    state(State(SHEET, 1).but(view=0xD, penalty={2: 2}, returns={2: 1}), 8, 23)
+    state(FRESH.but(returns={1: 1}), 8, 22)
+    state(State(RETURN_ONE, 1).but(view=0xD, penalty={2: 2}), 0, 0)
+    state(State(RETURN_ONE, 1).but(view=0xD, penalty={2: 2}, returns={2: 1}), 8, 23)
+    also("Q = 1,000,000: 999,999 is accepted, 1,000,000 is not.")
+    late = State(RETURN_LATEST, 1).but(view=0xD, penalty={2: 1100000})
+    state(late.but(returns={2: 999999}), 0, 0)
+    state(late.but(returns={2: 1000000}), 8, 23)
+    also("8: spare bits 20, 21 and 22; number 0; 2 and 3 in the other order; kinds 14 and 0.")
+    for bit in (20, 21, 22):
+        state(put(AWAY.words(), {23: returns(2, 0) | 1 << bit}), 8, 23)
+    state(put(AWAY.words(), {22: returns(0, 0)}), 8, 22)
+    state(put(AWAY.words(), {23: returns(3, 0), 24: returns(2, 0)}), 8, 23)
+    state(put(AWAY.words(), {25: kind(returns(4, 0), 14)}), 8, 25)
+    state(put(AWAY.words(), {25: kind(returns(4, 0), 0)}), 8, 25)
+    also("8 at several words, the first counts: a reward, 21, and a count, 23; two counts, 22 and 23; a penalty's clash")
+    also("with the view, 15, and a count that is right only out of the view, 23.")
+    state(AWAY.but(reward={4: 1}, returns={2: 3}), 8, 21)
+    state(AWAY.but(returns={1: 1, 2: 3}), 8, 22)
+    state(AWAY.but(view=0xF, returns={2: 2}), 8, 15)
+    also("N = 16, Q = 2: word 85 is the last one. Out of the view 1 is accepted, 2 is not; in the view 1 is not.")
+    state(State(SIXTEEN_RETURN, 3).but(view=0x7FFF, penalty={16: 2}, returns={16: 1}), 0, 0)
+    state(State(SIXTEEN_RETURN, 3).but(view=0x7FFF, penalty={16: 2}, returns={16: 2}), 8, 85)
+    state(State(SIXTEEN_RETURN, 3).but(returns={16: 1}), 8, 85)
+
+
 def states_in_wrong_order():
-    note("8, groups of words in another order: own number after the previous read; rewards first.")
+    note("8, groups of words in another order: own number after the previous read; rewards before penalties;",
+         "return counts before rewards.")
     state(FRESH_WORDS[:7] + FRESH_WORDS[8:12] + FRESH_WORDS[7:8] + FRESH_WORDS[12:], 8, 7)
-    state(FRESH_WORDS[:14] + FRESH_WORDS[18:] + FRESH_WORDS[14:18], 8, 14)
+    state(FRESH_WORDS[:14] + FRESH_WORDS[18:22] + FRESH_WORDS[14:18] + FRESH_WORDS[22:], 8, 14)
+    state(FRESH_WORDS[:18] + FRESH_WORDS[22:] + FRESH_WORDS[18:22], 8, 18)
     also("8 at several words, the first counts: 18 and 17; 13 and the view's clash at 15; 14 and 16.")
     state(put(FRESH_WORDS, {17: penalty(4, 3), 18: reward(1, 3)}), 8, 17)
     state(put(FRESH.but(view=0xD).words(), {13: syndrome(0x10)}), 8, 13)
@@ -539,12 +611,15 @@ def openings():
     opened(SHEET, 4)
     opened(SIXTEEN, 16)
     opened(MARKED, 3)
+    also("With Q = 3 and 1,000,000: the head keeps it, return counts 0.")
+    opened(RETURN_THREE, 2)
+    opened(RETURN_LATEST, 4)
 
     note("7 at opening carries index 0: own 0, N+1, 31; 65,537 (1 in the low 16 bits); the highest.")
     for own in [0, 5, 31, 65537, 4294967295]:
-        open_refused(SHEET, own, 88, 7, 0)
+        open_refused(SHEET, own, 104, 7, 0)
     also("7: N = 16 with own 17.")
-    open_refused(SIXTEEN, 17, 280, 7, 0)
+    open_refused(SIXTEEN, 17, 344, 7, 0)
 
     note("Numbers 1 to 6 come before 7 and 9: own 0 and no output in each call.")
     open_refused(b"", 0, 0, 1, 0)
@@ -556,8 +631,8 @@ def openings():
     also("7 before 9.")
     open_refused(SHEET, 0, 0, 7, 0)
 
-    note("9: output empty, one word short, one byte over, one word over.")
-    for out in [0, 84, 89, 92]:
+    note("9: output empty, without room for the return counts, one word short, one byte over, one word over.")
+    for out in [0, 88, 100, 105, 108]:
         open_refused(SHEET, 1, out, 9, 0)
 
 
@@ -569,19 +644,20 @@ def savings():
     saved(State(TWO, 1))
     saved(MIDDLE)
     saved(State(SIXTEEN_MARKED, 16))
+    saved(AWAY.but(returns={2: 2}))
 
     note("Numbers 1 to 8 come before 9: no output in each call.")
     save_refused(raw(FRESH_WORDS)[:5], 0, 1, 0)
     save_refused(put(FRESH_WORDS, {0: head(1)}), 0, 2, 0)
-    save_refused(FRESH_WORDS[:21], 0, 3, 0)
+    save_refused(FRESH_WORDS[:25], 0, 3, 0)
     save_refused(put(FRESH_WORDS, {1: limit_r(1)}), 0, 4, 1)
     save_refused(put(FRESH_WORDS, {4: module(2, 4, crit=0)}), 0, 5, 4)
     save_refused(put(FRESH_WORDS, {4: module(2, 2, mark=1)}), 0, 6, 4)
     save_refused(put(FRESH_WORDS, {7: own_view(31, 0xF)}), 0, 7, 7)
     save_refused(put(FRESH_WORDS, {20: reward(3, 1)}), 0, 8, 20)
 
-    note("9: output empty, one word short, one byte over, one word over.")
-    for out in [0, 84, 89, 92]:
+    note("9: output empty, without room for the return counts, one word short, one byte over, one word over.")
+    for out in [0, 88, 100, 105, 108]:
         save_refused(FRESH, out, 9, 0)
 
 
@@ -602,18 +678,18 @@ def steps_refused():
 
     note("9, read: empty, one word short, one byte over, one word over.")
     for data in [b"", raw(read[:3]), raw(read) + b"\x50", raw(read + [bus(0xF)])]:
-        step_refused(FRESH, data, 0xF, 88, 9, 0)
-    also("9, output: empty, one word short, one byte over, one word over.")
-    for out in [0, 84, 89, 92]:
+        step_refused(FRESH, data, 0xF, 104, 9, 0)
+    also("9, output: empty, without room for the return counts, one word short, one byte over, one word over.")
+    for out in [0, 88, 100, 105, 108]:
         step_refused(FRESH, read, 0xF, out, 9, 0)
     also("9 before 10: read one word short, and a controller bit at N.")
-    step_refused(FRESH, read[:3], 0x1F, 88, 9, 0)
+    step_refused(FRESH, read[:3], 0x1F, 104, 9, 0)
 
     note("10: controller bit at N with N = 4, bit 31; N = 2 bit 2; N = 16 bit 16.")
-    step_refused(FRESH, read, 0x1F, 88, 10, 0)
-    step_refused(FRESH, read, 0x8000000F, 88, 10, 0)
-    step_refused(State(TWO, 1), buses(0x3, 0x3), 0x4, 56, 10, 0)
-    step_refused(State(SIXTEEN, 1), buses(*[0xFFFF] * 16), 0x1FFFF, 280, 10, 0)
+    step_refused(FRESH, read, 0x1F, 104, 10, 0)
+    step_refused(FRESH, read, 0x8000000F, 104, 10, 0)
+    step_refused(State(TWO, 1), buses(0x3, 0x3), 0x4, 64, 10, 0)
+    step_refused(State(SIXTEEN, 1), buses(*[0xFFFF] * 16), 0x1FFFF, 344, 10, 0)
 
 
 # Steps of the sheet's module 1. All l = N, so u = 0 and every row comes from this read.
@@ -720,6 +796,70 @@ def steps_of_the_counters():
     stepped(State(REWARD_ONE, 3).but(penalty={2: 1}), read, 0xF, 0xF, [0xF] * 4, 0xF, penalty={2: 0})
 
 
+def steps_of_returns():
+    seen, full_rows = buses(0xD, 0xD, 0xD, 0xD), [0xF] * 4
+    note("Q = 3, 2 is out of the view with penalty 2 and a reward. Health 1: count 1, count 2; at 3 it returns with penalty",
+         "P = 1, reward 0, count 0. Until then penalty and reward stay.")
+    one = stepped(AWAY, ALL_ONES, 0xF, 0xF, full_rows, 0xF, returns={2: 1})
+    two = stepped(one, ALL_ONES, 0xF, 0xF, full_rows, 0xF, returns={2: 2})
+    back = stepped(two, ALL_ONES, 0xF, 0xF, full_rows, 0xF, view=0xF, penalty={2: 1}, reward={2: 0}, returns={2: 0})
+    also("Back, the next round is bad: 2 leaves at once. The round in which it leaves does not count; the next good one does.")
+    left = stepped(back, seen, 0xF, 0xD, [0xD] * 4, 0xF, penalty={2: 2}, view=0xD)
+    stepped(left, ALL_ONES, 0xF, 0xF, full_rows, 0xF, returns={2: 1})
+    also("Back, good rounds: in the view nothing is counted; rewards 1 and 2, at R = 3 both counters 0.")
+    good = stepped(back, ALL_ONES, 0xF, 0xF, full_rows, 0xF, reward={2: 1})
+    good = stepped(good, ALL_ONES, 0xF, 0xF, full_rows, 0xF, reward={2: 2})
+    stepped(good, ALL_ONES, 0xF, 0xF, full_rows, 0xF, penalty={2: 0}, reward={2: 0})
+    also("A health 0 restarts the run, at count 1 and at count 2; then three more are needed.")
+    stepped(one, seen, 0xF, 0xD, [0xD] * 4, 0xF, returns={2: 0})
+    again = stepped(two, seen, 0xF, 0xD, [0xD] * 4, 0xF, returns={2: 0})
+    stepped(again, ALL_ONES, 0xF, 0xF, full_rows, 0xF, returns={2: 1})
+    also("Its word says nothing about it: 2 is lost in this round and the others call it good. It counts by its health.")
+    stepped(one, ALL_ONES, 0xD, 0xF, [0xF, None, 0xF, 0xF], 0xD, returns={2: 2})
+
+    note("The step in which 2 returns finds it outside: on 1 rows 3 and 4 vote 1 and 0, equal, 1; row 4 is accused, row 2 is",
+         "not. In the next step it votes: on 1 rows 2, 3, 4 vote 0, 1, 0. 1 is charged, row 3 accused; 2 has a good round.")
+    rows = [0xF, 0xE, 0xF, 0xE]
+    voting = stepped(two, buses(*rows), 0xF, 0xF, rows, 0x7, view=0xF, penalty={2: 1}, reward={2: 0}, returns={2: 0})
+    stepped(voting, buses(*rows), 0xF, 0xE, rows, 0xB, penalty={1: 1}, reward={2: 1})
+
+    note("2 itself, out of its own view, counts and returns as the others see it.")
+    own = AWAY.but(own=2, returns={2: 2})
+    stepped(own, ALL_ONES, 0xF, 0xF, full_rows, 0xF, view=0xF, penalty={2: 1}, reward={2: 0}, returns={2: 0})
+    stepped(own, seen, 0xF, 0xD, [0xD] * 4, 0xF, returns={2: 0})
+
+    note("Q = 1: one good round. Leaving, it is out after this step all the same.")
+    gone = stepped(State(RETURN_ONE, 1).but(penalty={2: 1}), seen, 0xF, 0xD, [0xD] * 4, 0xF, penalty={2: 2}, view=0xD)
+    stepped(gone, seen, 0xF, 0xD, [0xD] * 4, 0xF)
+    stepped(gone, ALL_ONES, 0xF, 0xF, full_rows, 0xF, view=0xF, penalty={2: 1})
+
+    note("Q = 1,000,000, P = 1,000,000: count 999,998 grows; from 999,999 it returns, penalty 1,100,000 becomes P.")
+    late = State(RETURN_LATEST, 3).but(view=0xD, penalty={2: 1100000})
+    stepped(late.but(returns={2: 999998}), ALL_ONES, 0xF, 0xF, full_rows, 0xF, returns={2: 999999})
+    stepped(late.but(returns={2: 999999}), ALL_ONES, 0xF, 0xF, full_rows, 0xF, view=0xF, penalty={2: 1000000},
+            returns={2: 0})
+    stepped(late.but(returns={2: 999999}), seen, 0xF, 0xD, [0xD] * 4, 0xF, returns={2: 0})
+
+    note("Q = 3, only 1 is in the view. The vote on 1 is empty: its latest syndrome, 1. Row 1, 1110, votes on the others:",
+         "2 counts 1, 3 had 2 and returns, 4 had 2 and begins anew.")
+    alone = State(RETURN_THREE, 1).but(view=0x1, penalty={2: 2, 3: 2, 4: 2}, returns={3: 2, 4: 2})
+    stepped(alone, buses(0x7, 0xF, 0xF, 0xF), 0xF, 0x7, [0x7, 0xF, 0xF, 0xF], 0xF,
+            view=0x5, penalty={3: 1}, returns={2: 1, 3: 0, 4: 0})
+    also("Nobody is in the view: every vote is empty, the latest syndrome 1100 decides. 1 and 2 return, 3 begins anew.")
+    nobody = State(RETURN_THREE, 1).but(view=0x0, latest=0x3, penalty={j: 2 for j in range(1, 5)},
+                                        returns={1: 2, 2: 2, 3: 1})
+    stepped(nobody, ALL_ONES, 0xF, 0x3, full_rows, 0xF, view=0x3, penalty={1: 1, 2: 1}, returns={1: 0, 2: 0, 3: 0})
+
+    note("u = 1, Q = 2, module 4 with l = 2: health is that of the round three before; 2 returns after two good ones.")
+    first = stepped(State(MARKED_RETURN, 4).but(view=0xD, penalty={2: 2}), ALL_ONES, 0xF, 0xF, full_rows, 0xF,
+                    returns={2: 1})
+    stepped(first, ALL_ONES, 0xF, 0xF, full_rows, 0xF, view=0xF, penalty={2: 1}, returns={2: 0})
+    note("N = 16, Q = 2: 16 returns, 15 leaves in the same step and does not count.")
+    lack = 0xBFFF
+    stepped(State(SIXTEEN_RETURN, 2).but(view=0x7FFF, penalty={15: 1, 16: 2}, returns={16: 1}), buses(*[lack] * 16), 0xFFFF,
+            lack, [lack] * 16, 0xFFFF, view=0xBFFF, penalty={15: 2, 16: 1}, returns={16: 0})
+
+
 def steps_of_other_n():
     note("N = 3: votes 0, 1 on 1 are equal and give 1 (row 1, which lacks 1, is not counted). Row 2 is",
          "accused at 1. Nobody charged. Then votes 0, 0 on 1: health 011, 1 is charged.")
@@ -803,14 +943,14 @@ def page_openings():
     page_opened(SIXTEEN_MARKED, 16, page_words(0xFFFF, 0xFFFF))
     note("9: a page of 0, 60, 63, 65 and 68 bytes; an output of another length; both.")
     for length in (0, 60, 63, 65, 68):
-        page_open_refused(SHEET, 1, 88, length, 9, 0)
-    page_open_refused(SHEET, 1, 87, 64, 9, 0)
+        page_open_refused(SHEET, 1, 104, length, 9, 0)
+    page_open_refused(SHEET, 1, 103, 64, 9, 0)
     page_open_refused(SHEET, 1, 0, 4, 9, 0)
     also("1, 4, 6 and 7 before 9.")
-    page_open_refused(b"", 1, 88, 63, 1, 0)
-    page_open_refused(put(SHEET, {1: limit_p(0)}), 1, 88, 63, 4, 1)
-    page_open_refused(put(SHEET, {3: module(1, 0, 1, 1)}), 1, 88, 0, 6, 3)
-    page_open_refused(SHEET, 5, 88, 65, 7, 0)
+    page_open_refused(b"", 1, 104, 63, 1, 0)
+    page_open_refused(put(SHEET, {1: limit_p(0)}), 1, 104, 63, 4, 1)
+    page_open_refused(put(SHEET, {3: module(1, 0, 1, 1)}), 1, 104, 0, 6, 3)
+    page_open_refused(SHEET, 5, 104, 65, 7, 0)
 
 
 def page_steps():
@@ -831,6 +971,23 @@ def page_steps():
     page_stepped(out, clear, clear, seen, 0xF, 0xD, [0xD] * 4, 0xF)
     also("Health 1 again: word 0 follows, no flag.")
     page_stepped(out, clear, page_words(0xF, 0xD, 0, 3), ALL_ONES, 0xF, 0xF, [0xF] * 4, 0xF)
+
+
+def page_steps_of_returns():
+    seen, full_rows = buses(0xD, 0xD, 0xD, 0xD), [0xF] * 4
+    note("Q = 3, 2 counts: the view stays, no flag. It returns: the view changed, nobody is charged.")
+    out, back = page_words(0xF, 0xD, 0, 3), page_words(0xF, 0xF, 1, 3)
+    two = page_stepped(AWAY.but(returns={2: 1}), out, out, ALL_ONES, 0xF, 0xF, full_rows, 0xF, returns={2: 2})
+    after = page_stepped(two, out, back, ALL_ONES, 0xF, 0xF, full_rows, 0xF, view=0xF, penalty={2: 1}, reward={2: 0},
+                         returns={2: 0})
+    also("The next round is bad: charged, and the view changed again. While it is outside a bad round charges nobody.")
+    left = page_stepped(after, page_words(0xF, 0xF, 0, 3), page_words(0xD, 0xD, 3, 3), seen, 0xF, 0xD, [0xD] * 4, 0xF,
+                        penalty={2: 2}, view=0xD)
+    page_stepped(left, out, page_words(0xD, 0xD, 0, 3), seen, 0xF, 0xD, [0xD] * 4, 0xF)
+    also("3 leaves and 2 returns in one step: one view follows the other, both flags.")
+    rows = [0xB] * 4
+    page_stepped(AWAY.but(penalty={3: 1}, returns={2: 2}), out, page_words(0xB, 0xB, 3, 3), buses(*rows), 0xF, 0xB, rows,
+                 0xF, view=0xB, penalty={2: 1, 3: 2}, reward={2: 0}, returns={2: 0})
 
 
 def page_steps_on_any_page():
@@ -900,17 +1057,17 @@ def page_steps_with_causes():
 def page_steps_refused():
     note("9: a page of 0, 60, 63, 65 and 68 bytes; a read or an output of another length; all of them.")
     for length in (0, 60, 63, 65, 68):
-        page_step_refused(SHEET_1, ALL_ONES, 0xF, 88, (raw(ANY_PAGE) + bytes(4))[:length], 9, 0)
-    page_step_refused(SHEET_1, ALL_ONES[:3], 0xF, 88, ANY_PAGE, 9, 0)
-    page_step_refused(SHEET_1, ALL_ONES, 0xF, 84, ANY_PAGE, 9, 0)
-    page_step_refused(SHEET_1, ALL_ONES[:3], 0x10, 84, raw(ANY_PAGE)[:63], 9, 0)
+        page_step_refused(SHEET_1, ALL_ONES, 0xF, 104, (raw(ANY_PAGE) + bytes(4))[:length], 9, 0)
+    page_step_refused(SHEET_1, ALL_ONES[:3], 0xF, 104, ANY_PAGE, 9, 0)
+    page_step_refused(SHEET_1, ALL_ONES, 0xF, 100, ANY_PAGE, 9, 0)
+    page_step_refused(SHEET_1, ALL_ONES[:3], 0x10, 100, raw(ANY_PAGE)[:63], 9, 0)
     also("1, 2, 3 and 8 before 9; 9 for the page before 10; 10 with a page of 64 bytes.")
-    page_step_refused(b"", ALL_ONES, 0xF, 88, raw(ANY_PAGE)[:63], 1, 0)
-    page_step_refused(put(SHEET_1.words(), {0: head(17)}), ALL_ONES, 0xF, 88, raw(ANY_PAGE)[:63], 2, 0)
-    page_step_refused(SHEET_1.words()[:-1], ALL_ONES, 0xF, 88, b"", 3, 0)
-    page_step_refused(SHEET_1.but(penalty={1: 2}), ALL_ONES, 0xF, 88, b"", 8, 14)
-    page_step_refused(SHEET_1, ALL_ONES, 0x10, 88, raw(ANY_PAGE)[:60], 9, 0)
-    page_step_refused(SHEET_1, ALL_ONES, 0x10, 88, ANY_PAGE, 10, 0)
+    page_step_refused(b"", ALL_ONES, 0xF, 104, raw(ANY_PAGE)[:63], 1, 0)
+    page_step_refused(put(SHEET_1.words(), {0: head(17)}), ALL_ONES, 0xF, 104, raw(ANY_PAGE)[:63], 2, 0)
+    page_step_refused(SHEET_1.words()[:-1], ALL_ONES, 0xF, 104, b"", 3, 0)
+    page_step_refused(SHEET_1.but(penalty={1: 2}), ALL_ONES, 0xF, 104, b"", 8, 14)
+    page_step_refused(SHEET_1, ALL_ONES, 0x10, 104, raw(ANY_PAGE)[:60], 9, 0)
+    page_step_refused(SHEET_1, ALL_ONES, 0x10, 104, ANY_PAGE, 10, 0)
 
 
 def page_reads():
@@ -1002,7 +1159,7 @@ def causes_told():
         cause_refused(16, bit, bus(0), 10)
 
 
-print("# Calls and their answers after document 01 and E1, E4 and E5 of document 02, in the format of e05-calls.txt;")
+print("# Calls and their answers after document 01 and E1, E4, E5 and E6 of document 02, in the format of e06-calls.txt;")
 print("# a cause that is refused is written cause CTLBIT WORD N = refused NUMBER at INDEX.")
 print("# A number before a colon or a comma at the start of a comment is the answer's number.")
 print("# Vectors in the comments are as printed: module 1 stands leftmost.")
@@ -1021,6 +1178,7 @@ states_with_wrong_previous_read()
 states_with_wrong_syndromes()
 states_with_wrong_penalties()
 states_with_wrong_rewards()
+states_with_wrong_returns()
 states_in_wrong_order()
 openings()
 savings()
@@ -1030,10 +1188,12 @@ steps_of_accused()
 steps_of_empty_votes()
 steps_of_other_votes()
 steps_of_the_counters()
+steps_of_returns()
 steps_of_other_n()
 steps_with_u_1()
 page_openings()
 page_steps()
+page_steps_of_returns()
 page_steps_on_any_page()
 page_steps_with_causes()
 page_steps_refused()

@@ -5,8 +5,8 @@
 
 PLAYER is the harness's own player.  Three kinds of cases:
 
-  refused   number and index are written here after document 01
-  by_hand   every line is written here after document 01
+  refused   number and index are written here after documents 01 and 02
+  by_hand   every line is written here after documents 01 and 02
   played    the lines are the player's; the last field of each round may be written here
 
 The player must print what is written here, or nothing is written to the folder.
@@ -71,12 +71,12 @@ def raw(words):
 # ---- setups ----
 
 
-def setup_words(n, p=1, r=3, l=None, crit=None, marks=()):
+def setup_words(n, p=1, r=3, q=0, l=None, crit=None, marks=()):
     """l and crit: one a module; the default is l = N and criticality 1."""
     l = l or [n] * n
     crit = crit or [1] * n
     modules = [module(j, l[j - 1], crit[j - 1], int(j in marks)) for j in range(1, n + 1)]
-    return [head(n), limit_p(p), limit_r(r)] + modules
+    return [head(n, q), limit_p(p), limit_r(r)] + modules
 
 
 def late(n, **fields):
@@ -158,8 +158,10 @@ def heads():
     rest = SHEET[1:] + TAIL
     for n in (0, 1, 17, 31):
         refused("n-%d" % n, [head(n)] + rest, 2, 0, "N is 2 to 16")
-    for bit in range(5, 28):
+    for bit in (5, 6, 7):
         refused("spare-bit-%d" % bit, [head(4) | 1 << bit] + rest, 2, 0, "a head with a spare bit")
+    for bit in range(8, 28):
+        played("q-%d" % (1 << bit - 8), [head(4, 1 << bit - 8)] + rest, "bit %d is the only one of Q" % bit, limit="in")
     for kind in (0, 2, 5, 6, 9, 15):
         refused("kind-%d" % kind, [kind << 28 | 4] + rest, 2, 0, "first word no head")
     refused("one-word", [0], 2, 0, "2 before 3: one word, and it is no head")
@@ -742,6 +744,74 @@ def back_in():
                "out in round 2, nothing happens afterwards", limit=" ".join(["in"] + ["out"] * 9))
 
 
+# ---- cards that come back (document 02, E6) ----
+
+
+def return_limits():
+    rest = SHEET[1:] + TAIL
+    for bit in (5, 6, 7):
+        refused("q-and-spare-bit-%d" % bit, [head(4, 3) | 1 << bit] + rest, 2, 0, "a head with Q = 3 and a spare bit")
+    for q in (1000001, 31 << 15, 0xFFFFF):
+        refused("q-%d" % q, [head(4, q)] + rest, 2, 0, "Q is 0 to 1,000,000")
+    refused("q-before-3", [head(4, 1000001), limit_p(0)], 2, 0, "too few words and P = 0 too")
+    played("q-1000000", [head(4, 1000000)] + rest, "Q at its end", limit="in")
+    played("q-1000000-n16", [head(16, 1000000)] + SIXTEEN[1:] + TAIL, "N and Q at their ends", limit="in")
+
+
+def lost_by(n, sender, *rounds):
+    """Rounds of a play of 1, in which the sender is unheard by all or not."""
+    return by_round(*[[loss(sender, full(n))] if lost else [] for lost in rounds])
+
+
+def returning_runs():
+    """2 is unheard in rounds 1 and 2, judged in 2 and 3, and leaves in 3; from 4 on its health is 1."""
+    def four(q, **fields):
+        return setup_words(4, q=q, **fields) + [cast()]
+
+    away = [GOOD, "1011 1111 in", "1011 1011 in"]
+    good, bad = "1111 1011 in", "1011 1011 in"
+    by_hand("return-q0", four(0) + lost_by(4, 2, 1, 1) + [play(8)], away + [good] * 7, "Q = 0: never")
+    by_hand("return-q1", four(1) + lost_by(4, 2, 1, 1) + [play(3)], away + [GOOD] * 2, "Q = 1: one good round, round 4")
+    by_hand("return-q3", four(3) + lost_by(4, 2, 1, 1) + [play(6)], away + [good] * 2 + [GOOD] * 3,
+            "Q = 3: good in rounds 4, 5 and 6, back in 6")
+    by_hand("return-q4", four(4) + lost_by(4, 2, 1, 1) + [play(6)], away + [good] * 3 + [GOOD] * 2,
+            "Q = 4: good in rounds 4 to 7, back in 7")
+    by_hand("return-restarted", four(3) + lost_by(4, 2, 1, 1, 0, 0, 1) + [play(5)],
+            away + [good] * 2 + [bad] + [good] * 2 + [GOOD] * 2,
+            "good in 4 and 5, bad in 6, which begins the run anew: good in 7, 8, 9, back in 9")
+    by_hand("return-restarted-at-once", four(2) + lost_by(4, 2, 1, 1, 1, 0, 1) + [play(4)],
+            away + [bad, good, bad, good, GOOD, GOOD], "still bad in 4, good in 5, bad in 6, good in 7 and 8, back in 8")
+    by_hand("return-out-again", four(3) + lost_by(4, 2, 1, 1, 0, 0, 0, 1) + [play(5)],
+            away + [good] * 2 + [GOOD, bad] + [good] * 2 + [GOOD] * 2,
+            "back in 6 with penalty P; bad in 7: out at once; good in 8, 9, 10, back in 10")
+    by_hand("return-not-cleared", four(3) + lost_by(4, 2, 1, 1, 0, 0, 0, 0, 0, 1) + [play(2)],
+            away + [good] * 2 + [GOOD] * 3 + [bad, good], "back in 6, good in 7 and 8: R = 3 is not reached, bad in 9: out")
+    by_hand("return-cleared", four(3) + lost_by(4, 2, 1, 1, 0, 0, 0, 0, 0, 0, 1) + [play(3)],
+            away + [good] * 2 + [GOOD] * 4 + ["1011 1111 in", GOOD, GOOD],
+            "back in 6, good in 7, 8 and 9: both counters 0; bad in 10: one charge, it stays")
+    by_hand("return-criticality", four(1, p=3, crit=[1, 4, 1, 1]) + lost_by(4, 2, 1, 0, 1) + [play(3)],
+            [GOOD, "1011 1011 in", GOOD, "1011 1011 in", GOOD, GOOD],
+            "criticality 4 above P = 3: out in 2, back in 3 with penalty 3, out in 4, back in 5")
+    by_hand("return-n2-q100", setup_words(2, q=100) + [cast()] + lost_by(2, 2, 1, 1) + [play(102)],
+            ["11 11 in", "10 11 in", "10 10 in"] + ["11 10 in"] * 99 + ["11 11 in"] * 2,
+            "Q = 100: good in rounds 4 to 103, back in 103")
+    by_hand("return-u1", late(4, q=2) + [cast()] + lost_by(4, 2, 1, 1) + [play(6)],
+            [GOOD] * 3 + ["1011 1111 in", "1011 1011 in", "1111 1011 in", GOOD, GOOD],
+            "u = 1: judged in 4 and 5, out in 5; rounds 3 and 4, good, are judged in 6 and 7, back in 7")
+    by_hand("return-u1-marks", setup_words(4, q=1, l=[0, 0, 1, 2], marks=[2, 3, 4]) + [cast()] + lost_by(4, 2, 1, 1) + [play(5)],
+            [GOOD] * 3 + ["1011 1111 in", "1011 1011 in", GOOD, GOOD], "with marks, Q = 1: back in 6")
+    everybody = [loss(j, ALL) for j in (1, 2, 3, 4)]
+    by_hand("return-all", four(2) + by_round(everybody, everybody) + [play(5)],
+            [GOOD, "0000 1111 in", "0000 0000 in", "1111 0000 in", GOOD, GOOD, GOOD],
+            "all leave in 3. Nobody votes in 4 and 5: their own syndromes, all ones; all return in 5")
+    by_hand("return-votes-again", four(1) + lost_by(4, 2, 1, 1) + [play(2), loss(1, of(2, 3)), play(4)],
+            away + [GOOD, GOOD, "0111 1111 in", "1110 1111 in", GOOD],
+            "back in 4; in round 5 2 and 3 miss 1: a = 1, four in the view, in. In 6 rows 2, 3, 4 vote 0, 0, 1 on 1: 0; row 4 is accused")
+    by_hand("return-votes-from-the-next-step", four(1) + lost_by(4, 2, 1, 1) + [loss(1, of(2, 3)), play(4)],
+            away[:2] + ["1011 1011 out", "1111 1111 out", "1101 1111 out", "1111 1111 out"],
+            "in round 3 2 and 3 miss 1: a = 1, b = 1, 4 > 4 fails. Step 4, in which 2 returns, finds it outside: rows 3 and 4 vote 0 and 1 on 1: 1; row 3 is accused")
+
+
 def write(player):
     folder = os.path.join(os.path.dirname(os.path.abspath(__file__)), "own-scripts")
     names = ["%03d-%s" % (at + 1, each[0]) for at, each in enumerate(CASES)]
@@ -788,7 +858,7 @@ def main():
     for part in (lengths, heads, short, limits, modules, marks, casts, kinds, senders_and_masks, plays, outside_the_cast, missing,
                  many_rounds, two_numbers, quiet_runs, event_runs, told_runs, counter_runs, differing_runs, late_runs, limit_edges,
                  limit_over_two_rounds, limit_of_unheard_breakers, limit_by_receivers, limit_of_told_words, replaced_runs, every_n,
-                 marked_runs, leaving_runs, back_in):
+                 marked_runs, leaving_runs, back_in, return_limits, returning_runs):
         part()
     write(sys.argv[1])
 

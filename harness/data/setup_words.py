@@ -1,8 +1,8 @@
 """Words of a setup and of the bus, built from named fields: for the two scripts that write cases."""
 
 
-def head(n):
-    return 1 << 28 | n
+def head(n, q=0):
+    return 1 << 28 | q << 8 | n
 
 
 def limit_p(value):

@@ -1,15 +1,25 @@
 /*
  * driver.c - makes steps for callgrind to count.
  *
- *   driver N U quiet|loud|late ROUNDS
+ *   driver N U quiet|loud|late|away|back ROUNDS
  *
- * Prints a checksum over the final image and all health vectors, and how many
- * rows of the table are present and different after alignment.
+ * Prints a checksum over the final image and all health vectors, how many rows
+ * of the table are present and different after alignment, and how often modules
+ * left the view and returned.
  */
 #include <stdio.h>
 
 #include "rounds.h"
 #include "which.h"
+
+static uint32_t ones(uint32_t vector)
+{
+    uint32_t count = 0;
+
+    for (; vector != 0; vector &= vector - 1)
+        count++;
+    return count;
+}
 
 int main(int argc, char **argv)
 {
@@ -17,35 +27,42 @@ int main(int argc, char **argv)
     static uint8_t image[2][PRESENCE_MAX_IMAGE_BYTES];
     presence_answer a;
     uint32_t k, rounds, now = 0, sum = 2166136261u, healths = 0;
+    uint32_t view, before, left = 0, returned = 0;
     size_t len, i;
 
     if (argc != 5 || !rounds_from(&r, argv + 1)) {
-        fprintf(stderr, "driver N U quiet|loud|late ROUNDS\n");
+        fprintf(stderr, "driver N U quiet|loud|late|away|back ROUNDS\n");
         return 2;
     }
     rounds = (uint32_t)atoi(argv[4]);
     len = PRESENCE_IMAGE_BYTES(r.n);
     a = OPEN(r.setup, PRESENCE_SETUP_BYTES(r.n), r.own, image[0], len);
-    /* late: some rounds with nobody heard first, so that all have a penalty */
-    for (k = 0; a.number == 0 && r.kind == LATE && k < 4; k++) {
-        a = STEP(image[now], len, r.read[0], 4 * r.n, 0, image[1 - now], len);
-        now = 1 - now;
-    }
+    rounds_begin(&r, image[0]);
+    before = PRESENCE_VIEW(image[0], r.n);
     for (k = 0; a.number == 0 && k < rounds; k++) {
         a = STEP(image[now], len, r.read[k % PERIOD], 4 * r.n,
                  r.controller[k % PERIOD], image[1 - now], len);
         healths = healths * 31 + a.health;
         now = 1 - now;
+        view = PRESENCE_VIEW(image[now], r.n);
+        left += ones(before & ~view);
+        returned += ones(view & ~before);
+        before = view;
     }
     if (a.number != 0) {
         fprintf(stderr, "refused %u at %u\n", (unsigned)a.number,
                 (unsigned)a.index);
         return 1;
     }
+    if ((returned > 0) != (r.kind == BACK)) {
+        fprintf(stderr, "%u returns\n", (unsigned)returned);
+        return 1;
+    }
     for (i = 0; i < len; i++)
         sum = (sum ^ image[now][i]) * 16777619u;
-    printf("image %08X health %08X rows %u present %u different %u\n",
-           (unsigned)sum, (unsigned)healths, (unsigned)r.rows,
-           (unsigned)r.present, (unsigned)r.different);
+    printf("image %08X health %08X rows %u present %u different %u left %u "
+           "returned %u\n", (unsigned)sum, (unsigned)healths,
+           (unsigned)r.rows, (unsigned)r.present, (unsigned)r.different,
+           (unsigned)left, (unsigned)returned);
     return 0;
 }

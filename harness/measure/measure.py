@@ -41,7 +41,7 @@ GCC = ["gcc", "-std=c99", "-O2", "-Wall", "-Wextra", "-Werror", "-Wl,--gc-sectio
        "-I" + ROOT + "/include", "-I" + ROOT + "/harness/c", "-I" + HERE]
 STACK = ["stack/stack.c", "stack/given.c", "stack/calls.c", "stack/painted.c"]
 ADDRESS_BYTES = 8  # of a return address
-KINDS = ["quiet", "loud", "late"]
+KINDS = ["quiet", "loud", "late", "away", "back"]
 FEW, MANY = 64, 320  # rounds, multiples of PERIOD in rounds.h
 
 

@@ -8,9 +8,16 @@
  *           words is lost or of a stray form
  *   late    all heard; every row but two differs from the health vector, at
  *           position N or N-1 only, so that a search for the lowest
- *           difference is longest; the health vector is all ones
+ *           difference is longest; the health vector is all ones; all have
+ *           a penalty
+ *   away    all heard, all rows ones; all modules are outside the view and
+ *           count their good rounds, Q = 1,000,000
+ *   back    all heard; in every fourth round the rows lack all modules but 1,
+ *           which then leave the view, count, and return in the round before
+ *           the next of them, Q = 3
  *
- * P = 1,000,000 and criticality 1: no module leaves the view.
+ * P = 1,000,000 and criticality 1 in the first three: no module leaves the
+ * view.  P = 1 in the others.
  */
 #ifndef ROUNDS_H
 #define ROUNDS_H
@@ -23,7 +30,9 @@
 #define PERIOD 16u
 #define TRIES 40
 
-enum rounds_kind { QUIET, LOUD, LATE };
+#define BAD_EVERY 4u /* back: how often rows lack the others */
+
+enum rounds_kind { QUIET, LOUD, LATE, AWAY, BACK };
 
 struct rounds {
     uint32_t n, u, own, place;
@@ -114,14 +123,16 @@ static void rounds_loud(struct rounds *r, uint32_t t)
     }
 }
 
-/* P = 1,000,000; R is highest for late rounds, so that no penalty is cleared. */
+/* R is highest where no penalty is to be cleared. */
 static void rounds_setup(struct rounds *r)
 {
-    uint32_t j;
+    uint32_t j, q = r->kind == AWAY ? 1000000u
+                    : r->kind == BACK ? BAD_EVERY - 1u : 0u;
 
-    rounds_put(r->setup, 0, 0x10000000 | r->n);
-    rounds_put(r->setup, 1, 0x20000000 | 1000000);
-    rounds_put(r->setup, 2, 0x30000000 | (r->kind == LATE ? 8000000u : 3u));
+    rounds_put(r->setup, 0, 0x10000000 | q << 8 | r->n);
+    rounds_put(r->setup, 1, 0x20000000 | (q == 0 ? 1000000u : 1u));
+    rounds_put(r->setup, 2,
+               0x30000000 | (r->kind == LATE || q != 0 ? 8000000u : 3u));
     for (j = 1; j <= r->n; j++)
         rounds_put(r->setup, 2 + j,
                    0x40000000 | j << 23 |
@@ -129,7 +140,15 @@ static void rounds_setup(struct rounds *r)
                    r->place << 17 | 1);
 }
 
-/* All heard with all ones; for late rounds bit N or bit N-1 is 0. */
+/* Whether row j, as the step after its alignment has it, lacks all modules but
+   1: with u = 1 the rows of the first modules are a read older. */
+static int rounds_bad(const struct rounds *r, uint32_t t, uint32_t j)
+{
+    return (t + (r->u == 1 && j < r->place)) % BAD_EVERY == 0;
+}
+
+/* All heard with all ones; for late rounds bit N or bit N-1 is 0, for those of
+   modules that come back at times all but bit 1. */
 static void rounds_all_heard(struct rounds *r)
 {
     uint32_t n = r->n, all = (1u << n) - 1, t, j;
@@ -141,6 +160,8 @@ static void rounds_all_heard(struct rounds *r)
             if (r->kind == LATE)
                 r->word[t][j] &= j == n - 1 || (j != n - 2 && j % 2 == 0)
                                      ? ~(1u << (n - 1)) : ~(1u << (n - 2));
+            if (r->kind == BACK && rounds_bad(r, t, j))
+                r->word[t][j] = 0x50000001;
         }
     }
 }
@@ -199,14 +220,29 @@ static void rounds_make(struct rounds *r, uint32_t n, uint32_t u,
     rounds_reads(r);
 }
 
+/* The opened image as the rounds begin with it: late, all have a penalty; away,
+   nobody is in the view. */
+static void rounds_begin(const struct rounds *r, uint8_t *image)
+{
+    uint32_t n = r->n, j, penalty = r->kind == LATE ? 1u : 2u;
+
+    if (r->kind != LATE && r->kind != AWAY)
+        return;
+    for (j = 1; j <= n; j++)
+        rounds_put(image, 2 * n + 5 + j, 0xD0000000 | j << 23 | penalty);
+    if (r->kind == AWAY)
+        rounds_put(image, n + 3, 0xA0000000 | r->own << 16);
+}
+
 /* Arguments N, u, kind.  Returns 0 if they are wrong. */
 static int rounds_from(struct rounds *r, char **argument)
 {
-    static const char *const names[] = {"quiet", "loud", "late"};
+    static const char *const names[] = {"quiet", "loud", "late", "away",
+                                        "back"};
     uint32_t n = (uint32_t)atoi(argument[0]), u = (uint32_t)atoi(argument[1]);
     int k;
 
-    for (k = 0; k < 3; k++)
+    for (k = 0; k < 5; k++)
         if (n >= 2 && n <= PRESENCE_MAX_MODULES && u <= 1 &&
             strcmp(argument[2], names[k]) == 0) {
             rounds_make(r, n, u, (enum rounds_kind)k);

@@ -27,7 +27,7 @@ fn with(words: &[u32], at: usize, word: u32) -> Vec<u32> {
     words
 }
 
-/// The saved state of module 2 of the sheet, freshly opened: 22 words.
+/// The saved state of module 2 of the sheet, freshly opened: 26 words.
 fn image() -> Vec<u32> {
     let setup = setup(&SHEET);
     image_words(&setup, &fresh(&setup, 2))
@@ -35,7 +35,7 @@ fn image() -> Vec<u32> {
 
 /// The answer of saving; the output is of right length and must stay as given if refused.
 fn saved(words: &[u32]) -> Answer {
-    let mut out = vec![0xAA; 88];
+    let mut out = vec![0xAA; 104];
     let answer = Model.save(&bytes_of(words), &mut out);
     if answer.number == 0 {
         assert_eq!(out, bytes_of(words));
@@ -74,7 +74,15 @@ fn number_1() {
 fn number_2() {
     assert_eq!(checked(&with(&SHEET, 0, 0x10000011)), answer(2, 0));
     assert_eq!(checked(&with(&SHEET, 0, 0x10000001)), answer(2, 0));
-    assert_eq!(checked(&with(&SHEET, 0, 0x10000024)), answer(2, 0));
+    // Spare bits 5, 6 and 7. Above them Q: 1 and 1,000,000 are accepted, one more is not.
+    for spare in [5, 6, 7] {
+        assert_eq!(checked(&with(&SHEET, 0, 0x10000004 | 1 << spare)), answer(2, 0));
+    }
+    assert_eq!(checked(&with(&SHEET, 0, 0x10000104)), answer(0, 0));
+    assert_eq!(checked(&with(&SHEET, 0, 0x10000004 | 1_000_000 << 8)), answer(0, 0));
+    assert_eq!(checked(&with(&SHEET, 0, 0x10000004 | 1_000_001 << 8)), answer(2, 0));
+    assert_eq!(checked(&with(&SHEET, 0, 0x1FFFFF04)), answer(2, 0));
+    assert_eq!(saved(&with(&image(), 0, 0x10000004 | 1_000_001 << 8)), answer(2, 0));
     assert_eq!(run_both(&script(&with(&SHEET, 0, 0x10000011), &[NO_CAST, play(1)])), "refused 2 at 0\n");
 }
 
@@ -82,7 +90,7 @@ fn number_2() {
 fn number_3() {
     assert_eq!(checked(&SHEET[..6]), answer(3, 0));
     assert_eq!(checked(&[&SHEET[..], &[0x42880001]].concat()), answer(3, 0));
-    assert_eq!(saved(&image()[..21]), answer(3, 0));
+    assert_eq!(saved(&image()[..25]), answer(3, 0));
     assert_eq!(run_both(&bytes_of(&SHEET[..6])), "refused 3 at 0\n");
 }
 
@@ -121,7 +129,7 @@ fn number_6() {
 
 #[test]
 fn number_7() {
-    let mut out = vec![0xAA; 88];
+    let mut out = vec![0xAA; 104];
     for own in [0, 5, 16, 17, 32 + 1, 256 + 1, u32::MAX] {
         assert_eq!(Model.open(&bytes_of(&SHEET), own, &mut out), answer(7, 0));
     }
@@ -169,26 +177,57 @@ fn number_8() {
     assert_eq!(saved(&with(&with(&out_of_view, 15, 0xD1000002), 19, 0xE1000002)), answer(0, 0));
 }
 
+/// Words 22..25: return counts (document 02, E6).
+#[test]
+fn number_8_of_return_counts() {
+    // Module 2 is out of the view; Q = 3.
+    let out_of_view = with(&with(&image(), 7, 0xA002000D), 15, 0xD1000002);
+    let three = with(&out_of_view, 0, 0x10000304);
+    assert_eq!(saved(&three), answer(0, 0));
+    assert_eq!(saved(&with(&three, 23, 0xF1000002)), answer(0, 0));
+    assert_eq!(saved(&with(&three, 23, 0xF1000003)), answer(8, 23));
+    assert_eq!(saved(&with(&three, 23, 0xF10FFFFF)), answer(8, 23));
+    // Over 0 for a module in the view, though below Q; the clash lies at the kind 15 word.
+    assert_eq!(saved(&with(&three, 22, 0xF0800001)), answer(8, 22));
+    assert_eq!(saved(&with(&three, 25, 0xF2000002)), answer(8, 25));
+    // Over 0 where Q is 0.
+    assert_eq!(saved(&with(&out_of_view, 23, 0xF1000001)), answer(8, 23));
+    assert_eq!(saved(&out_of_view), answer(0, 0));
+    // Q = 1: only 0. The highest: Q = 1,000,000 and 999,999.
+    assert_eq!(saved(&with(&with(&out_of_view, 0, 0x10000104), 23, 0xF1000001)), answer(8, 23));
+    let most = with(&out_of_view, 0, 0x10000004 | 1_000_000 << 8);
+    assert_eq!(saved(&with(&most, 23, 0xF1000000 | 999_999)), answer(0, 0));
+    assert_eq!(saved(&with(&most, 23, 0xF1000000 | 1_000_000)), answer(8, 23));
+    // Spare bits, out of turn, another kind.
+    for spare in [20, 21, 22] {
+        assert_eq!(saved(&with(&three, 23, 0xF1000000 | 1 << spare)), answer(8, 23));
+    }
+    assert_eq!(saved(&with(&three, 23, 0xF1800000)), answer(8, 23));
+    assert_eq!(saved(&with(&three, 23, 0xE1000000)), answer(8, 23));
+    // The first word that is wrong: a reward before a count.
+    assert_eq!(saved(&with(&with(&three, 23, 0xF1000003), 21, 0xE2000001)), answer(8, 21));
+}
+
 #[test]
 fn number_9() {
-    assert_eq!(stepped(&image(), &full_read(3), 15, 88), answer(9, 0));
-    assert_eq!(stepped(&image(), &full_read(5), 15, 88), answer(9, 0));
-    assert_eq!(stepped(&image(), &full_read(4)[..15], 15, 88), answer(9, 0));
-    for out_len in [0, 84, 87, 89, 92] {
+    assert_eq!(stepped(&image(), &full_read(3), 15, 104), answer(9, 0));
+    assert_eq!(stepped(&image(), &full_read(5), 15, 104), answer(9, 0));
+    assert_eq!(stepped(&image(), &full_read(4)[..15], 15, 104), answer(9, 0));
+    for out_len in [0, 100, 103, 105, 108] {
         assert_eq!(stepped(&image(), &full_read(4), 15, out_len), answer(9, 0));
         assert_eq!(Model.save(&bytes_of(&image()), &mut vec![0; out_len]), answer(9, 0));
         assert_eq!(Model.open(&bytes_of(&SHEET), 1, &mut vec![0; out_len]), answer(9, 0));
     }
     // 9 before 10, 8 before 9.
-    assert_eq!(stepped(&image(), &full_read(3), 16, 88), answer(9, 0));
+    assert_eq!(stepped(&image(), &full_read(3), 16, 104), answer(9, 0));
     assert_eq!(stepped(&with(&image(), 9, 0), &full_read(3), 16, 0), answer(8, 9));
 }
 
 #[test]
 fn number_10() {
-    assert_eq!(stepped(&image(), &full_read(4), 1 << 4, 88), answer(10, 0));
-    assert_eq!(stepped(&image(), &full_read(4), 1 << 31 | 15, 88), answer(10, 0));
-    assert_eq!(stepped(&image(), &full_read(4), 15, 88), Answer { number: 0, index: 0, health: 15 });
+    assert_eq!(stepped(&image(), &full_read(4), 1 << 4, 104), answer(10, 0));
+    assert_eq!(stepped(&image(), &full_read(4), 1 << 31 | 15, 104), answer(10, 0));
+    assert_eq!(stepped(&image(), &full_read(4), 15, 104), Answer { number: 0, index: 0, health: 15 });
 }
 
 /// None known: the word handed out always passes its test, from any accepted state.
@@ -254,12 +293,13 @@ fn number_16() {
 
 #[test]
 fn opening_writes_the_fresh_image() {
-    let mut out = vec![0xAA; 88];
+    let mut out = vec![0xAA; 104];
     assert_eq!(Model.open(&bytes_of(&SHEET), 2, &mut out), answer(0, 0));
     let words = [
         &SHEET[..],
         &[0xA002000F, 0xB0C0000F, 0xB140000F, 0xB1C0000F, 0xB240000F, 0xC000000F, 0xC000000F],
         &[0xD0800000, 0xD1000000, 0xD1800000, 0xD2000000, 0xE0800000, 0xE1000000, 0xE1800000, 0xE2000000],
+        &[0xF0800000, 0xF1000000, 0xF1800000, 0xF2000000],
     ];
     assert_eq!(out, bytes_of(&words.concat()));
 }

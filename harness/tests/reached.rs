@@ -1,8 +1,14 @@
 //! What the random scripts of the gate reach, by the model.
 
+use harness::model::setup::Setup;
+use harness::model::state::{fresh, State};
+use harness::model::step::step;
 use harness::model::words::has;
 use harness::random::reached::Reached;
+use harness::random::reads::read;
 use harness::random::scripts::{careful_script, long_runs, script_bytes, WAYS};
+use harness::random::setups::{lively_setup, setup};
+use harness::random::states::state;
 use harness::random::Random;
 use harness::script::check;
 use harness::script::print::{play_rounds, run};
@@ -52,6 +58,81 @@ fn careful_scripts() {
         .unwrap();
     }
     assert!(just > 100 && passed > 10 && cleared > 100 && left > 100, "{just} {passed} {cleared} {left}");
+}
+
+/// What steps reach of modules outside the view (document 02, E6).
+#[derive(Debug, Default)]
+struct Returns {
+    /// Health 1 where Q is 0.
+    never: u32,
+    /// Counts that grew and stay below Q.
+    counted: u32,
+    /// Counts over 0 that a health 0 made 0.
+    restarted: u32,
+    returned: u32,
+    /// Of those the ones with Q = 1.
+    returned_at_once: u32,
+    /// Of those the ones with Q over 1,000.
+    returned_late: u32,
+    /// Of those the ones that had a reward from before they left.
+    with_reward: u32,
+    /// Returned modules that left in the step after.
+    left_again: u32,
+}
+
+impl Returns {
+    /// Counts a step from `before`; `returned` are those that returned in the step before it.
+    fn add(&mut self, setup: &Setup, before: &State, health: u32, after: &State, returned: u32) {
+        let q = setup.return_limit;
+        for j in 1..=setup.n {
+            let (count, healthy) = (before.returns[j - 1], has(health, j));
+            if has(before.view, j) {
+                self.left_again += u32::from(has(returned, j) && !has(after.view, j));
+            } else if has(after.view, j) {
+                self.returned += 1;
+                self.returned_at_once += u32::from(q == 1);
+                self.returned_late += u32::from(q > 1_000);
+                self.with_reward += u32::from(before.reward[j - 1] > 0);
+            } else {
+                self.never += u32::from(q == 0 && healthy);
+                self.counted += u32::from(after.returns[j - 1] > 0);
+                self.restarted += u32::from(count > 0 && !healthy);
+            }
+        }
+    }
+}
+
+/// Lives and single steps as `differential` makes them.
+#[test]
+fn random_steps_count_and_return() {
+    let mut random = Random::new(6);
+    let mut lives = Returns::default();
+    let mut single = Returns::default();
+    for _ in 0..600 {
+        let setup = if random.chance(1, 2) { lively_setup(&mut random) } else { setup(&mut random) };
+        let mut held = fresh(&setup, 1);
+        let mut returned = 0;
+        for _ in 0..30 {
+            let before = held;
+            let (words, controller) = read(&mut random, &setup, &held);
+            let health = step(&setup, &mut held, &words, controller).unwrap().health;
+            lives.add(&setup, &before, health, &held, returned);
+            returned = held.view & !before.view;
+        }
+        for _ in 0..10 {
+            let before = state(&mut random, &setup);
+            let (words, controller) = read(&mut random, &setup, &before);
+            let mut after = before;
+            let health = step(&setup, &mut after, &words, controller).unwrap().health;
+            single.add(&setup, &before, health, &after, 0);
+        }
+    }
+    let Returns { never, counted, restarted, returned, returned_at_once, left_again, .. } = lives;
+    let least = [never, counted, restarted, returned, returned_at_once, left_again].into_iter().min().unwrap();
+    assert!(least > 100, "{lives:?}");
+    let Returns { never, counted, restarted, returned, returned_at_once, returned_late, with_reward, .. } = single;
+    let least = [never, counted, restarted, returned, returned_at_once, returned_late, with_reward].into_iter().min().unwrap();
+    assert!(least > 100, "{single:?}");
 }
 
 #[test]

@@ -1,7 +1,7 @@
 //! Demand 3 and lemma 3 on random runs of the model.
 
 use harness::model::words::{has, only};
-use harness::random::scripts::{careful_script, script};
+use harness::random::scripts::{careful_script, returning_script, script};
 use harness::random::Random;
 use harness::script::backplane::Backplane;
 use harness::script::limit::Hearing;
@@ -11,6 +11,8 @@ use harness::script::print::play_rounds;
 struct Round {
     kept_so_far: bool,
     hearing: Hearing,
+    /// The view of the first rule-follower.
+    view: u32,
 }
 
 const NOTHING: Hearing = Hearing { half_heard: 0, unheard: 0 };
@@ -25,14 +27,18 @@ fn hearing(rounds: &[Round], round: i64) -> Hearing {
 }
 
 /// How often demand 3 had something to say.
-#[derive(Default)]
+#[derive(Debug, Default)]
 struct Due {
     rounds: u32,
     with_faults: u32,
     unheard: u32,
+    /// Rounds in which a module outside the view counted.
+    counted: u32,
+    /// Rounds after which a module was back in the view.
+    returned: u32,
 }
 
-/// All followers have the same health vector, counters and view.
+/// All followers have the same health vector, counters, return counts and view.
 fn followers_agree(backplane: &Backplane, followers: &[usize]) {
     let first = followers[0] - 1;
     for &i in followers {
@@ -40,6 +46,7 @@ fn followers_agree(backplane: &Backplane, followers: &[usize]) {
         assert_eq!(backplane.outcomes[i - 1].health, backplane.outcomes[first].health);
         assert_eq!(state.penalty, backplane.states[first].penalty);
         assert_eq!(state.reward, backplane.states[first].reward);
+        assert_eq!(state.returns, backplane.states[first].returns);
         assert_eq!(state.view, backplane.states[first].view);
     }
 }
@@ -76,6 +83,8 @@ fn demand_3_in_round(backplane: &Backplane, followers: &[usize], rounds: &[Round
         due.with_faults += 1;
     }
     followers_agree(backplane, followers);
+    due.counted += u32::from(backplane.states[followers[0] - 1].returns.iter().any(|&count| count > 0));
+    due.returned += u32::from(k > 1 && rounds[k - 1].view & !rounds[k - 2].view != 0);
     for &i in followers {
         let health = backplane.outcomes[i - 1].health;
         due.unheard += health_is_right(backplane.setup.n, health, followers, judged, earlier);
@@ -87,17 +96,23 @@ fn demand_3() {
     let mut random = Random::new(3);
     let mut due = Due::default();
     for at in 0..3_000 {
-        let script = if at % 2 == 0 { script(&mut random) } else { careful_script(&mut random) };
+        let script = match at % 3 {
+            0 => script(&mut random),
+            1 => careful_script(&mut random),
+            _ => returning_script(&mut random),
+        };
         let followers: Vec<usize> = (1..=script.setup.n).filter(|&j| !has(script.cast, j)).collect();
         let mut rounds: Vec<Round> = Vec::new();
         play_rounds(&script, |backplane| {
-            rounds.push(Round { kept_so_far: backplane.kept_so_far, hearing: backplane.hearings[0] });
+            let view = followers.first().map_or(0, |&i| backplane.states[i - 1].view);
+            rounds.push(Round { kept_so_far: backplane.kept_so_far, hearing: backplane.hearings[0], view });
             demand_3_in_round(backplane, &followers, &rounds, &mut due);
             Ok(())
         })
         .unwrap();
     }
-    assert!(due.rounds > 5_000 && due.with_faults > 1_000 && due.unheard > 1_000);
+    assert!(due.rounds > 5_000 && due.with_faults > 1_000 && due.unheard > 1_000, "{due:?}");
+    assert!(due.counted > 1_000 && due.returned > 100, "{due:?}");
 }
 
 /// All words on the bus in round k hold round k-1's syndromes; only told words differ.

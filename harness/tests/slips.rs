@@ -1,4 +1,4 @@
-//! "Slips a bench run won't show": each case has another answer under the slip.
+//! "Slips a bench run won't show" of document 01, and slips in the return of a module (document 02, E6): each case has another answer under the slip.
 
 mod common;
 
@@ -110,4 +110,87 @@ fn a_marked_module_is_delayed_once() {
         let image = bytes_of(&image_words(&setup, &state));
         assert_eq!(Model.outgoing(&image).word, wanted);
     }
+}
+
+/// Module 1 of the sheet with this return limit; 2 is outside the view, and its run is `count` rounds long.
+fn with_2_outside(return_limit: u32, count: u32) -> (Setup, State) {
+    let setup = Setup { return_limit, ..setup(&SHEET) };
+    let mut state = State { view: 0b1101, ..fresh(&setup, 1) };
+    (state.penalty[1], state.returns[1]) = (2, count);
+    (setup, state)
+}
+
+/// Document 02, E6: penalty, reward and return count of 2, and the view.
+fn of_2(state: &State) -> (u32, u32, u32, u32) {
+    (state.penalty[1], state.reward[1], state.returns[1], state.view)
+}
+
+/// Rows that call 2 good, and rows that call it bad.
+const GOOD: [u32; 4] = [0x5000000F; 4];
+const BAD: [u32; 4] = [0x5000000D; 4];
+
+#[test]
+fn a_module_returns_at_q_rounds() {
+    for q in [1, 2, 7, 1_000_000] {
+        let (setup, state) = with_2_outside(q, q - 1);
+        let (_, state) = stepped(&setup, state, &GOOD, 15);
+        assert_eq!(of_2(&state), (1, 0, 0, 0b1111));
+    }
+    for (q, count) in [(2, 0), (7, 5), (1_000_000, 999_998)] {
+        let (setup, state) = with_2_outside(q, count);
+        let (_, state) = stepped(&setup, state, &GOOD, 15);
+        assert_eq!(of_2(&state), (2, 0, count + 1, 0b1101));
+    }
+}
+
+#[test]
+fn a_health_0_restarts_the_run() {
+    let (setup, state) = with_2_outside(3, 2);
+    let (_, state) = stepped(&setup, state, &BAD, 15);
+    assert_eq!(of_2(&state), (2, 0, 0, 0b1101));
+    let (_, state) = stepped(&setup, state, &GOOD, 15);
+    assert_eq!(of_2(&state), (2, 0, 1, 0b1101));
+}
+
+#[test]
+fn a_module_returns_with_penalty_p() {
+    // So that its next bad round is enough.
+    let (setup, state) = with_2_outside(1, 0);
+    let (_, state) = stepped(&setup, state, &GOOD, 15);
+    assert_eq!(of_2(&state), (1, 0, 0, 0b1111));
+    let (_, state) = stepped(&setup, state, &BAD, 15);
+    assert_eq!(of_2(&state), (2, 0, 0, 0b1101));
+    // And with reward 0, whatever it had when it left.
+    let (setup, mut state) = with_2_outside(1, 0);
+    state.reward[1] = 2;
+    let (_, state) = stepped(&setup, state, &GOOD, 15);
+    assert_eq!(of_2(&state), (1, 0, 0, 0b1111));
+}
+
+#[test]
+fn a_module_in_the_view_counts_no_run() {
+    let setup = Setup { return_limit: 3, ..setup(&SHEET) };
+    let (_, state) = stepped(&setup, fresh(&setup, 1), &GOOD, 15);
+    assert_eq!(state.returns, [0; MAX]);
+    // Nor does the round in which it leaves: two good ones more make no run of three.
+    let mut state = fresh(&setup, 1);
+    state.penalty[1] = 1;
+    for wanted in [(2, 0, 0, 0b1101), (2, 0, 1, 0b1101), (2, 0, 2, 0b1101)] {
+        let rows = if wanted.2 == 0 { BAD } else { GOOD };
+        state = stepped(&setup, state, &rows, 15).1;
+        assert_eq!(of_2(&state), wanted);
+    }
+}
+
+#[test]
+fn the_count_does_not_outlast_the_return() {
+    let (setup, state) = with_2_outside(3, 2);
+    let (_, state) = stepped(&setup, state, &GOOD, 15);
+    assert_eq!(of_2(&state), (1, 0, 0, 0b1111));
+    // The image is accepted, and after leaving again the run begins at 0.
+    let image = bytes_of(&image_words(&setup, &state));
+    assert_eq!(Model.outgoing(&image).number, 0);
+    let (_, state) = stepped(&setup, state, &BAD, 15);
+    let (_, state) = stepped(&setup, state, &GOOD, 15);
+    assert_eq!(of_2(&state), (2, 0, 1, 0b1101));
 }

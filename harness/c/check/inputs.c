@@ -13,7 +13,7 @@ void make_setup(uint8_t *setup, uint32_t n, uint32_t p, uint32_t r,
 {
     uint32_t j;
 
-    put(setup, 0, 0x10000000 | n);
+    put(setup, 0, head_word(n, 0));
     put(setup, 1, 0x20000000 | p);
     put(setup, 2, 0x30000000 | r);
     for (j = 1; j <= n; j++)
@@ -25,12 +25,28 @@ void usual_setup(uint8_t *setup, uint32_t n)
     make_setup(setup, n, 5, 3, 1);
 }
 
+static uint32_t random_return_limit(void)
+{
+    switch (below(8)) {
+    case 0:
+    case 1:
+        return 0;
+    case 2:
+        return 1000000 - below(2);
+    case 3:
+        return 1 + below(40);
+    default:
+        return 1 + below(4);
+    }
+}
+
 void random_setup(uint8_t *setup, uint32_t n, uint32_t u, uint32_t p,
                   uint32_t r)
 {
     uint32_t j, l, mark, criticality, some = 0;
 
     make_setup(setup, n, p, r, 1);
+    put(setup, 0, head_word(n, random_return_limit()));
     for (j = 1; j <= n; j++) {
         l = u == 0 ? n : below(n + 1);
         if (j == n && u == 1 && !some)
@@ -104,6 +120,7 @@ void fresh_image(uint8_t *image, const uint8_t *setup, uint32_t n,
         put(image, previous_at(n, j), previous_word(j, 1, ones(n)));
         put(image, penalty_at(n, j), penalty_word(j, 0));
         put(image, reward_at(n, j), reward_word(j, 0));
+        put(image, returns_at(n, j), returns_word(j, 0));
     }
     put(image, latest_at(n), 0xC0000000 | ones(n));
     put(image, before_at(n), 0xC0000000 | ones(n));

@@ -4,14 +4,15 @@
 
 #include <stdint.h>
 
-/* Setup with all l = N, no marks. */
+/* Setup with all l = N, no marks, Q = 0. */
 void make_setup(uint8_t *setup, uint32_t n, uint32_t p, uint32_t r,
                 uint32_t criticality);
 
 /* The same with P = 5, R = 3, criticality 1. */
 void usual_setup(uint8_t *setup, uint32_t n);
 
-/* Any accepted setup with these limits; with u = 0 all l are N. */
+/* Any accepted setup with these limits; with u = 0 all l are N.  Q is 0 in a
+   quarter of them, else mostly low. */
 void random_setup(uint8_t *setup, uint32_t n, uint32_t u, uint32_t p,
                   uint32_t r);
 

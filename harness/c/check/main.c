@@ -28,6 +28,7 @@ static void (*const groups[])(void) = {
     group_image_lengths,
     group_steps_refused,
     group_starred,
+    group_returns,
     group_lives,
     group_nothing_kept,
     group_addresses,

@@ -54,6 +54,21 @@ uint32_t reward_at(uint32_t n, uint32_t j)
     return 3 * n + 5 + j;
 }
 
+uint32_t returns_at(uint32_t n, uint32_t j)
+{
+    return 4 * n + 5 + j;
+}
+
+uint32_t image_words(uint32_t n)
+{
+    return 5 * n + 6;
+}
+
+uint32_t head_word(uint32_t n, uint32_t q)
+{
+    return 0x10000000 | q << 8 | n;
+}
+
 uint32_t module_word(uint32_t j, uint32_t mark, uint32_t l,
                      uint32_t criticality)
 {
@@ -78,4 +93,9 @@ uint32_t penalty_word(uint32_t j, uint32_t penalty)
 uint32_t reward_word(uint32_t j, uint32_t reward)
 {
     return 0xE0000000 | j << 23 | reward;
+}
+
+uint32_t returns_word(uint32_t j, uint32_t count)
+{
+    return 0xF0000000 | j << 23 | count;
 }

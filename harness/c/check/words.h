@@ -21,13 +21,19 @@ uint32_t latest_at(uint32_t n);
 uint32_t before_at(uint32_t n);
 uint32_t penalty_at(uint32_t n, uint32_t j);
 uint32_t reward_at(uint32_t n, uint32_t j);
+uint32_t returns_at(uint32_t n, uint32_t j);
 
-/* Words by what they hold; l is the read place. */
+/* How many words an image has. */
+uint32_t image_words(uint32_t n);
+
+/* Words by what they hold; l is the read place, q the return limit. */
+uint32_t head_word(uint32_t n, uint32_t q);
 uint32_t module_word(uint32_t j, uint32_t mark, uint32_t l,
                      uint32_t criticality);
 uint32_t own_word(uint32_t own, uint32_t view);
 uint32_t previous_word(uint32_t j, uint32_t heard, uint32_t row);
 uint32_t penalty_word(uint32_t j, uint32_t penalty);
 uint32_t reward_word(uint32_t j, uint32_t reward);
+uint32_t returns_word(uint32_t j, uint32_t count);
 
 #endif

@@ -37,8 +37,11 @@ int give_opened(char **argument)
     given.value = PRESENCE_PAGE_CHARGED;
     given.bit = 1;
     given.word = 0x50000001;
-    return OPEN(given.setup.bytes, given.setup.len, given.own,
-                given.image.bytes, given.image.len).number == 0;
+    if (OPEN(given.setup.bytes, given.setup.len, given.own,
+             given.image.bytes, given.image.len).number != 0)
+        return 0;
+    rounds_begin(&r, given.image.bytes);
+    return 1;
 }
 
 void give_round(uint32_t k)

@@ -14,8 +14,12 @@ pub struct Module {
 #[derive(Clone, Copy, PartialEq, Eq, Debug)]
 pub struct Setup {
     pub n: usize,
+    /// P.
     pub penalty_limit: u32,
+    /// R.
     pub reward_limit: u32,
+    /// Q, 0 for never (document 02, E6).
+    pub return_limit: u32,
     /// Module j stands at j-1.
     pub modules: [Module; MAX],
 }
@@ -42,7 +46,7 @@ impl Setup {
 
     pub fn words(&self) -> Vec<u32> {
         let mut words = vec![
-            Head { n: self.n as u32 }.word(),
+            Head { return_limit: self.return_limit, n: self.n as u32 }.word(),
             Amount { kind: 2, value: self.penalty_limit }.word(),
             Amount { kind: 3, value: self.reward_limit }.word(),
         ];
@@ -71,10 +75,10 @@ pub enum Holds {
 /// Numbers 1 to 6. The answer is the setup and all words of the bytes.
 pub fn read_setup(bytes: &[u8], holds: Holds) -> Result<(Setup, Vec<u32>), Refusal> {
     let words = words_of(bytes).filter(|words| !words.is_empty()).ok_or(refusal(1, 0))?;
-    let n = read_head(words[0]).ok_or(refusal(2, 0))?;
+    let (n, return_limit) = read_head(words[0]).ok_or(refusal(2, 0))?;
     let length_right = match holds {
         Holds::Setup => words.len() == n + 3,
-        Holds::State => words.len() == 4 * n + 6,
+        Holds::State => words.len() == 5 * n + 6,
         Holds::Run => words.len() >= n + 3,
     };
     if !length_right {
@@ -93,12 +97,14 @@ pub fn read_setup(bytes: &[u8], holds: Holds) -> Result<(Setup, Vec<u32>), Refus
             return Err(refusal(6, j + 2));
         }
     }
-    Ok((Setup { n, penalty_limit, reward_limit, modules }, words))
+    Ok((Setup { n, penalty_limit, reward_limit, return_limit, modules }, words))
 }
 
-fn read_head(word: u32) -> Option<usize> {
+/// N and the return limit.
+fn read_head(word: u32) -> Option<(usize, u32)> {
     let head = Head::split(word)?;
-    (2..=16).contains(&head.n).then_some(head.n as usize)
+    let right = (2..=16).contains(&head.n) && head.return_limit <= 1_000_000;
+    right.then_some((head.n as usize, head.return_limit))
 }
 
 fn read_limit(kind: u32, word: u32, most: u32) -> Option<u32> {

@@ -1,7 +1,7 @@
-//! A module's state and its saved image. Numbers 7 and 8.
+//! A module's state and its saved image, with the return counts of document 02, E6. Numbers 7 and 8.
 
 use super::setup::{read_setup, Holds, Setup};
-use super::words::{bits, full, has, kind, OwnWord, PenaltyWord, PreviousRead, RewardWord, Vector, MAX};
+use super::words::{bits, full, has, kind, OwnWord, PenaltyWord, PreviousRead, ReturnWord, RewardWord, Vector, MAX};
 use super::{refusal, Refusal};
 
 /// One sender in a read: heard with a row, or missing with row 0.
@@ -23,6 +23,8 @@ pub struct State {
     pub before: u32,
     pub penalty: [u32; MAX],
     pub reward: [u32; MAX],
+    /// For a module outside the view how many rounds running its health was 1.
+    pub returns: [u32; MAX],
 }
 
 /// A fresh module: all-ones syndromes and rows, all heard, zero counters, full view.
@@ -32,7 +34,8 @@ pub fn fresh(setup: &Setup, own: usize) -> State {
     for j in 1..=setup.n {
         previous[j - 1] = Entry { heard: true, row: ones };
     }
-    State { own, view: ones, previous, latest: ones, before: ones, penalty: [0; MAX], reward: [0; MAX] }
+    let zeros = [0; MAX];
+    State { own, view: ones, previous, latest: ones, before: ones, penalty: zeros, reward: zeros, returns: zeros }
 }
 
 /// Rule 7 read from the image: the syndrome that the step which made this state handed out.
@@ -44,10 +47,10 @@ pub fn handed_out(setup: &Setup, state: &State) -> u32 {
 
 /// Words of a saved state.
 pub fn image_length(n: usize) -> usize {
-    4 * n + 6
+    5 * n + 6
 }
 
-/// The setup, one 10, N of 11, the latest and the one before as two 12, N of 13, N of 14.
+/// The setup, one 10, N of 11, the latest and the one before as two 12, N of 13, N of 14, N of 15.
 pub fn image_words(setup: &Setup, state: &State) -> Vec<u32> {
     let n = setup.n;
     let mut words = setup.words();
@@ -64,6 +67,9 @@ pub fn image_words(setup: &Setup, state: &State) -> Vec<u32> {
     for j in 1..=n {
         words.push(RewardWord { module: j as u32, reward: state.reward[j - 1] }.word());
     }
+    for j in 1..=n {
+        words.push(ReturnWord { module: j as u32, count: state.returns[j - 1] }.word());
+    }
     words
 }
 
@@ -77,7 +83,8 @@ pub fn read_image(bytes: &[u8]) -> Result<(Setup, State), Refusal> {
     let before = read_syndrome(&words, 2 * n + 5, n)?;
     let penalty = read_each(&words, 2 * n + 6, n, |word, j| read_penalty(word, j, &setup, has(view, j)))?;
     let reward = read_each(&words, 3 * n + 6, n, |word, j| read_reward(word, j, &setup, penalty[j - 1]))?;
-    Ok((setup, State { own, view, previous, latest, before, penalty, reward }))
+    let returns = read_each(&words, 4 * n + 6, n, |word, j| read_returns(word, j, &setup, has(view, j)))?;
+    Ok((setup, State { own, view, previous, latest, before, penalty, reward, returns }))
 }
 
 /// Own number and view. 7 is tested only where the word is kind 10, and before 8.
@@ -138,4 +145,11 @@ fn read_reward(word: u32, j: usize, setup: &Setup, penalty: u32) -> Option<u32> 
         && reward.reward < setup.reward_limit
         && (reward.reward == 0 || penalty > 0);
     right.then_some(reward.reward)
+}
+
+/// A return count is below Q, and 0 for a module in the view or where Q is 0.
+fn read_returns(word: u32, j: usize, setup: &Setup, in_view: bool) -> Option<u32> {
+    let returns = ReturnWord::split(word)?;
+    let in_range = returns.count == 0 || (!in_view && returns.count < setup.return_limit);
+    (returns.module as usize == j && in_range).then_some(returns.count)
 }

@@ -1,4 +1,5 @@
-//! One step of one module, rules 1 to 9, and why a word was not heard (document 02, E5). Numbers 10 and 11.
+//! One step of one module: rules 1 to 9, struck-off modules, why a word was not heard, and modules that come back (document 02, E4, E5, E6).
+//! Numbers 10 and 11.
 
 use super::setup::Setup;
 use super::state::{Entry, State};
@@ -165,11 +166,8 @@ fn outgoing_word(n: usize, send_mark: bool, latest: u32, syndrome: u32) -> Resul
     Ok(word)
 }
 
-/// Rule 8 for one module.
-fn count(setup: &Setup, state: &mut State, j: usize, healthy: bool) {
-    if !has(state.view, j) {
-        return;
-    }
+/// Rule 8 for one module that it finds in the view.
+fn count_present(setup: &Setup, state: &mut State, j: usize, healthy: bool) {
     let penalty = &mut state.penalty[j - 1];
     let reward = &mut state.reward[j - 1];
     if !healthy {
@@ -184,6 +182,21 @@ fn count(setup: &Setup, state: &mut State, j: usize, healthy: bool) {
             *penalty = 0;
             *reward = 0;
         }
+    }
+}
+
+/// Document 02, E6, for one module that rule 8 finds outside the view: with health 1 for Q rounds running it returns.
+fn count_absent(setup: &Setup, state: &mut State, j: usize, healthy: bool) {
+    if !healthy || setup.return_limit == 0 {
+        state.returns[j - 1] = 0;
+        return;
+    }
+    state.returns[j - 1] += 1;
+    if state.returns[j - 1] == setup.return_limit {
+        state.view |= only(j);
+        state.penalty[j - 1] = setup.penalty_limit;
+        state.reward[j - 1] = 0;
+        state.returns[j - 1] = 0;
     }
 }
 
@@ -213,8 +226,9 @@ pub fn step(setup: &Setup, state: &mut State, read: &[u32], controller: u32) -> 
     // Rules 7 and 9 come before 8: a refusal leaves the counters.
     let word = outgoing_word(n, own.send_mark, state.latest, syndrome)?;
 
-    // Rule 8.
+    // Rule 8, on the view that it finds.
     for j in 1..=n {
+        let count = if has(state.view, j) { count_present } else { count_absent };
         count(setup, state, j, has(health, j));
     }
     state.previous = this;

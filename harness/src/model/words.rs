@@ -1,4 +1,4 @@
-//! The words of document 01, one struct for each kind.
+//! The words of document 01 and of document 02, E6, one struct for each kind.
 //!
 //! `split` answers the fields of a word, or `None` if its kind is another one or a bit that
 //! belongs to no field is set. It does so by writing the fields back and comparing. Ranges of
@@ -52,18 +52,19 @@ pub fn bytes_of(words: &[u32]) -> Vec<u8> {
     bytes
 }
 
-/// Kind 1.
+/// Kind 1; bits 27..8 are the return limit (document 02, E6).
 pub struct Head {
+    pub return_limit: u32,
     pub n: u32,
 }
 
 impl Head {
     pub fn split(word: u32) -> Option<Head> {
-        let head = Head { n: bits(word, 4, 0) };
+        let head = Head { return_limit: bits(word, 27, 8), n: bits(word, 4, 0) };
         (head.word() == word).then_some(head)
     }
     pub fn word(&self) -> u32 {
-        1 << 28 | self.n
+        1 << 28 | self.return_limit << 8 | self.n
     }
 }
 
@@ -205,5 +206,21 @@ impl RewardWord {
     }
     pub fn word(&self) -> u32 {
         14 << 28 | self.module << 23 | self.reward
+    }
+}
+
+/// Kind 15 (document 02, E6).
+pub struct ReturnWord {
+    pub module: u32,
+    pub count: u32,
+}
+
+impl ReturnWord {
+    pub fn split(word: u32) -> Option<ReturnWord> {
+        let count = ReturnWord { module: bits(word, 27, 23), count: bits(word, 19, 0) };
+        (count.word() == word).then_some(count)
+    }
+    pub fn word(&self) -> u32 {
+        15 << 28 | self.module << 23 | self.count
     }
 }

@@ -89,7 +89,7 @@ fn spoil_field(random: &mut Random, words: &mut [u32], at: usize) {
     let word = words[at];
     let bit_at_n = 1 << (n + random.below(2) as u32);
     words[at] = match kind(word) {
-        1 => 1 << 28 | random.pick(&[0, 1, 2, 15, 16, 17, 31, 32 | n]),
+        1 => spoil_head(random, word, n),
         2 => 2 << 28 | random.pick(&[0, 1, 999_999, 1_000_000, 1_000_001, 0x0FFF_FFFF]),
         3 => 3 << 28 | random.pick(&[0, 1, 7_999_999, 8_000_000, 8_000_001, 0x0FFF_FFFF]),
         4 => spoil_module(random, word, n),
@@ -106,8 +106,19 @@ fn spoil_field(random: &mut Random, words: &mut [u32], at: usize) {
             spoil_penalty(random, word, n, amount(words, 1), criticality)
         }
         14 => spoil_reward(random, word, n, amount(words, 2)),
+        15 => spoil_returns(random, word, n, words[0] >> 8 & 0xF_FFFF),
         _ => word ^ 1 << random.below(32),
     };
+}
+
+/// Kind 1: N, the return limit, a spare bit.
+fn spoil_head(random: &mut Random, word: u32, n: u32) -> u32 {
+    match random.below(4) {
+        0 => field(word, 4, 0, random.pick(&[0, 1, 2, 15, 16, 17, 31])),
+        1 => field(word, 27, 8, random.pick(&[0, 1, 999_999, 1_000_000, 1_000_001, 0xF_FFFF])),
+        2 => word | 1 << random.between(5, 7),
+        _ => 1 << 28 | n,
+    }
 }
 
 /// Kind 4.
@@ -173,6 +184,17 @@ fn spoil_reward(random: &mut Random, word: u32, n: u32, reward_limit: u32) -> u3
         0 => with_other_number(random, word, n),
         1 => field(word, 22, 0, 1),
         _ => field(word, 22, 0, random.pick(&near)),
+    }
+}
+
+/// Kind 15; return counts are below Q, and 0 in the view or where Q is 0.
+fn spoil_returns(random: &mut Random, word: u32, n: u32, return_limit: u32) -> u32 {
+    let near = [return_limit, return_limit.wrapping_sub(1), return_limit + 1, 0xF_FFFF];
+    match random.below(4) {
+        0 => with_other_number(random, word, n),
+        1 => field(word, 19, 0, random.below(2) as u32),
+        2 => word | 1 << random.between(20, 22),
+        _ => field(word, 19, 0, random.pick(&near)),
     }
 }
 

@@ -1,12 +1,13 @@
 //! What scripts have in them and what comes of them, by name: to see what random scripts reach.
 
+use crate::model::setup::Setup;
 use crate::model::step::heard_word;
 use crate::model::words::{full, kind, words_of, MAX};
 use crate::script::check::{check, Item, Script, MOST_BYTES, MOST_ROUNDS};
-use std::collections::BTreeMap;
+use std::collections::{BTreeMap, BTreeSet};
 
 /// Every name, in the order of a report.
-const NAMES: [(&str, &[&str]); 10] = [
+const NAMES: [(&str, &[&str]); 11] = [
     ("refused", &["1", "2", "3", "4", "5", "6", "12", "13", "14", "15", "16"]),
     ("14 for want of", &["cast", "told word", "play of events", "any play"]),
     ("played", &["N 2", "N 3", "N 4", "N 5", "N 6", "N 7", "N 8", "N 9", "N 10", "N 11", "N 12", "N 13"]),
@@ -20,6 +21,10 @@ const NAMES: [(&str, &[&str]); 10] = [
         &["in, no event", "in, losses", "in, lies", "in, all are cast", "in then out", "out from round 1"],
     ),
     ("view", &["all stay", "some leave", "modules differ"]),
+    (
+        "return",
+        &["Q 0, good but out", "Q 1", "Q 2 and above", "run restarted", "out again at once", "cleared", "run unfinished"],
+    ),
 ];
 
 /// How many scripts had each name.
@@ -88,6 +93,7 @@ impl Reached {
         self.count_events(script);
         self.count("limit", limit_name(script, output));
         self.count_views(script.setup.n, output);
+        self.count_returns(script, output);
     }
 
     /// The setup and the cast.
@@ -132,6 +138,58 @@ impl Reached {
         let differ = views.chunks(n).any(|round| round.iter().any(|view| *view != round[0]));
         self.count_if(differ, "view", "modules differ");
     }
+
+    /// What the first module prints of each module, round after round.
+    fn count_returns(&mut self, script: &Script, output: &str) {
+        let first: Vec<&str> = output.lines().step_by(script.setup.n).collect();
+        let mut names = BTreeSet::new();
+        for j in 0..script.setup.n {
+            let bits: Vec<(bool, bool)> = first.iter().map(|line| health_and_view(line, j)).collect();
+            names.extend(returns_of(&script.setup, &bits));
+        }
+        for name in names {
+            self.count("return", name);
+        }
+    }
+}
+
+/// The bits of module j + 1 in the third and fourth field of a line.
+fn health_and_view(line: &str, j: usize) -> (bool, bool) {
+    let mut fields = line.split(' ').skip(2).map(|field| field.as_bytes()[j] == b'1');
+    (fields.next().expect("a line has a health vector"), fields.next().expect("a line has a view"))
+}
+
+/// How a module came back or did not, by its bits of health and view after each round.
+fn returns_of(setup: &Setup, bits: &[(bool, bool)]) -> Vec<&'static str> {
+    let mut names = Vec::new();
+    let mut run = 0;
+    // Rounds in the view since it returned.
+    let mut back: Option<u32> = None;
+    let mut present = true;
+    for &(healthy, in_view) in bits {
+        match (present, in_view) {
+            (false, false) if healthy => run += 1,
+            (false, false) => {
+                names.extend((run > 0 && setup.return_limit > 0).then_some("run restarted"));
+                run = 0;
+            }
+            (false, true) => {
+                names.push(if setup.return_limit == 1 { "Q 1" } else { "Q 2 and above" });
+                (back, run) = (Some(0), 0);
+            }
+            (true, false) => {
+                names.extend((back == Some(0)).then_some("out again at once"));
+                back = None;
+            }
+            (true, true) => {
+                back = back.map(|rounds| rounds + 1);
+                names.extend((back == Some(setup.reward_limit)).then_some("cleared"));
+            }
+        }
+        present = in_view;
+    }
+    names.extend((run > 0).then_some(if setup.return_limit == 0 { "Q 0, good but out" } else { "run unfinished" }));
+    names
 }
 
 /// Whether the run keeps within the fault limit, and with what. A run that has left it stays out.

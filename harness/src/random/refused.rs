@@ -147,11 +147,13 @@ fn wrong_module(random: &mut Random, words: &mut Vec<u32>) {
     words[j as usize + 2] = 4 << 28 | number << 23 | place << 17 | criticality;
 }
 
-/// 2: a wrong head, before a sound rest.
+/// 2: a wrong head, in N, in the return limit, in a spare bit or in its kind, before a sound rest.
 fn wrong_head(random: &mut Random, words: &mut Vec<u32>) {
     let head = words[0];
-    let spare = 1 << random.between(5, 27);
+    let spare = 1 << random.between(5, 7);
+    let return_limit: u32 = random.pick(&[1_000_001, 1_000_002, 0xF_FFFF]) << 8 | modules(words) as u32;
     let kind = random.pick(&[0, 2, 3, 5, 9, 15]) << 28;
     let other_kind = kind | modules(words) as u32;
-    words[0] = random.pick(&[1 << 28, 1 << 28 | 1, 1 << 28 | 17, 1 << 28 | 31, head | spare, other_kind]);
+    let wrong = [1 << 28, 1 << 28 | 1, 1 << 28 | 17, 1 << 28 | 31, head | spare, other_kind, 1 << 28 | return_limit];
+    words[0] = random.pick(&wrong);
 }

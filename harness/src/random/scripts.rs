@@ -10,7 +10,7 @@ use crate::script::check::words;
 use crate::script::{Item, Script};
 
 /// How many ways `script_bytes` knows.
-pub const WAYS: usize = 33;
+pub const WAYS: usize = 34;
 
 /// A run script made in one of the ways 0..WAYS-1.
 pub fn script_bytes(random: &mut Random, way: usize) -> Vec<u8> {
@@ -41,6 +41,8 @@ pub fn script_bytes(random: &mut Random, way: usize) -> Vec<u8> {
         15..=19 | 22..=24 | 26 | 31 => refused::wrong_words(random, all, way),
         // Accepted, and within the fault limit or just over it.
         28..=30 => bytes_of(&words(&careful_script(random))),
+        // Accepted, with modules that leave and return.
+        33 => bytes_of(&words(&returning_script(random))),
         25 if random.chance(1, 6) => most_rounds(random, script),
         _ => cast_of_all_or_nobody(random),
     }
@@ -137,6 +139,35 @@ fn careful_events(random: &mut Random, n: usize, cast: u32, items: &mut Vec<Item
             items.push(Item::Loss { sender, receivers: full(n) });
         }
     }
+}
+
+/// An accepted script in which a sender goes unheard until it leaves, then is heard for about Q rounds. It may be lost again while its run
+/// goes on, in the round in which it would return, or after it.
+pub fn returning_script(random: &mut Random) -> Script {
+    let mut setup = lively_setup(random);
+    setup.penalty_limit = random.between(1, 3);
+    setup.return_limit = random.pick(&[0, 1, 1, 2, 3, 3, 7, 40]);
+    let n = setup.n;
+    let cast = if random.chance(1, 4) { 1 << random.below(n) } else { 0 };
+    let sender = random.between(1, n as u32) as usize;
+    let lost = Item::Loss { sender, receivers: full(n) };
+    let mut items = Vec::new();
+    for _ in 0..1 + random.below(3) {
+        // One round more than it takes to leave, or one fewer.
+        let charges = setup.penalty_limit / setup.module(sender).criticality + random.between(0, 2);
+        for _ in 0..charges {
+            items.extend([lost, Item::Play { rounds: 1 }]);
+        }
+        if random.chance(1, 4) {
+            items.push(event(random, n, cast));
+        }
+        let rounds = setup.return_limit + random.between(0, 4);
+        items.push(Item::Play { rounds: rounds.saturating_sub(random.below(4) as u32).max(1) });
+        if random.chance(1, 2) {
+            items.extend([lost, Item::Play { rounds: 1 + random.between(0, setup.return_limit + 4) }]);
+        }
+    }
+    Script { setup, cast, items }
 }
 
 /// A rule-breaker that is heard by all with the same word, or by nobody.

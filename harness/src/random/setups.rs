@@ -1,4 +1,4 @@
-//! Accepted setups: every N, both u, marks, limits at both ends.
+//! Accepted setups: every N, both u, marks, limits at both ends, with modules that return and without.
 
 use super::Random;
 use crate::model::setup::{Module, Setup};
@@ -10,11 +10,12 @@ pub fn setup(random: &mut Random) -> Setup {
     setup_of(random, n, u)
 }
 
-/// A setup whose limits are low, so that modules leave the view and counters clear often.
+/// A setup whose limits are low, so that modules leave the view and return and counters clear often.
 pub fn lively_setup(random: &mut Random) -> Setup {
     let mut setup = setup(random);
     setup.penalty_limit = random.between(1, 12);
     setup.reward_limit = random.between(1, 6);
+    setup.return_limit = random.between(0, 5);
     for module in &mut setup.modules[..setup.n] {
         module.criticality = random.between(1, 3);
     }
@@ -32,7 +33,13 @@ pub fn setup_of(random: &mut Random, n: usize, u: usize) -> Setup {
             criticality: random.limit(100_000),
         };
     }
-    Setup { n, penalty_limit: random.limit(1_000_000), reward_limit: random.limit(8_000_000), modules }
+    Setup {
+        n,
+        penalty_limit: random.limit(1_000_000),
+        reward_limit: random.limit(8_000_000),
+        return_limit: if random.chance(1, 4) { 0 } else { random.limit(1_000_000) },
+        modules,
+    }
 }
 
 /// Read places with u = 1: at least one is below N.

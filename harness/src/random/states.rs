@@ -19,10 +19,13 @@ pub fn state(random: &mut Random, setup: &Setup) -> State {
     let mut view = 0;
     let mut penalty = [0; MAX];
     let mut reward = [0; MAX];
+    let mut returns = [0; MAX];
     for j in 1..=n {
         penalty[j - 1] = any_penalty(random, setup, j);
         if penalty[j - 1] <= setup.penalty_limit {
             view |= only(j);
+        } else {
+            returns[j - 1] = any_returns(random, setup);
         }
         if penalty[j - 1] > 0 {
             reward[j - 1] = any_reward(random, setup);
@@ -36,6 +39,7 @@ pub fn state(random: &mut Random, setup: &Setup) -> State {
         before: random.vector(n),
         penalty,
         reward,
+        returns,
     }
 }
 
@@ -59,6 +63,17 @@ fn any_penalty(random: &mut Random, setup: &Setup, j: usize) -> u32 {
 fn any_reward(random: &mut Random, setup: &Setup) -> u32 {
     let most = setup.reward_limit - 1;
     match random.below(5) {
+        0 => 0,
+        1 | 2 => most,
+        3 => most.saturating_sub(1),
+        _ => random.between(0, most),
+    }
+}
+
+/// The return count of a module outside the view: 0..Q-1, 0 where Q is 0.
+fn any_returns(random: &mut Random, setup: &Setup) -> u32 {
+    let most = setup.return_limit.saturating_sub(1);
+    match random.below(6) {
         0 => 0,
         1 | 2 => most,
         3 => most.saturating_sub(1),

@@ -91,6 +91,12 @@ impl Backplane {
         }
     }
 
+    /// Between two rounds: module j has lost its state and is opened anew from the setup. What it has on the bus stays as it was.
+    pub fn open_anew(&mut self, j: usize) {
+        self.states[j - 1] = fresh(&self.setup, j);
+        self.handed_out[j - 1] = handed_out(&self.setup, &self.states[j - 1]);
+    }
+
     /// Plays one round; the events count for the words sent in it.
     ///
     /// A marked module sends the word that its step of this round hands out, another module the

@@ -4,7 +4,7 @@
 
 #include "check/sizes.h"
 
-#define ROUNDS 8 /* most rounds that are played */
+#define ROUNDS 16 /* most rounds that are played */
 
 /* A backplane; n, setup and silent are given.  Module j stands at j-1, round k
    at k. */

@@ -31,7 +31,7 @@ static void turn_bits(uint8_t *image, uint32_t n, const uint8_t *read,
                      .argument = controller};
     uint32_t at, b, word;
 
-    for (at = 0; at < 4 * n + 6; at++) {
+    for (at = 0; at < image_words(n); at++) {
         word = get(image, at);
         for (b = 0; b < 32; b++) {
             put(image, at, word ^ 1u << b);

@@ -36,8 +36,8 @@ static void refused_word(const uint8_t *image, uint32_t n, uint32_t at,
     put(copy, at, word);
     refused_image(copy, n, number, at);
     /* A second wrong word further on: the first is named. */
-    later = at + 1 + below(4 * n + 6 - at);
-    if (later < 4 * n + 6) {
+    later = at + 1 + below(image_words(n) - at);
+    if (later < image_words(n)) {
         put(copy, later, 0xFFFFFFFF);
         refused_image(copy, n, number, at);
     }
@@ -48,8 +48,9 @@ static void accepted_image(const uint8_t *image, uint32_t n)
     save(image, PRESENCE_IMAGE_BYTES(n), PRESENCE_IMAGE_BYTES(n), 0, 0);
 }
 
-/* Limits and criticality of the images that are made wrong. */
-enum { P = 7, R = 4, CRITICALITY = 3 };
+/* Limits and criticality of the images that are made wrong; Q where it is
+   not 0. */
+enum { P = 7, R = 4, CRITICALITY = 3, Q = 5 };
 
 static void own_words_refused(const uint8_t *image, uint32_t n)
 {
@@ -145,9 +146,38 @@ static void rewards_refused(const uint8_t *image, uint32_t n, uint32_t j)
     refused_word(charged, n, at, reward_word(j, R), 8);
     refused_word(charged, n, at, reward_word(j, 0x7FFFFF), 8);
     refused_word(charged, n, at, penalty_word(j, 0), 8);
-    refused_word(charged, n, at, 0xF0000000 | j << 23, 8);
+    refused_word(charged, n, at, returns_word(j, 0), 8);
     refused_word(charged, n, at, reward_word(j - 1, 0), 8);
     refused_word(charged, n, at, reward_word(j + 1, 0), 8);
+}
+
+/* Return counts: 0 in the view and where Q is 0, else below Q. */
+static void returns_refused(const uint8_t *image, uint32_t n, uint32_t j)
+{
+    uint8_t out[IMAGE_MAX];
+    uint32_t at = returns_at(n, j), b;
+
+    refused_word(image, n, at, returns_word(j, 1), 8);
+    memcpy(out, image, sizeof out);
+    put(out, own_at(n), own_word(1, ones(n) & ~(1u << (j - 1))));
+    put(out, penalty_at(n, j), penalty_word(j, P + 1));
+    refused_word(out, n, at, returns_word(j, 1), 8); /* Q = 0 */
+    put(out, 0, head_word(n, Q));
+    accepted_image(out, n);
+    refused_word(out, n, at, returns_word(j, Q), 8);
+    refused_word(out, n, at, returns_word(j, 0xFFFFF), 8);
+    put(out, at, returns_word(j, Q - 1));
+    accepted_image(out, n);
+    refused_word(out, n, at, reward_word(j, 0), 8);
+    refused_word(out, n, at, 0x00000000 | j << 23, 8);
+    refused_word(out, n, at, returns_word(j - 1, 0), 8);
+    refused_word(out, n, at, returns_word(j + 1, 0), 8);
+    for (b = 20; b < 23; b++)
+        refused_word(out, n, at, returns_word(j, 1) | 1u << b, 8);
+    /* In the view it is no count, though it is below Q. */
+    put(out, own_at(n), own_word(1, ones(n)));
+    put(out, penalty_at(n, j), penalty_word(j, P));
+    refused_image(out, n, 8, at);
 }
 
 /* Module 1 is out of the view, 2 in it. */
@@ -156,16 +186,20 @@ static void largest_counters(uint32_t n)
     uint8_t s[PRESENCE_MAX_SETUP_BYTES], image[IMAGE_MAX];
 
     make_setup(s, n, 1000000, 8000000, 100000);
+    put(s, 0, head_word(n, 1000000));
     fresh_image(image, s, n, 1);
     put(image, own_at(n), own_word(1, ones(n) & ~1u));
     put(image, penalty_at(n, 1), penalty_word(1, 1100000));
     put(image, penalty_at(n, 2), penalty_word(2, 1000000));
     put(image, reward_at(n, 1), reward_word(1, 7999999));
     put(image, reward_at(n, 2), reward_word(2, 7999999));
+    put(image, returns_at(n, 1), returns_word(1, 999999));
     accepted_image(image, n);
     refused_word(image, n, penalty_at(n, 1), penalty_word(1, 1100001), 8);
     refused_word(image, n, penalty_at(n, 2), penalty_word(2, 1000001), 8);
     refused_word(image, n, reward_at(n, 2), reward_word(2, 8000000), 8);
+    refused_word(image, n, returns_at(n, 1), returns_word(1, 1000000), 8);
+    refused_word(image, n, returns_at(n, 2), returns_word(2, 1), 8);
 }
 
 void group_images_refused(void)
@@ -186,6 +220,7 @@ void group_images_refused(void)
             penalties_refused(image, n, j);
             counters_out_of_view(image, n, j);
             rewards_refused(image, n, j);
+            returns_refused(image, n, j);
         }
         largest_counters(n);
     }

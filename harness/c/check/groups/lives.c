@@ -10,8 +10,33 @@
 #include "check/sizes.h"
 #include "check/words.h"
 
-/* What follows from document 01 without plain.c, for the images before and
-   after a step. */
+/* Modules outside the view that counted a round or came back. */
+static unsigned long counted, returned;
+
+/* E6 of document 02 without plain.c, for a module that the step found outside
+   the view: it counts good rounds, and at the Q-th it is back. */
+static void outside_follows(const uint8_t *setup, uint32_t n, uint32_t j,
+                            const uint8_t *old, const uint8_t *image,
+                            uint32_t healthy)
+{
+    uint32_t q = get(setup, 0) >> 8 & 0xFFFFF;
+    uint32_t count = (get(old, returns_at(n, j)) & 0xFFFFF) + 1;
+    uint32_t returns = healthy && count == q;
+
+    same("back in the view", PRESENCE_VIEW(image, n) >> (j - 1) & 1, returns);
+    same("penalty of one out", get(image, penalty_at(n, j)),
+         returns ? penalty_word(j, get(setup, 1) & 0x0FFFFFFF)
+                 : get(old, penalty_at(n, j)));
+    same("reward of one out", get(image, reward_at(n, j)),
+         returns ? reward_word(j, 0) : get(old, reward_at(n, j)));
+    same("count of one out", get(image, returns_at(n, j)),
+         returns_word(j, healthy && count < q ? count : 0));
+    counted += healthy && count < q;
+    returned += returns;
+}
+
+/* What follows from documents 01 and 02 without plain.c, for the images before
+   and after a step. */
 static void step_follows(const uint8_t *setup, uint32_t n, uint32_t own,
                          const uint8_t *old, const uint8_t *image,
                          uint32_t health)
@@ -23,15 +48,12 @@ static void step_follows(const uint8_t *setup, uint32_t n, uint32_t own,
         differ("setup in the image", 1, 0);
     same("own number in the image", get(image, own_at(n)) >> 16, 0xA000 | own);
     same("syndrome before", get(image, before_at(n)), get(old, latest_at(n)));
-    same("back in the view", PRESENCE_VIEW(image, n) & ~PRESENCE_VIEW(old, n),
-         0);
     for (j = 1; j <= n; j++)
-        if (!(PRESENCE_VIEW(old, n) >> (j - 1) & 1)) {
-            same("penalty of one out", get(image, penalty_at(n, j)),
-                 get(old, penalty_at(n, j)));
-            same("reward of one out", get(image, reward_at(n, j)),
-                 get(old, reward_at(n, j)));
-        }
+        if (PRESENCE_VIEW(old, n) >> (j - 1) & 1)
+            same("count of one in", get(image, returns_at(n, j)),
+                 returns_word(j, 0));
+        else
+            outside_follows(setup, n, j, old, image, health >> (j - 1) & 1);
 }
 
 /* Rule 7: the latest syndrome, with the mark the one before. */
@@ -98,5 +120,7 @@ void group_lives(void)
         for (u = 0; u < 2; u++)
             for (style = 0; style < 4; style++)
                 life(n, u, style, 300);
+    if (counted < 1000 || returned < 1000)
+        differ("modules that came back", returned, 1000);
     end_group();
 }

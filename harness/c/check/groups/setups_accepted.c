@@ -20,6 +20,10 @@ void group_setups_accepted(void)
         check_setup(setup, len, 0, 0);
         make_setup(setup, n, 1000000, 8000000, 100000);
         check_setup(setup, len, 0, 0);
+        put(setup, 0, head_word(n, 1));
+        check_setup(setup, len, 0, 0);
+        put(setup, 0, head_word(n, 1000000));
+        check_setup(setup, len, 0, 0);
         for (j = 1; j <= n; j++)
             for (l = 0; l <= n; l++) {
                 usual_setup(setup, n);

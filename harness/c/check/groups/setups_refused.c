@@ -53,8 +53,9 @@ static void refused_setup_word(uint8_t *setup, uint32_t n, uint32_t at,
 static void heads_refused(uint32_t n)
 {
     static const uint32_t heads[] = {
-        0x10000000, 0x10000001, 0x10000011, 0x1000001F, 0x10000024, 0x18000004,
-        0x00000004, 0x20000004, 0x90000004, 0xF0000004, 0xFFFFFFFF, 0x10010004
+        0x10000000, 0x10000001, 0x10000011, 0x1000001F, 0x10000024, 0x10000044,
+        0x10000084, 0x100003E4, 0x00000004, 0x20000004, 0x90000004, 0xF0000004,
+        0xFFFFFFFF, 0x1F424104, 0x1F800004, 0x1FFFFF04
     };
     uint8_t s[PRESENCE_MAX_SETUP_BYTES];
     uint32_t i;
