@@ -1,4 +1,4 @@
-"""What happened in a run: charges, who left the view, who differed, when the fault limit was broken."""
+"""What happened in a run: charges, who left the view and came back, who differed, when the fault limit was broken."""
 
 from collections import namedtuple
 
@@ -8,6 +8,11 @@ from .lines import Round
 #   before, after   in the view before and after the round
 #   health          judged healthy in the round
 Cell = namedtuple("Cell", "before after health")
+
+# A module that was outside the view of these judges from the end of round left to the end of round back.
+Absence = namedtuple("Absence", "left back judges")
+
+ROUND_MS = 2.5    # a round of the backplane
 
 
 class Account:
@@ -68,6 +73,14 @@ class Account:
         """For each module: rounds by those judges whose view it left."""
         return self._by_judges(lambda seen, health, view: seen == "1" and view == "0")
 
+    def returns(self):
+        """For each module: rounds by those judges into whose view it came back."""
+        return self._by_judges(lambda seen, health, view: seen == "0" and view == "1")
+
+    def absences(self):
+        """For each module: its absences that ended, by the round in which it came back."""
+        return [ended_absences(*both) for both in zip(self.leavings(), self.returns())]
+
     def _by_judges(self, happened):
         """For each module a dictionary from judges to the rounds in which it happened at exactly these."""
         found = [{} for _ in range(self.n)]
@@ -93,6 +106,20 @@ class Account:
         return result
 
 
+def ended_absences(left, back):
+    """The absences of a module, from the rounds by judges in which it left and came back. In each view it leaves first, for a fresh view is full."""
+    judges_of = {}
+    for judge in sorted({judge for judges in back for judge in judges}):
+        for span in zip(rounds_at(left, judge), rounds_at(back, judge)):
+            judges_of.setdefault(span, []).append(judge)
+    return sorted((Absence(*span, tuple(judges)) for span, judges in judges_of.items()), key=lambda absence: (absence.back, absence.left))
+
+
+def rounds_at(by_judges, judge):
+    """The rounds at one judge, in order."""
+    return sorted(number for judges, rounds in by_judges.items() if judge in judges for number in rounds)
+
+
 def one(values):
     """True or False for the one digit in a set, None if both are there."""
     return None if len(values) > 1 else values == {"1"}
@@ -115,6 +142,15 @@ def ranges_text(rounds, most=12):
 
 def rounds_text(rounds, most=12):
     return f"{plural(len(rounds), 'round')} {ranges_text(rounds, most)}"
+
+
+def count_text(rounds):
+    """A number of rounds, with the time that they take."""
+    return f"{rounds:,} {plural(rounds, 'round')} ({ms_text(rounds)})"
+
+
+def ms_text(rounds):
+    return f"{rounds * ROUND_MS:,.1f} ms".replace(".0 ms", " ms")
 
 
 def plural(count, noun):

@@ -5,6 +5,7 @@ A line holds one statement; everything from a # on is a comment.
     modules 4                                  first: how many modules
     penalty limit 1
     reward limit 3
+    return limit 5                             0 if it is left out: no module comes back into the view
     module 1 x-axis place 4 criticality 1      one line for each module in turn; the name may be left out,
     module 2 place 1 criticality 1 mark        and may later stand in place of the number; mark is the send mark
     ...
@@ -24,12 +25,13 @@ from . import check
 from . import words as w
 
 NAME = re.compile(r"[A-Za-z][A-Za-z0-9_-]*\Z")
-RESERVED = {"modules", "penalty", "reward", "limit", "module", "place", "criticality", "mark", "cast", "none", "all", "but",
+RESERVED = {"modules", "penalty", "reward", "return", "limit", "module", "place", "criticality", "mark", "cast", "none", "all", "but",
             "loss", "lie", "to", "says", "word", "play", "bytes"}
 FORMS = {
     "modules": "modules N",
     "penalty": "penalty limit P",
     "reward": "reward limit R",
+    "return": "return limit Q",
     "module": "module NUMBER [NAME] place L criticality C [mark]",
     "cast": "cast none, cast all, cast all but MODULES or cast MODULES",
     "loss": "loss SENDER to RECEIVERS",
@@ -54,6 +56,8 @@ class Source:
     def __init__(self, unchecked=False):
         self.unchecked = unchecked
         self.n = None
+        self.head = None
+        self.return_limit = None
         self.names = {}
         self.words = []
         self.lines = []
@@ -115,7 +119,8 @@ def read_modules(source, tokens):
     if source.n is not None:
         source.fail("the number of modules stands twice")
     source.n = ranged(source, tokens[0], "number of modules")
-    source.put(w.make(w.HEAD, source.n))
+    source.head = len(source.words)
+    source.put(w.head_word(source.n, 0))
     return True
 
 
@@ -126,6 +131,21 @@ def read_limit(kind, what):
         source.put(w.make(kind, ranged(source, tokens[1], what)))
         return True
     return reader
+
+
+def read_return_limit(source, tokens):
+    """The return limit stands in the head, so this line puts no word of its own."""
+    if len(tokens) != 2 or tokens[0] != "limit":
+        return False
+    if source.head is None:
+        source.fail("the number of modules must stand before this")
+    if source.return_limit is not None:
+        source.fail("the return limit stands twice")
+    if len(source.words) > 3 and not source.unchecked:
+        source.fail("the return limit must stand before module 1")
+    source.return_limit = ranged(source, tokens[1], "return limit")
+    source.words[source.head] = w.head_word(source.n, source.return_limit)
+    return True
 
 
 def read_module(source, tokens):
@@ -200,6 +220,7 @@ READERS = {
     "modules": read_modules,
     "penalty": read_limit(w.PENALTY_LIMIT, "penalty limit"),
     "reward": read_limit(w.REWARD_LIMIT, "reward limit"),
+    "return": read_return_limit,
     "module": read_module,
     "cast": read_cast,
     "loss": read_loss,
@@ -221,7 +242,7 @@ def number(source, token, what):
 
 
 def ranged(source, token, what):
-    """A number within document 01's range; with --unchecked any that fits its bits."""
+    """A number within its range; with --unchecked any that fits its bits."""
     found = number(source, token, what)
     bits = w.RANGES[what].bits
     if source.unchecked:

@@ -1,4 +1,4 @@
-"""Document 01's check of a run script: number, index and reason of a refusal, in document 01's order."""
+"""The check of a run script: number, index and reason of a refusal, in document 01's order; number 2 as document 02's E6 has it."""
 
 from collections import namedtuple
 
@@ -9,7 +9,7 @@ Refusal = namedtuple("Refusal", "number index reason")
 # The numbers that the bench can print, in the words of document 01's table.
 MEANING = {
     1: "the script is empty, or not whole words",
-    2: "the first word is no head",
+    2: "the first word is no head: its kind, the number of modules, the return limit or a spare bit is wrong",
     3: "the script has fewer words than a setup",
     4: "a limit word is wrong",
     5: "a module word is wrong or out of turn",
@@ -33,11 +33,10 @@ def refusal(data):
 
 
 def setup_refusal(words):
-    n = w.value(words[0])
-    if w.kind(words[0]) != w.HEAD:
-        return Refusal(2, 0, "a script begins with the number of modules")
-    if not w.in_range("number of modules", n):
-        return Refusal(2, 0, w.outside("number of modules", n))
+    reason = head_reason(words[0])
+    if reason:
+        return Refusal(2, 0, reason)
+    n = w.read_head(words[0]).modules
     if len(words) < n + 3:
         return Refusal(3, 0, f"the setup of {n} modules has {n + 3} words, and the script only {len(words)}")
     limits = [(1, w.PENALTY_LIMIT, "penalty limit"), (2, w.REWARD_LIMIT, "reward limit")]
@@ -52,6 +51,19 @@ def setup_refusal(words):
             reason = reason_of(word, j, n)
             if reason:
                 return Refusal(number, j + 2, reason)
+    return None
+
+
+def head_reason(word):
+    """Why this word is no head (number 2), or None."""
+    if w.kind(word) != w.HEAD:
+        return "a script begins with the number of modules"
+    head = w.read_head(word)
+    if head.spare:
+        return "spare bits are set"
+    for what, number in (("number of modules", head.modules), ("return limit", head.return_limit)):
+        if not w.in_range(what, number):
+            return w.outside(what, number)
     return None
 
 
@@ -80,7 +92,7 @@ def mark_reason(word, own, n):
 
 
 def run_refusal(words):
-    n = w.value(words[0])
+    n = w.read_head(words[0]).modules
     first = n + 3
     if len(words) == first:
         return Refusal(14, first, "the cast is missing")

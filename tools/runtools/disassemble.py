@@ -29,7 +29,7 @@ def readable_words(words, refused):
         return 0
     if refused.number != 14:
         return refused.index
-    items = list(w.run_items(words, w.value(words[0]) + 4))
+    items = list(w.run_items(words, w.read_head(words[0]).modules + 4))
     cut = bool(items) and w.kind(items[-1][1]) == w.LIE and items[-1][2] is None
     return len(words) - cut
 
@@ -37,10 +37,11 @@ def readable_words(words, refused):
 def setup_lines(words):
     if not words:
         return []
-    n = w.value(words[0])
+    return_limit, _, n = w.read_head(words[0])
     lines = [f"modules {n}"]
     lines += [f"penalty limit {w.value(word)}" for word in words[1:2]]
     lines += [f"reward limit {w.value(word)}" for word in words[2:3]]
+    lines += [f"return limit {return_limit}"] if return_limit else []
     for word in words[3:n + 3]:
         module = w.read_module(word)
         mark = " mark" if module.mark else ""
@@ -52,7 +53,7 @@ def setup_lines(words):
 def run_lines(words, end):
     if not end:
         return []
-    n, lines, played = w.value(words[0]), [], 0
+    n, lines, played = w.read_head(words[0]).modules, [], 0
     for _, word, told in w.run_items(words[:end], n + 4):
         if w.kind(word) == w.PLAY:
             count = w.value(word)

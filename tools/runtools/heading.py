@@ -1,7 +1,7 @@
 """What stands above the panels of a picture: the title, and in sentences what happened in the run."""
 
 from . import svg
-from .account import plural, rounds_text
+from .account import plural, rounds_at, rounds_text
 from .layout import MARGIN, NO_BREAK, wrapped
 
 
@@ -33,9 +33,12 @@ def sentences(account, part):
     script = account.script
     if script:
         cast = ", ".join(whole(account.label(j)) for j in script.cast) or "nobody"
-        about += f"; penalty limit {script.penalty_limit:,}, reward limit {script.reward_limit:,}; cast: {cast}"
-    return [(about + ".", False), (limit_sentence(account), False), (agreement_sentence(account), bool(account.faults())),
+        back = f", return limit {script.return_limit:,}" if script.return_limit else ""
+        about += f"; penalty limit {script.penalty_limit:,}, reward limit {script.reward_limit:,}{back}; cast: {cast}"
+    said = [(about + ".", False), (limit_sentence(account), False), (agreement_sentence(account), bool(account.faults())),
             (leaving_sentence(account), False)]
+    returned = return_sentence(account)
+    return said + [(returned, False)] if returned else said
 
 
 def limit_sentence(account):
@@ -57,20 +60,41 @@ def agreement_sentence(account):
 
 
 def leaving_sentence(account):
-    left = [whole(account.label(j) + " in " + leaving_text(account, by_judges))
-            for j, by_judges in enumerate(account.leavings(), 1) if by_judges]
+    left = view_texts(account, account.leavings(), FROM)
     return f"Left the view: {'; '.join(left) or 'nobody'}."
 
 
-def leaving_text(account, by_judges):
-    """The round in which a module left the view; where the judges differ, when it left the first view and when the last."""
-    rounds = sorted(number for found in by_judges.values() for number in found)
+def return_sentence(account):
+    """Nothing where nobody came back."""
+    back = view_texts(account, account.returns(), INTO)
+    return f"Came back into the view: {'; '.join(back)}." if back else ""
+
+
+# what to say where the judges differ: of the first of them, of the last, and of all if some are left out
+FROM = "from the first view", "from the last", "still in {left} of {all} views"
+INTO = "into the first view", "into the last", "into {done} of {all} views"
+
+
+def view_texts(account, changes, forms):
+    """Each module with the rounds of its changes, for those that have any; broken at its commas alone."""
+    found = [account.label(j) + " in " + rounds_by_judges(account, by_judges, forms) for j, by_judges in enumerate(changes, 1) if by_judges]
+    return [", ".join(map(whole, text.split(", "))) for text in found]
+
+
+def rounds_by_judges(account, by_judges, forms):
+    """The rounds in which a module left the view or came back; where the judges differ, when it first did at the first of them and at the last."""
     if list(by_judges) == [tuple(account.judges)]:
-        return f"round {rounds[0]}"
-    stays = len(account.judges) - sum(len(judges) * len(found) for judges, found in by_judges.items())
-    if stays:
-        return f"round {rounds[0]} from the first view, still in {stays} of {len(account.judges)} views"
-    return f"round {rounds[0]} from the first view, in round {rounds[-1]} from the last"
+        return rounds_text(by_judges[tuple(account.judges)], 6)
+    at_first, at_last, at_some = forms
+    rounds = {judge: rounds_at(by_judges, judge) for judge in account.judges}
+    firsts = [found[0] for found in rounds.values() if found]
+    text = f"round {min(firsts)}"
+    if len(firsts) < len(rounds):
+        text += f" {at_first}, " + at_some.format(done=len(firsts), left=len(rounds) - len(firsts), all=len(rounds))
+    elif min(firsts) < max(firsts):
+        text += f" {at_first}, in round {max(firsts)} {at_last}"
+    last = max(found[-1] for found in rounds.values() if found)
+    return text + (f", again up to round {last}" if any(len(found) > 1 for found in rounds.values()) else "")
 
 
 def whole(text):

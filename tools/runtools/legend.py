@@ -11,6 +11,7 @@ STATES = [
     ("healthy", "in the view, judged healthy"),
     ("charged", "charged: in the view, judged 0"),
     ("leaves", "charged and leaves the view"),
+    ("returns", "comes back into the view"),
     ("outside", "outside the view"),
     ("outside, judged 0", "outside the view, judged 0"),
     ("healths differ", "{who} differ about its health"),
@@ -52,7 +53,8 @@ def legend(account, found, width, y):
 def entries(account, found):
     """Each entry's mark and words."""
     who = "rule-followers" if account.of_followers else "modules"
-    listed = [(state_sample(name), words.format(who=who)) for name, words in STATES]
+    returns = any(marks.state(cell) == "returns" for column in found for cell in column.cells)
+    listed = [(state_sample(name), words.format(who=who)) for name, words in STATES if name != "returns" or returns]
     listed += [(agreement(False, 0, WIDE, 1), f"row agreement: all {who} agree"),
                (agreement(True, 0, WIDE, 1), f"row agreement: {who} differ")]
     if account.script:

@@ -6,6 +6,7 @@ from .words import STRAY_BITS, WRONG_KIND
 CHARGE = "#D55E00"
 EVENT = "#0072B2"
 LIE = "#882255"
+RETURN = "#009E73"
 GREY = "#9A9A9A"
 
 BAND = 13    # height of a cell's upper band: losses and lies of the round
@@ -18,13 +19,16 @@ HATCH = svg.element(
 
 
 def state(cell):
-    """Which mark a cell gets, by name. A module that some views still had before the round, and none after it, leaves."""
+    """Which mark a cell gets, by name. A module that some views still had before the round, and none after it, leaves; one that some views
+    lacked before it, and none after it, returns."""
     if cell.after is None:
         return "views differ"
     if cell.health is None:
         return "healths differ"
     if cell.before is not False and not cell.after:
         return "leaves"
+    if cell.before is not True and cell.after:
+        return "returns"
     if not cell.after:
         return "outside" if cell.health else "outside, judged 0"
     return "healthy" if cell.health else "charged"
@@ -44,9 +48,17 @@ def judged(name, x, y, width):
         parts.append(svg.rect(middle - 8, centre - 8, 16, 16, fill="#000"))
         for turn in (1, -1):
             parts.append(svg.line(middle - 4.5, centre - 4.5 * turn, middle + 4.5, centre + 4.5 * turn, stroke="#fff", stroke_width=2.5))
+    if name == "returns":
+        parts.append(svg.element("circle", cx=middle, cy=centre, r=9, fill=RETURN, stroke="#000"))
+        parts.append(tick(middle, centre))
     if name.endswith("differ"):
         parts.append(differing(x, y, width, name == "views differ"))
     return "".join(parts)
+
+
+def tick(x, y):
+    return (svg.line(x - 4.5, y + 0.5, x - 1, y + 4, stroke="#fff", stroke_width=2.5, stroke_linecap="round")
+            + svg.line(x - 1, y + 4, x + 4.5, y - 4, stroke="#fff", stroke_width=2.5, stroke_linecap="round"))
 
 
 def differing(x, y, width, hatched):

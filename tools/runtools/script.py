@@ -17,7 +17,7 @@ class Events(namedtuple("Events", "losses lies")):
 class Script:
     def __init__(self, data, names=None):
         words = w.to_words(data)
-        self.n = w.value(words[0])
+        self.return_limit, _, self.n = w.read_head(words[0])
         self.penalty_limit = w.value(words[1])
         self.reward_limit = w.value(words[2])
         self.modules = [w.read_module(word) for word in words[3:self.n + 3]]
@@ -67,8 +67,8 @@ def by_sender(pending):
 
 
 def is_text(data):
-    """Whether these bytes are a script text rather than a script: every script has a 0 in its head, and a text has none."""
-    return bool(data) and b"\0" not in data
+    """Whether these bytes are a script text rather than a script: every script begins with a head and has a 0 in its cast, a text neither."""
+    return bool(data) and data[0] >> 4 != w.HEAD and b"\0" not in data
 
 
 def load(data, name):

@@ -1,14 +1,17 @@
-"""A run in plain text: who was charged, who left the view, when the limit was broken, whether the modules agreed."""
+"""A run in plain text: who was charged, who left the view and came back, when the limit was broken, whether the modules agreed."""
 
-from .account import plural, rounds_text
+from .account import count_text, ms_text, plural, rounds_text
 from .causes import Causes
 from .causetext import cause_lines
 
+MOST_RETURNS = 8    # lines of a module that came back
 
 def summary(account):
     lines = head_lines(account) + limit_lines(account) + agreement_lines(account)
     lines += [""] + charge_lines(account)
     lines += [""] + leaving_lines(account)
+    returned = return_lines(account)
+    lines += [""] + returned if returned else []
     return "\n".join(lines) + "\n"
 
 
@@ -18,7 +21,8 @@ def head_lines(account):
     script = account.script
     if script is None:
         return lines + ["cast:      unknown without --script; all modules are compared"]
-    lines += [f"limits:    penalty {script.penalty_limit:,}, reward {script.reward_limit:,}"]
+    back = f", return {script.return_limit:,}" if script.return_limit else ""
+    lines += [f"limits:    penalty {script.penalty_limit:,}, reward {script.reward_limit:,}{back}"]
     if not account.of_followers:
         return lines + ["cast:      all modules, so there is no rule-follower; all modules are compared"]
     return lines + [f"cast:      {labels(account, script.cast) or 'nobody'}"]
@@ -76,6 +80,24 @@ def leaving_lines(account):
     return lines if len(lines) > 1 else lines + ["  nobody"]
 
 
+def return_lines(account):
+    """A line for each return; none at all where the script lets nobody come back and nobody did."""
+    lines = ["Came back into the view (2.5 ms a round):"]
+    for j, absences in enumerate(account.absences(), 1):
+        for left, back, judges in absences[:MOST_RETURNS]:
+            away = f"after {count_text(back - left)} outside"
+            lines.append(f"  module {account.label(j)}: in round {back}, at {ms_text(back)}, {away}{by_whom(account, judges, BACK_INTO)}")
+        more = len(absences) - MOST_RETURNS
+        if more > 0:
+            lines.append(f"  module {account.label(j)}: {more:,} {plural(more, 'time')} more, up to round {absences[-1].back}")
+    may_return = account.script is not None and account.script.return_limit > 0
+    if len(lines) == 1:
+        return lines + ["  nobody"] if may_return else []
+    if account.script and not may_return:
+        lines.append("  by the script's return limit nobody does (is it the script of this run?)")
+    return lines
+
+
 def in_order(by_judges):
     return sorted(by_judges.items(), key=lambda item: item[1])
 
@@ -83,6 +105,7 @@ def in_order(by_judges):
 # what to say of some judges only, and of all but some
 CHARGED_BY = ", only by {}", ", but not by {}"
 LEFT_FROM = ", from the view of {} only", ", but not from the view of {}"
+BACK_INTO = ", into the view of {} only", ", but not into the view of {}"
 
 
 def by_whom(account, judges, forms):

@@ -1,4 +1,4 @@
-"""The words of a run script: kinds, fields and masks, after document 01."""
+"""The words of a run script: kinds, fields and masks, after document 01, with the head as document 02's E6 has it."""
 
 from collections import namedtuple
 
@@ -8,16 +8,18 @@ MOST_MODULES = 16
 MOST_BYTES = 65_536
 MOST_ROUNDS = 100_000
 
-# What a number may be after document 01, and how many bits its field has.
+# What a number may be, and how many bits its field has.
 Range = namedtuple("Range", "low high bits")
 RANGES = {
     "number of modules": Range(2, MOST_MODULES, 5),
     "penalty limit": Range(1, 1_000_000, 28),
     "reward limit": Range(1, 8_000_000, 28),
+    "return limit": Range(0, 1_000_000, 20),
     "criticality": Range(1, 100_000, 17),
     "play count": Range(1, 1_000, 28),
 }
 
+Head = namedtuple("Head", "return_limit spare modules")
 ModuleWord = namedtuple("ModuleWord", "number mark place criticality")
 
 
@@ -32,6 +34,15 @@ def value(word):
 
 def make(kind_, bits):
     return kind_ << 28 | bits
+
+
+def head_word(modules, return_limit):
+    return make(HEAD, return_limit << 8 | modules)
+
+
+def read_head(word):
+    """Q in bits 27..8, spare bits 7..5, N in bits 4..0."""
+    return Head(word >> 8 & 0xF_FFFF, word >> 5 & 7, word & 31)
 
 
 def module_word(number, mark, place, criticality):
@@ -105,7 +116,7 @@ def to_bytes(words):
 
 
 def outside(what, number):
-    """The sentence for a number outside the range that document 01 gives it."""
+    """The sentence for a number outside its range."""
     low, high, _ = RANGES[what]
     return f"the {what} is {number}, not within {low:,} to {high:,}"
 

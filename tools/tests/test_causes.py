@@ -87,7 +87,7 @@ class StoredRuns(unittest.TestCase):
     @needs_bench
     def test_without_the_events_that_are_named_there_is_no_charge(self):
         played = 0
-        for name, data, account in self.accounts("vectors", "e04"):
+        for name, data, account in self.accounts("vectors", "e04", "e06"):
             causes = Causes(account)
             for module, number, judges in charges(account):
                 # outside the limit another event may take the place of one that is left out

@@ -48,13 +48,14 @@ class Marks(unittest.TestCase):
     def test_states(self):
         states = {(True, True, True): "healthy", (True, True, False): "charged", (True, False, False): "leaves",
                   (False, False, True): "outside", (False, False, False): "outside, judged 0",
-                  (True, True, None): "healths differ", (True, None, None): "views differ", (None, False, False): "leaves"}
+                  (True, True, None): "healths differ", (True, None, None): "views differ", (None, False, False): "leaves",
+                  (False, True, True): "returns", (None, True, True): "returns", (False, None, True): "views differ"}
         for cell, name in states.items():
             self.assertEqual(marks.state(Cell(*cell)), name)
 
     def test_every_state_but_healthy_has_its_own_shape(self):
         drawn = [re.sub(r"#[0-9A-Fa-f]{3,6}", "colour", marks.judged(name, 0, 0, 26)) for name in
-                 ("charged", "leaves", "outside", "outside, judged 0", "healths differ", "views differ")]
+                 ("charged", "leaves", "returns", "outside", "outside, judged 0", "healths differ", "views differ")]
         self.assertEqual(len(set(drawn)), len(drawn))
 
     def test_why_a_lie_is_not_heard(self):
@@ -100,7 +101,7 @@ class Picture(unittest.TestCase):
         self.assertFalse(re.search(r"<script|<image|href|@import", drawn))
 
     def test_stored_runs(self):
-        for name, data, output in stored("vectors"):
+        for name, data, output in stored("vectors", "e06"):
             if check.refusal(data) is None:
                 with self.subTest(name):
                     loaded = script.load(data, name)
@@ -156,6 +157,48 @@ class Picture(unittest.TestCase):
         self.assertIn("Left the view: 1 in round 2 from the first view, still in 3 of 4 views.", drawn)
         drawn = picture(account(printed(("out", *[ALL] * 4), all_gone, all_gone), text), "all views").replace("\u00a0", " ")
         self.assertIn("Left the view: 1 in round 2.", drawn)
+
+    def test_a_return_has_its_mark_its_words_and_its_sentence(self):
+        text = SETUP.replace("reward limit 3", "reward limit 3\nreturn limit 2").replace("module 4", "module 4 shutter") + "cast none\nplay {n}"
+        quiet, gone, away = ("in", *[ALL] * 4), ("in", *[GONE] * 4), ("in", *[("1111", "1110")] * 4)
+        rounds = [quiet, gone, away, quiet, quiet]
+        drawn = picture(account(printed(*rounds), text.replace("{n}", "5")), "back")
+        self.check_drawing(drawn)
+        self.assertIn("<title>round 2, module 4 shutter: leaves</title>", drawn)
+        self.assertIn("<title>round 3, module 4 shutter: outside</title>", drawn)
+        self.assertIn("<title>round 4, module 4 shutter: returns</title>", drawn)
+        self.assertIn("<title>round 5, module 4 shutter: healthy</title>", drawn)
+        # once in its cell and once in the legend
+        self.assertEqual(drawn.count(f'r="9" fill="{marks.RETURN}"'), 2)
+        said = drawn.replace("\u00a0", " ")
+        self.assertIn("penalty limit 1, reward limit 3, return limit 2; cast: nobody.", said)
+        self.assertIn("Left the view: 4 shutter in round 2.", said)
+        self.assertIn("Came back into the view: 4 shutter in round 4.", said)
+        self.assertIn("comes back into the view", said)
+        # again
+        drawn = picture(account(printed(*rounds, gone, away, quiet), text.replace("{n}", "8")), "back twice").replace("\u00a0", " ")
+        self.assertIn("Left the view: 4 shutter in rounds 2, 6.", drawn)
+        self.assertIn("Came back into the view: 4 shutter in rounds 4, 8.", drawn)
+
+    def test_where_nobody_comes_back_nothing_is_said_of_it(self):
+        drawn = picture(account(printed(("in", *[ALL] * 4), ("in", *[GONE] * 4)), SETUP + "cast none\nplay 2"), "gone")
+        self.assertNotIn("ack into the view", drawn)
+        self.assertNotIn("return limit", drawn)
+        self.assertNotIn(marks.RETURN, drawn)
+
+    def test_when_a_module_came_back_into_the_first_view_and_the_last(self):
+        gone, away = ("0111", "0111"), ("1111", "0111")
+        text = SETUP + "cast none\nplay {n}"
+        rounds = [("out", *[gone] * 4), ("out", ALL, away, away, ALL), ("out", ALL, ALL, away, ALL)]
+        drawn = picture(account(printed(*rounds), text.replace("{n}", "3")), "into some").replace("\u00a0", " ")
+        self.assertIn("Left the view: 1 in round 1.", drawn)
+        self.assertIn("Came back into the view: 1 in round 2 into the first view, into 3 of 4 views.", drawn)
+        rounds += [("out", *[ALL] * 4), ("out", gone, ALL, ALL, ALL), ("out", *[ALL] * 4)]
+        drawn = picture(account(printed(*rounds), text.replace("{n}", "6")), "into all")
+        self.check_drawing(drawn)
+        words = " ".join(" ".join(xml.fromstring(drawn).itertext()).split())
+        self.assertIn("Left the view: 1 in round 1, again up to round 5.", words)
+        self.assertIn("Came back into the view: 1 in round 2 into the first view, in round 4 into the last, again up to round 6.", words)
 
     def test_the_legend_tells_of_agreement_and_of_ranges_of_rounds(self):
         words = " ".join(xml.fromstring(picture(account(printed(*[("in", *[ALL] * 4)] * 5)), "quiet")).itertext())

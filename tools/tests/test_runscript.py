@@ -29,6 +29,28 @@ class RoundTrip(unittest.TestCase):
         self.assertEqual(assemble(SHEET).data(), data)
         self.assertEqual(disassemble(data), SHEET)
 
+    def test_a_script_with_a_return_limit(self):
+        data = read(root("harness/data/e06/017-ok-q2.bin"))
+        text = """\
+modules 3
+penalty limit 2
+reward limit 3
+return limit 2
+module 1 place 3 criticality 3
+module 2 place 3 criticality 3
+module 3 place 3 criticality 3
+cast none
+
+loss 1 to all
+play 4  # rounds 1 to 4
+loss 2 to all
+play 3  # rounds 5 to 7
+play 6  # rounds 8 to 13
+"""
+        self.assertEqual(disassemble(data), text)
+        self.assertEqual(assemble(text).data(), data)
+        self.assertEqual(script.load(data, "data").return_limit, 2)
+        self.assertEqual(script.load(text.encode(), "text").return_limit, 2)
 
     def test_masks_of_nearly_all_modules_name_those_left_out(self):
         run = "cast all but 3\n\nloss 1 to all but 1\nloss 1 to 1 4\nlie 1 to all says 1111\nloss 2 to 3\nplay 1  # round 1\n"
@@ -61,6 +83,29 @@ class Language(unittest.TestCase):
         setup = SHEET.split("cast")[0].replace("module 4 place 4 criticality 1", "module 4 place 3 criticality 100000 mark")
         self.assertEqual(assemble(setup + "cast none\nplay 1").data()[24:28].hex(), "424786a0")
 
+    def head(self, limit, **options):
+        return assemble(SHEET.replace("reward limit 3", f"reward limit 3\n{limit}"), **options).data()[:4].hex().upper()
+
+    def test_the_return_limit_stands_in_the_head(self):
+        self.assertEqual([self.head(f"return limit {q}") for q in (1, 5, 255, 256, 1_000_000)],
+                         ["10000104", "10000504", "1000FF04", "10010004", "1F424004"])
+        self.assertEqual(self.head("return limit 1048575", unchecked=True), "1FFFFF04")
+        first = SHEET.replace("modules 4", "modules 4\nreturn limit 5")
+        self.assertEqual(assemble(first).data(), assemble(SHEET.replace("reward limit 3", "reward limit 3\nreturn limit 5")).data())
+
+    def test_without_a_line_the_return_limit_is_0(self):
+        self.assertEqual([self.head(""), self.head("return limit 0")], ["10000004", "10000004"])
+        self.assertEqual(disassemble(assemble(SHEET.replace("reward limit 3", "reward limit 3\nreturn limit 0")).data()), SHEET)
+        self.assertEqual(script.load(SHEET.encode(), "text").return_limit, 0)
+
+    def test_a_refused_script_keeps_its_return_limit(self):
+        for old, new, refusal in [("play 2", "play 0", "12 at 9"), ("penalty limit 1", "penalty limit 0", "4 at 1"), ("reward limit 3", "reward limit 0", "4 at 2")]:
+            data = assemble(SHEET.replace("module 1", "return limit 7\nmodule 1").replace(old, new), unchecked=True).data()
+            text = disassemble(data)
+            self.assertTrue(text.startswith(f"# refused {refusal}: "))
+            self.assertEqual(text.count("return limit 7\n"), 1)
+            self.assertEqual(assemble(text, unchecked=True).data(), data)
+
     def test_unchecked_words_outside_the_limits(self):
         self.assertEqual(self.words("play 0\ncast none\nword 0x90000BB8\nloss 31 to none\nbytes 0x9000", unchecked=True),
                          ["90000000", "60000000", "90000BB8", "7F800000", "9000"])
@@ -75,6 +120,13 @@ class Errors(unittest.TestCase):
         ("penalty limit 1", "penalty 1", 2, "the form is: penalty limit P"),
         ("penalty limit 1\n", "", 2, "here the penalty limit is due (refused 4 at 1)"),
         ("reward limit 3", "reward limit 8000001", 3, "not within 1 to 8,000,000"),
+        ("reward limit 3", "reward limit 3\nreturn limit 1000001", 4, "the return limit is 1000001, not within 0 to 1,000,000"),
+        ("reward limit 3", "reward limit 3\nreturn limit never", 4, "'never' is no return limit"),
+        ("reward limit 3", "reward limit 3\nreturn 5", 4, "the form is: return limit Q"),
+        ("reward limit 3", "return limit 5\nreturn limit 5\nreward limit 3", 4, "the return limit stands twice"),
+        ("modules 4", "return limit 5\nmodules 4", 1, "the number of modules must stand before this"),
+        ("cast none", "return limit 5\ncast none", 8, "the return limit must stand before module 1"),
+        ("module 2 place", "module 2 return place", 5, "'return' cannot be a name"),
         ("module 2 place 4", "module 2 place 5", 5, "the read place is 5, not within 0 to 4"),
         ("module 2 place", "module 3 place", 5, "module 3 stands where module 2 is due (refused 5 at 4)"),
         ("module 2 place", "module 2 all place", 5, "'all' cannot be a name"),
@@ -114,7 +166,8 @@ class Errors(unittest.TestCase):
                 self.assertNotIn("\n", str(caught.exception))
 
     def test_unchecked_still_wants_numbers_that_fit(self):
-        for text, part in [("play 268435456", "28 bits"), ("modules 4\nloss 32 to all", "0 to 31"), ("modules 32", "5 bits")]:
+        for text, part in [("play 268435456", "28 bits"), ("modules 4\nloss 32 to all", "0 to 31"), ("modules 32", "5 bits"),
+                           ("modules 4\nreturn limit 1048576", "20 bits")]:
             with self.subTest(text), self.assertRaises(ScriptError) as caught:
                 assemble(text, unchecked=True)
             self.assertIn(part, str(caught.exception))
@@ -148,10 +201,21 @@ class Command(unittest.TestCase):
         self.assertEqual(ran.returncode, 0)
         self.assertRegex(ran.stderr.decode(), r"^runscript: examples/incident/joystick.txt: refused [12] at 0: .*'runscript assemble' reads it\n$")
 
+    def test_a_head_without_a_zero_byte_is_no_text(self):
+        text = SHEET.replace("reward limit 3", "reward limit 3\nreturn limit 65793")
+        data = assemble(text).data()
+        self.assertEqual(data[:4], b"\x11\x01\x01\x04")
+        self.assertEqual(script.load(data, "data").return_limit, 65_793)
+        ran = tool("runscript", "disassemble", given=data)
+        self.assertEqual((ran.returncode, ran.stdout.decode(), ran.stderr), (0, text, b""))
+        ran = tool("runscript", "disassemble", given=data[:4])
+        self.assertEqual(ran.stderr, b"runscript: standard input: refused 3 at 0: the setup of 4 modules has 7 words, and the script only 1\n")
+
     def test_help(self):
         ran = tool("runscript", "--help")
         self.assertEqual(ran.returncode, 0)
         self.assertIn(b"penalty limit 1", ran.stdout)
+        self.assertIn(b"return limit 5", ran.stdout)
 
     @needs_bench
     def test_the_bench_plays_what_is_assembled(self):

@@ -68,12 +68,73 @@ Left the view:
         self.assertIn("all modules, so there is no rule-follower", told(output, SETUP + "cast all\nplay 1"))
 
     def test_no_stored_run_has_a_fault(self):
-        for name, data, output in stored("vectors"):
+        for name, data, output in stored("vectors", "e06"):
             if check.refusal(data) is None:
                 with self.subTest(name):
                     account = Account(read_run(output.splitlines(True)), script.load(data, name))
                     self.assertEqual(account.faults(), [])
                     self.assertIn("agreement: ", summary(account))
+
+    def test_a_module_that_came_back(self):
+        # with u = 0 the losses of rounds 1 and 5 are judged in rounds 2 and 6, one charge of 3 is over the limit of 2, and two good rounds follow
+        data, output = (read(root("harness/data/e06/017-ok-q2." + end)) for end in ("bin", "out"))
+        self.assertEqual(summary(Account(read_run(output.decode().splitlines(True)), script.load(data, "017"))), """\
+3 modules, 13 rounds
+limits:    penalty 2, reward 3, return 2
+cast:      nobody
+limit:     kept in every round
+agreement: all rule-followers gave the same health and view in every round
+
+Charged (health 0 while in the view):
+  module 1: 1 charge in round 2
+    round 2: its word of round 1 was lost to everybody
+  module 2: 1 charge in round 6
+    round 6: its word of round 5 was lost to everybody
+
+Left the view:
+  module 1: in round 2
+  module 2: in round 6
+
+Came back into the view (2.5 ms a round):
+  module 1: in round 4, at 10 ms, after 2 rounds (5 ms) outside
+  module 2: in round 8, at 20 ms, after 2 rounds (5 ms) outside
+""")
+
+    def test_with_read_places_below_n_a_return_comes_as_much_later_as_the_charge(self):
+        # the losses of rounds 1 and 5 are judged in rounds 4 and 8, and one good round follows
+        data, output = (read(root("harness/data/e06/016-ok-q1." + end)) for end in ("bin", "out"))
+        text = summary(Account(read_run(output.decode().splitlines(True)), script.load(data, "016")))
+        self.assertTrue(text.endswith("""
+Left the view:
+  module 1: in round 4
+  module 2: in round 8
+
+Came back into the view (2.5 ms a round):
+  module 1: in round 5, at 12.5 ms, after 1 round (2.5 ms) outside
+  module 2: in round 9, at 22.5 ms, after 1 round (2.5 ms) outside
+"""))
+
+    def test_whether_returns_are_spoken_of(self):
+        gone, back = ("in", *[("1101", "1101")] * 4), ("in", *[ALL] * 4)
+        limited = SETUP.replace("reward limit 3", "reward limit 3\nreturn limit 1") + "cast none\nplay 2"
+        self.assertIn("limits:    penalty 1, reward 3, return 1\n", told(printed(gone, gone), limited))
+        self.assertTrue(told(printed(gone, gone), limited).endswith("\nCame back into the view (2.5 ms a round):\n  nobody\n"))
+        self.assertTrue(told(printed(gone, gone)).endswith("\nLeft the view:\n  module 3: in round 1\n"))
+        self.assertTrue(told(printed(gone, gone), SETUP + "cast none\nplay 2").endswith("\nLeft the view:\n  module 3: in round 1\n"))
+        line = "  module 3: in round 2, at 5 ms, after 1 round (2.5 ms) outside\n"
+        self.assertTrue(told(printed(gone, back)).endswith("\nCame back into the view (2.5 ms a round):\n" + line))
+        self.assertTrue(told(printed(gone, back), SETUP + "cast none\nplay 2").endswith(line + "  by the script's return limit nobody does (is it the script of this run?)\n"))
+
+    def test_returns_into_some_views_and_many_returns(self):
+        gone = ("0111", "0111")
+        text = told(printed(("out", *[gone] * 4), ("out", gone, ALL, gone, gone), ("out", ALL, ALL, ALL, gone)))
+        self.assertIn("  module 1: in round 2, at 5 ms, after 1 round (2.5 ms) outside, into the view of 2 only\n"
+                      "  module 1: in round 3, at 7.5 ms, after 2 rounds (5 ms) outside, into the view of 1, 3 only\n", text)
+        text = told(printed(*[("in", *[gone] * 4), ("in", *[ALL] * 4)] * 600))
+        self.assertIn("  module 1: in round 16, at 40 ms, after 1 round (2.5 ms) outside\n  module 1: 592 times more, up to round 1200\n", text)
+        self.assertEqual(text.count("outside\n"), 8)
+        text = told(printed(("in", *[gone] * 4), *[("in", *[("1111", "0111")] * 4)] * 1000, ("in", *[ALL] * 4)))
+        self.assertIn("  module 1: in round 1002, at 2,505 ms, after 1,001 rounds (2,502.5 ms) outside\n", text)
 
     def test_ranges(self):
         self.assertEqual(ranges_text([2, 5, 6, 7, 9]), "2, 5 to 7, 9")
