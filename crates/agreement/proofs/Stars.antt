@@ -31,13 +31,13 @@ use Rattle.rules.specs.Accusation.{differsAt, accusationOf, accusationsOf}
 use Rattle.rules.specs.Syndrome.{syndromeOf, votersOf, judgementOf, outgoingOf}
 use Rattle.rules.specs.Account.{charged, rewarded, awaited, accounted, accountAt, accountedAt, countersOf}
 use Rattle.presence.specs.Opening.{fresh, blank, checkOpening, openOf}
-use Rattle.presence.specs.Step.{placeOf, markOf, ownSyndrome, alignedFor, judgementFor, outgoingFor, afterRound, refusedStep, acceptedStep, testedStep, readStep, stepOf}
+use Rattle.presence.specs.Step.{placeOf, markOf, ownSyndrome, alignedFor, judgementFor, outgoingFor, afterRound, refusedStep, acceptedStep, readStep, stepOf}
 use Rattle.agreement.specs.Fault.{differ, half, heard, halfIn, breakerIn, unheardIn, within, keptOver, limit}
 use Rattle.agreement.specs.Session.{Session, RuleFollower, Bound, size, u, follows, round, bitIn, wordIn, readRound, state, health, handed, sent, keptBy, kept}
 use Rattle.agreement.specs.Stars.{digits, bound, keptTo, TestsMean, StarsRight}
 
 pub stars-right : StarsRight
-unfolding wordAt bytesOf bit pack count any all lowest array bounded andThen outcome thenTests runWord runsOf setupBytes setupOf blankSetup moduleFits markFits whole headFits headOk limitOk moduleOk markOk moduleTest checkHead checkWords checkSetup setupRoomy roomVerdict setupVerdict skewed busWord receptionOf isHeard heardRow causeIn entryOf readingOf causesOf alignedOf decision tally voteOf healthOf differsAt accusationOf accusationsOf syndromeOf votersOf judgementOf outgoingOf charged rewarded awaited accounted accountAt accountedAt countersOf rowFits penaltyFits rewardFits returnFits ownNumberOk ownOk rowOk syndromeOk rowsRoomy countersRoomy checkTail roomy stateVerdict fresh blank checkOpening openOf placeOf markOf ownSyndrome alignedFor judgementFor outgoingFor afterRound refusedStep acceptedStep testedStep readStep stepOf differ half heard halfIn breakerIn unheardIn within keptOver limit bitIn wordIn readRound state health handed sent keptBy digits bound keptTo
+unfolding wordAt bytesOf bit pack count any all lowest array bounded andThen outcome thenTests runWord runsOf setupBytes setupOf blankSetup moduleFits markFits whole headFits headOk limitOk moduleOk markOk moduleTest checkHead checkWords checkSetup setupRoomy roomVerdict setupVerdict skewed busWord receptionOf isHeard heardRow causeIn entryOf readingOf causesOf alignedOf decision tally voteOf healthOf differsAt accusationOf accusationsOf syndromeOf votersOf judgementOf outgoingOf charged rewarded awaited accounted accountAt accountedAt countersOf rowFits penaltyFits rewardFits returnFits ownNumberOk ownOk rowOk syndromeOk rowsRoomy countersRoomy checkTail roomy stateVerdict fresh blank checkOpening openOf placeOf markOf ownSyndrome alignedFor judgementFor outgoingFor afterRound refusedStep acceptedStep readStep stepOf differ half heard halfIn breakerIn unheardIn within keptOver limit bitIn wordIn readRound state health handed sent keptBy digits bound keptTo
 stars-right = refl
 
 module _ (S : Session) where

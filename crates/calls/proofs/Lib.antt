@@ -1,4 +1,5 @@
 pub mod ModuleCallLaws
 pub mod CallAnswers
 pub mod Refusals
+pub mod OutgoingImage
 pub mod ReturnCases

@@ -22,13 +22,13 @@ use Rattle.rules.specs.declared.Reading.{Reading}
 use Rattle.image.specs.Layout.{imageLength}
 use Rattle.image.specs.Check.{imageTests, checkImage}
 use Rattle.presence.specs.Opening.{fresh, blank, checkOpening, openOf}
-use Rattle.presence.specs.Step.{judgementFor, afterRound, refusedStep, acceptedStep, testedStep, readStep, stepOf}
+use Rattle.presence.specs.Step.{judgementFor, afterRound, refusedStep, acceptedStep, readStep, stepOf}
 use Rattle.presence.specs.Image.{stateOf, roomFor}
 use Rattle.presence.specs.declared.State.{State}
 use Rattle.presence.specs.declared.Opened.{Opened}
 use Rattle.presence.specs.declared.Stepped.{Stepped}
 use Rattle.presence.proofs.ValidLaws.{StateFits, valid-fits, fits-verdict}
-use Rattle.presence.proofs.StateStepLaws.{outgoing-heard, open-accepts}
+use Rattle.presence.proofs.StateStepLaws.{open-accepts}
 use Rattle.presence.proofs.ImageState.{load-valid}
 use Rattle.calls.specs.Calls.{Called, refusedCall, wrote, checkCall, openCall, stepCall, saveCall, outgoingCall, causeCall}
 use Rattle.calls.specs.Refusals.{sizeOf, hasRoom, openVerdict, stepVerdict, savingVerdict, answering, oneOf, Refusals}
@@ -130,7 +130,7 @@ module _ (setup : List ℕ) (own : ℕ) (out : List ℕ) where
 
 -- ---- step
 
--- of a state within the limits only the read and the controller bits are left to test: its word passes
+-- of a state within the limits only the read and the controller bits are left to test
 stepped-by : (st : State) (read : List ℕ) (controller : ℕ) → StateFits st
     → stepOf st read controller
     ≡ cond (eqb (length read) (st .setup .n * 4))
@@ -138,12 +138,8 @@ stepped-by : (st : State) (read : List ℕ) (controller : ℕ) → StateFits st
     (acceptedStep st (readingOf (st .setup .n) read controller) (causesOf (st .setup .n) read controller))
     (refusedStep st 10 0))
     (refusedStep st 9 0)
-unfolding stepOf readStep testedStep
-stepped-by st read controller f =
-    cond-true _ _ (ap isAccepted (fits-verdict st f))
-    ∙ ap
-    (λ (t : Stepped). cond (eqb (length read) (st .setup .n * 4)) (cond (ltb controller (2 ^ st .setup .n)) t (refusedStep st 10 0)) (refusedStep st 9 0))
-    (cond-true _ _ (outgoing-heard st (readingOf (st .setup .n) read controller) f))
+unfolding stepOf readStep
+stepped-by st read controller f = cond-true _ _ (ap isAccepted (fits-verdict st f))
 
 module _ (image read : List ℕ) (controller : ℕ) (out : List ℕ) where
   abbrev st : State

@@ -51,7 +51,7 @@ openCall setup own out =
     (refusedCall (opened .number) (opened .index) out))
     (refusedCall (v .number) (v .index) out)
 
--- step: 1 to 8, 9 for the output or the read, 10, 11
+-- step: 1 to 8, 9 for the output or the read, 10
 unfoldable pub stepCall : List ℕ → List ℕ → ℕ → List ℕ → Called
 stepCall image read controller out =
     let v = checkImage image in

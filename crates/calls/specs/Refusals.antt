@@ -1,7 +1,7 @@
 -- Which calls from C are refused, by which number at which word, and that every other call is accepted. (demand 1; document 01, "Answers
 -- and their order") Here the answers of a call stand in one chain, and so does what it writes. The definitions of specs/Calls.antt go through
--- the struct that the bytes hold; once the bytes have passed their check, the struct's own check has nothing left to refuse, and its step
--- hands out no word that fails its test. Proved in proofs/Refusals.antt.
+-- the struct that the bytes hold; once the bytes have passed their check, the struct's own check has nothing left to refuse.
+-- Proved in proofs/Refusals.antt.
 use Prim.Native.Nat.{ℕ, _*_, _^_}
 use mathlib.Core.Path.{_≡_}
 use mathlib.Core.Bool.{Bool, true, false, cond, _&&_, _||_}
@@ -70,7 +70,7 @@ pub record Refusals : Type 0 where
       stepCall image read controller out ≡ answering (stepVerdict image read controller out) (judgementFor st this .health) (afterRound st this) out
   -- accepted saving writes the state that was read
   pub saving : (image out : List ℕ) → saveCall image out ≡ answering (savingVerdict image out) 0 (stateOf image) out
-  -- the numbers that a call can answer: 11 is not among them
+  -- the numbers that a call can answer
   pub setup-numbers : (setup : List ℕ) → oneOf (0 ∷ 1 ∷ 2 ∷ 3 ∷ 4 ∷ 5 ∷ 6 ∷ []) (checkCall setup .number) ≡ true
   pub opening-numbers : (setup : List ℕ) (own : ℕ) (out : List ℕ)
       → oneOf (0 ∷ 1 ∷ 2 ∷ 3 ∷ 4 ∷ 5 ∷ 6 ∷ 7 ∷ 9 ∷ []) (openCall setup own out .answer .number) ≡ true

@@ -72,7 +72,7 @@ fn refuse_image(image: &[u8]) -> Answer
     refuse(v.number, v.index)
 }
 
-// One step, from image to image: 1 to 8, 9 for the read or the output, 10, 11.
+// One step, from image to image: 1 to 8, 9 for the read or the output, 10.
 #[no_mangle]
 pub extern "C" fn presence_step(
     image: &[u8],

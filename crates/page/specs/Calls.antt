@@ -35,7 +35,7 @@ pageOpenCall setup own out page =
     let st = openOf (setupOf setup) own .state in
     withPage (eqb (c .answer .number) 0) c out page (pageOpened (st .setup .n) (st .counters .view))
 
--- step: 1 to 8, 9 for the output, the read or the page, 10, 11
+-- step: 1 to 8, 9 for the output, the read or the page, 10
 unfoldable pub pageStepCall : List ℕ → List ℕ → ℕ → List ℕ → List ℕ → PageCalled
 pageStepCall image read controller out page =
     let c = stepCall image read controller out in

@@ -36,7 +36,7 @@ pub extern "C" fn presence_page_open(
     answer
 }
 
-// One step, from image to image, with the page beside it: 1 to 8, 9 for the read, the output or the page, 10, 11.
+// One step, from image to image, with the page beside it: 1 to 8, 9 for the read, the output or the page, 10.
 #[no_mangle]
 pub extern "C" fn presence_page_step(
     image: &[u8],

@@ -2,6 +2,7 @@ pub mod SmallLaws
 pub mod StateWords
 pub mod ValidLaws
 pub mod StateStepLaws
+pub mod Outgoing
 pub mod StateRoundLaws
 pub mod SaveLaws
 pub mod ImageState

@@ -29,7 +29,7 @@ use Rattle.image.specs.Counters.{zeroCounters}
 use Rattle.image.proofs.ReturnLaws.{return-small}
 use Rattle.presence.specs.Valid.{stateVerdict, Valid}
 use Rattle.presence.specs.Opening.{fresh, blank, checkOpening, openOf}
-use Rattle.presence.specs.Step.{skewOf, placeOf, ownSyndrome, alignedFor, judgementFor, outgoingFor, afterRound, refusedStep, acceptedStep, testedStep, readStep, stepOf}
+use Rattle.presence.specs.Step.{skewOf, placeOf, ownSyndrome, alignedFor, judgementFor, outgoingFor, afterRound, refusedStep, acceptedStep, readStep, stepOf}
 use Rattle.presence.specs.declared.State.{State}
 use Rattle.presence.specs.declared.Opened.{Opened}
 use Rattle.presence.specs.declared.Stepped.{Stepped}
@@ -76,23 +76,18 @@ in-range st f j h =
     fits-in-range (st .setup .p) (st .setup .r) _ _ (f .setup .p-most) (f .setup .r-most) (f .setup .each j h .most)
     (return-small _ _ _ (f .setup .q-most) (f .counters .returns .fits j h)) (f .counters .accounts j h)
 
--- ---- rules 7 to 9
+-- ---- the round
 
-module _ (st : State) (this : Reading) (causes : List ℕ) {j : Judgement} {word : ℕ} (e : j ≡ judgementFor st this) (w : word ≡ outgoingFor st this) where
-  pub tested-accepted : {next : State} → next ≡ afterRound st this → wordHeard (st .setup .n) word ≡ true
-      → _≡_ {A = Stepped} (record { number = 0; index = 0; health = j .health; accusations = j .accusations; word = word; causes = causes; state = next })
-      (testedStep st this causes)
-  unfolding testedStep acceptedStep
-  tested-accepted {next} n t =
-      let made : (k : Judgement) (x : ℕ) (s : State) → Stepped =
-      λ k x s. record { number = 0; index = 0; health = k .health; accusations = k .accusations; word = x; causes = causes; state = s }
-      in
-      ap (λ (k : Judgement). made k word next) e ∙ ap₂ (made (judgementFor st this)) w n
-      ∙ sym (cond-true _ _ (ap (λ (x : ℕ). wordHeard (st .setup .n) x) (sym w) ∙ t))
-
-  pub tested-refused : {r : Stepped} → r ≡ refusedStep st 11 0 → wordHeard (st .setup .n) word ≡ false → r ≡ testedStep st this causes
-  unfolding testedStep
-  tested-refused h f = h ∙ sym (cond-false _ _ (ap (λ (x : ℕ). wordHeard (st .setup .n) x) (sym w) ∙ f))
+pub round-made : (st : State) (this : Reading) (causes : List ℕ) {j : Judgement} {word : ℕ} {next : State} → j ≡ judgementFor st this
+    → word ≡ outgoingFor st this → next ≡ afterRound st this
+    → _≡_ {A = Stepped} (record { number = 0; index = 0; health = j .health; accusations = j .accusations; word = word; causes = causes; state = next })
+    (acceptedStep st this causes)
+unfolding acceptedStep
+round-made st this causes {j} {word} {next} e w n =
+    let made : (k : Judgement) (x : ℕ) (s : State) → Stepped =
+    λ k x s. record { number = 0; index = 0; health = k .health; accusations = k .accusations; word = x; causes = causes; state = s }
+    in
+    ap (λ (k : Judgement). made k word next) e ∙ ap₂ (made (judgementFor st this)) w n
 
 -- ---- 9 and 10
 
@@ -106,7 +101,7 @@ module _ (st : State) (read : List ℕ) (controller : ℕ) {r : Stepped} where
   read-controller h l c =
       h ∙ sym (cond-true _ _ (eq-eqb (length read) (st .setup .n * 4) l) ∙ cond-false _ _ (le-ltb controller (2 ^ st .setup .n) c))
 
-  pub read-taken : r ≡ testedStep st (readingOf (st .setup .n) read controller) (causesOf (st .setup .n) read controller) → length read ≡ st .setup .n * 4 → controller < 2 ^ st .setup .n
+  pub read-taken : r ≡ acceptedStep st (readingOf (st .setup .n) read controller) (causesOf (st .setup .n) read controller) → length read ≡ st .setup .n * 4 → controller < 2 ^ st .setup .n
       → r ≡ readStep st read controller
   unfolding readStep
   read-taken h l c =

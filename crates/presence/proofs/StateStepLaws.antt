@@ -21,7 +21,7 @@ use Rattle.rules.specs.Hearing.{wordHeard, readingOf, causesOf}
 use Rattle.rules.specs.Syndrome.{outgoingOf}
 use Rattle.presence.specs.Valid.{stateVerdict, Valid}
 use Rattle.presence.specs.Opening.{fresh, blank, checkOpening, openOf}
-use Rattle.presence.specs.Step.{skewOf, markOf, ownSyndrome, judgementFor, outgoingFor, afterRound, refusedStep, acceptedStep, testedStep, readStep, stepOf}
+use Rattle.presence.specs.Step.{skewOf, markOf, ownSyndrome, judgementFor, outgoingFor, afterRound, refusedStep, acceptedStep, readStep, stepOf}
 use Rattle.rules.specs.declared.Reading.{Reading}
 use Rattle.presence.specs.declared.State.{State}
 use Rattle.presence.specs.declared.Opened.{Opened}
@@ -38,7 +38,7 @@ pub own-after : (st : State) (this : Reading)
 unfolding ownSyndrome afterRound
 own-after st this = refl
 
--- A valid state hands out no word that fails its test.
+-- A valid state hands out no word that a receiver would not hear.
 pub outgoing-heard : (st : State) (this : Reading) → StateFits st → wordHeard (st .setup .n) (outgoingFor st this) ≡ true
 unfolding outgoingFor outgoingOf judgementFor
 outgoing-heard st this f =
@@ -50,26 +50,23 @@ outgoing-heard st this f =
 -- a valid state, N read words and no controller bit at N or above
 pub step-accepts : (st : State) (read : List ℕ) (controller : ℕ) → StateFits st → length read ≡ st .setup .n * 4 → controller < 2 ^ st .setup .n
     → stepOf st read controller ≡ acceptedStep st (readingOf (st .setup .n) read controller) (causesOf (st .setup .n) read controller)
-unfolding stepOf readStep testedStep
+unfolding stepOf readStep
 step-accepts st read controller f l h =
-    let this = readingOf (st .setup .n) read controller in
     cond-true _ _ (ap isAccepted (fits-verdict st f))
     ∙ cond-true _ _ (eq-eqb (length read) (st .setup .n * 4) l)
     ∙ cond-true _ _ (lt-ltb controller (2 ^ st .setup .n) h)
-    ∙ cond-true _ _ (outgoing-heard st this f)
 
--- by the tests of its state, its read, its controller bits and its word
-answered : State → Reading → List ℕ → Verdict → Bool → Bool → Bool → Bool → Stepped
-answered st this causes v a b c d =
-    cond a (cond b (cond c (cond d (acceptedStep st this causes) (refusedStep st 11 0)) (refusedStep st 10 0)) (refusedStep st 9 0))
+-- by the tests of its state, its read and its controller bits
+answered : State → Reading → List ℕ → Verdict → Bool → Bool → Bool → Stepped
+answered st this causes v a b c =
+    cond a (cond b (cond c (acceptedStep st this causes) (refusedStep st 10 0)) (refusedStep st 9 0))
     (refusedStep st (v .number) (v .index))
 
 pub step-refused : (st : State) (read : List ℕ) (controller : ℕ) → stepOf st read controller .number ≢ 0
     → stepOf st read controller .state ≡ st
-unfolding stepOf readStep testedStep acceptedStep refusedStep answered
+unfolding stepOf readStep acceptedStep refusedStep answered
 step-refused st read controller no-zero =
-    go (isAccepted v) (eqb (length read) (st .setup .n * 4)) (ltb controller (2 ^ st .setup .n))
-    (wordHeard (st .setup .n) (outgoingFor st this)) no-zero
+    go (isAccepted v) (eqb (length read) (st .setup .n * 4)) (ltb controller (2 ^ st .setup .n)) no-zero
   where
     v : Verdict
     v = stateVerdict st
@@ -80,20 +77,18 @@ step-refused st read controller no-zero =
     causes : List ℕ
     causes = causesOf (st .setup .n) read controller
 
-    go : (a b c d : Bool) → answered st this causes v a b c d .number ≢ 0 → answered st this causes v a b c d .state ≡ st
-    go true true true true h = absurd (h refl)
-    go true true true false h = refl
-    go true true false d h = refl
-    go true false c d h = refl
-    go false b c d h = refl
+    go : (a b c : Bool) → answered st this causes v a b c .number ≢ 0 → answered st this causes v a b c .state ≡ st
+    go true true true h = absurd (h refl)
+    go true true false h = refl
+    go true false c h = refl
+    go false b c h = refl
 
 -- an accepted step is one of a valid state
 pub step-accepted : (st : State) (read : List ℕ) (controller : ℕ) → stepOf st read controller .number ≡ 0
     → Valid st × (stepOf st read controller ≡ acceptedStep st (readingOf (st .setup .n) read controller) (causesOf (st .setup .n) read controller))
-unfolding stepOf readStep testedStep acceptedStep refusedStep answered
+unfolding stepOf readStep acceptedStep refusedStep answered
 step-accepted st read controller zero =
-    go (isAccepted v) (eqb (length read) (st .setup .n * 4)) (ltb controller (2 ^ st .setup .n))
-    (wordHeard (st .setup .n) (outgoingFor st this)) refl zero
+    go (isAccepted v) (eqb (length read) (st .setup .n * 4)) (ltb controller (2 ^ st .setup .n)) refl zero
   where
     v : Verdict
     v = stateVerdict st
@@ -104,17 +99,16 @@ step-accepted st read controller zero =
     causes : List ℕ
     causes = causesOf (st .setup .n) read controller
 
-    go : (a b c d : Bool) → isAccepted v ≡ a → answered st this causes v a b c d .number ≡ 0
-        → (v .number ≡ 0) × (answered st this causes v a b c d ≡ acceptedStep st this causes)
-    go true true true true e z = (eqb-true (v .number) 0 e, refl)
-    go true true true false e z = absurd (omega arith)
-    go true true false d e z = absurd (omega arith)
-    go true false c d e z = absurd (omega arith)
-    go false b c d e z = absurd (eqb-false (v .number) 0 e z)
+    go : (a b c : Bool) → isAccepted v ≡ a → answered st this causes v a b c .number ≡ 0
+        → (v .number ≡ 0) × (answered st this causes v a b c ≡ acceptedStep st this causes)
+    go true true true e z = (eqb-true (v .number) 0 e, refl)
+    go true true false e z = absurd (omega arith)
+    go true false c e z = absurd (omega arith)
+    go false b c e z = absurd (eqb-false (v .number) 0 e z)
 
 -- with N read words
 pub step-whole : (st : State) (read : List ℕ) (controller : ℕ) → stepOf st read controller .number ≡ 0 → length read ≡ st .setup .n * 4
-unfolding stepOf readStep testedStep refusedStep
+unfolding stepOf readStep refusedStep
 step-whole st read controller zero = eqb-true (length read) (st .setup .n * 4) (go _ (isAccepted v) (eqb (length read) (st .setup .n * 4)) refl zero)
   where
     v : Verdict

@@ -2,4 +2,5 @@ pub mod Opening
 pub mod Image
 pub mod Valid
 pub mod Step
+pub mod Outgoing
 pub mod RoundTrip

@@ -1,4 +1,4 @@
--- One step of a module: rules 1 to 9 in their order, and the answers 9, 10 and 11. (document 01, "One step, round k")
+-- One step of a module: rules 1 to 8 in their order, and the answers 9 and 10. (document 01, "One step, round k"; document 02, E7: no rule 9)
 use Prim.Native.Nat.{ℕ, _-_, _*_, _^_}
 use mathlib.Core.Bool.{Bool, cond}
 use mathlib.Core.List.{List}
@@ -7,7 +7,7 @@ use lib.Dec.{eqb, ltb}
 use Rattle.words.specs.Bits.{bit}
 use Rattle.words.specs.Verdict.{isAccepted}
 use Rattle.rules.specs.Lag.{skewed}
-use Rattle.rules.specs.Hearing.{wordHeard, readingOf, causesOf}
+use Rattle.rules.specs.Hearing.{readingOf, causesOf}
 use Rattle.rules.specs.Alignment.{alignedOf}
 use Rattle.rules.specs.Syndrome.{judgementOf, outgoingOf}
 use Rattle.rules.specs.Account.{countersOf}
@@ -79,16 +79,12 @@ acceptedStep st this causes = record {
   state = afterRound st this;
 }
 
--- rule 9: the outgoing word is tested as in rule 2, else number 11 with index 0
-unfoldable pub testedStep : State → Reading → List ℕ → Stepped
-testedStep st this causes = cond (wordHeard (st .setup .n) (outgoingFor st this)) (acceptedStep st this causes) (refusedStep st 11 0)
-
 -- 9: a read of other than N words; 10: a controller bit at N or above; both with index 0
 unfoldable pub readStep : State → List ℕ → ℕ → Stepped
 readStep st read controller =
     cond (eqb (length read) (st .setup .n * 4))
     (cond (ltb controller (2 ^ st .setup .n))
-    (testedStep st (readingOf (st .setup .n) read controller) (causesOf (st .setup .n) read controller))
+    (acceptedStep st (readingOf (st .setup .n) read controller) (causesOf (st .setup .n) read controller))
     (refusedStep st 10 0))
     (refusedStep st 9 0)
 

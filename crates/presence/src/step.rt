@@ -1,4 +1,4 @@
-// One round at a module: rules 1 to 9 in their order.
+// One round at a module: rules 1 to 8 in their order.
 use crate::State;
 use crate::Stepped;
 use rules::Judgement;
@@ -8,7 +8,7 @@ use words::bits::pick;
 use words::bits::power;
 ghost use mathlib.Core.Path.{_≡_};
 ghost use Rattle.presence.specs.Valid.{Valid};
-ghost use Rattle.presence.specs.Step.{placeOf, markOf, judgementFor, outgoingFor, afterRound, refusedStep, testedStep, readStep, stepOf};
+ghost use Rattle.presence.specs.Step.{placeOf, markOf, judgementFor, outgoingFor, afterRound, refusedStep, acceptedStep, readStep, stepOf};
 
 impl State {
     // The module's own read place.
@@ -90,29 +90,24 @@ impl State {
         }
     }
 
-    // A round, and rule 9: the outgoing word is tested. The causes are handed on.
-    fn tested(self, this: Reading, causes: [u32; 16]) -> Stepped
+    // A round. The causes are handed on.
+    fn played(self, this: Reading, causes: [u32; 16]) -> Stepped
         requires { ⌜ Valid self ⌝ }
-        ensures { λ r. ⌜ r ≡ testedStep self this causes ⌝ }
+        ensures { λ r. ⌜ r ≡ acceptedStep self this causes ⌝ }
     {
-        let setup = self.setup;
         let j = self.judged(this);
         let word = self.outgoing(this, j);
-        let sent = rules::hearing::receive(setup.n, true, word);
-        if sent.is_heard() {
-            let accusations = j.accusations;
-            let state = self.after(this, j);
-            return Stepped {
-                number: 0,
-                index: 0,
-                health: j.health,
-                accusations,
-                word,
-                causes,
-                state,
-            };
+        let accusations = j.accusations;
+        let state = self.after(this, j);
+        Stepped {
+            number: 0,
+            index: 0,
+            health: j.health,
+            accusations,
+            word,
+            causes,
+            state,
         }
-        self.refused(11, 0)
     }
 
     // 9 for a read of other than N words, 10 for a controller bit at N or above, then the round.
@@ -129,7 +124,7 @@ impl State {
             return self.refused(10, 0);
         }
         let causes = rules::hearing::causes(n, read, controller);
-        self.tested(rules::hearing::reading(n, read, controller), causes)
+        self.played(rules::hearing::reading(n, read, controller), causes)
     }
 
     // One step of any state: one outside the limits is refused first.

@@ -3,7 +3,7 @@ use native.Mathlib.Omega.{arith}
 use borrow.Author.Needs.{needs}
 use mathlib.Core.Path.{ap₂, _∙_, subst}
 use Prim.Native.Nat.{ℕ, _≤_, _<_}
-use Rattle.presence.specs.Step.{testedStep}
+use Rattle.presence.specs.Step.{acceptedStep}
 use Rattle.presence.proofs.ValidLaws.{valid-fits}
 use Rattle.presence.proofs.StateRoundLaws.{read-length, read-controller, read-taken}
 use Rattle.presence.proofs.State.stepped.Statement.{statement}
@@ -39,17 +39,17 @@ causes-requires c κs = (valid-fits _ (c .before .before .before .before .before
 reading-requires : tie.Need-reading-requires
 reading-requires c κs = (valid-fits _ (c .before .before .before .before .before .before .pre) .setup .most, c .before .before .before .if1 .left)
 
-tested-requires : tie.Need-tested-requires
-tested-requires c κs = search needs
+played-requires : tie.Need-played-requires
+played-requires c κs = search needs
 
 returns-3 : tie.Need-returns-3
 returns-3 c =
     let i = c .before .before .before in
     let a = i .before .before .before .before .before .args in
-    read-taken _ _ _ (c .tested .ensures ∙ ap₂ (testedStep (a .self)) (c .before .reading .ensures) (c .before .before .causes .ensures)) (i .before .before .if1 .left)
+    read-taken _ _ _ (c .played .ensures ∙ ap₂ (acceptedStep (a .self)) (c .before .reading .ensures) (c .before .before .causes .ensures)) (i .before .before .if1 .left)
     (subst (λ (x : ℕ). a .controller < x) (i .before .power .ensures) (i .if2 .left))
 
 pub stepped-spec : {M : Type 1} → statement M
 stepped-spec =
     tie.close
-    (tie.spec mul-if1 refused-requires returns power-requires refused-requires-2 returns-2 causes-requires reading-requires tested-requires returns-3)
+    (tie.spec mul-if1 refused-requires returns power-requires refused-requires-2 returns-2 causes-requires reading-requires played-requires returns-3)

@@ -1,0 +1,17 @@
+-- The word that C reads from an accepted image is heard by every receiver whose controller bit for it is 1. (document 02, E7)
+-- Proved in proofs/OutgoingImage.antt.
+use mathlib.Core.Path.{_≡_}
+use mathlib.Core.Bool.{true}
+use mathlib.Core.List.{List}
+use Prim.Native.Nat.{ℕ}
+use Rattle.rules.specs.Hearing.{wordHeard}
+use Rattle.calls.specs.Calls.{outgoingCall, causeCall}
+use Rattle.calls.specs.Refusals.{sizeOf}
+
+-- of all bytes
+pub record OutgoingImage : Type 0 where
+  -- by rule 2
+  pub heard : (image : List ℕ) → outgoingCall image .number ≡ 0 → wordHeard (sizeOf image) (outgoingCall image .word) ≡ true
+  -- by the call that answers why a word is not heard: it is
+  pub cause : (image : List ℕ) → outgoingCall image .number ≡ 0
+      → (causeCall (sizeOf image) 1 (outgoingCall image .word) .number ≡ 0) × (causeCall (sizeOf image) 1 (outgoingCall image .word) .cause ≡ 0)
