@@ -30,7 +30,7 @@
  * Nothing is kept between calls: the result of a call and the bytes it writes
  * follow from its arguments alone.  The functions use no heap, no static
  * variables and no C library calls.  presence_step takes 2,304 bytes of stack
- * (measured, for every N), presence_page_step 3,264; no other call takes more
+ * (measured, for every N), presence_page_step 2,736; no other call takes more
  * than 1,728.
  *
  * Instructions of an accepted presence_step and presence_page_step (page),
@@ -40,11 +40,11 @@
  * than 8, 10 and 11 more than 12, 11 and 13 to 15 more than 16.
  *
  *    N   step   page        N   step   page        N   step   page
- *    2  1,587  1,824        7  2,866  3,165       12  2,859  3,165
- *    3  1,936  2,189        8  2,041  2,306       13  3,330  3,646
- *    4  1,697  1,954        9  2,538  2,813       14  3,679  4,011
- *    5  2,168  2,435       10  2,887  3,178       15  4,028  4,376
- *    6  2,517  2,800       11  3,236  3,543       16  3,119  3,431
+ *    2  1,551  1,745        7  2,828  3,092       12  2,845  3,086
+ *    3  1,891  2,114        8  2,018  2,222       13  3,309  3,576
+ *    4  1,684  1,864        9  2,511  2,738       14  3,649  3,945
+ *    5  2,148  2,354       10  2,851  3,107       15  3,989  4,314
+ *    6  2,488  2,723       11  3,191  3,476       16  3,091  3,355
  *
  *
  * CALLS AT THE SAME TIME
@@ -295,8 +295,8 @@
  *        4 included)
  *   10   controller has a bit at N or above; that of        0
  *        presence_read_cause is not 0 or 1
- *   11   the outgoing word of the step would not be heard   0
- *        by rule; no arguments are known that give this
+ *   11   retired: no call answers it; every word that a
+ *        module hands out is one that receivers hear
  *   17   byte offset that is not the start of one of the    0
  *        page's 16 words
  *   18   write outside words 2 and 3 of the page            0
@@ -384,7 +384,6 @@ extern "C" {
 #define PRESENCE_WRONG_STATE 8u
 #define PRESENCE_WRONG_BUFFER 9u
 #define PRESENCE_WRONG_CONTROLLER 10u
-#define PRESENCE_WRONG_OUTGOING 11u
 #define PRESENCE_WRONG_OFFSET 17u
 #define PRESENCE_WRONG_WRITE 18u
 
@@ -441,7 +440,7 @@ presence_answer presence_open(const uint8_t *setup, size_t setup_len,
  *                      from module j valid; bits at N or above must be 0
  *   out, out_len       output, PRESENCE_IMAGE_BYTES(N)
  * Order of the checks: 1, 2, 3, 4, 5, 6, 7, 8 (image), 9 (read and output),
- * 10 (controller), 11 (outgoing word).
+ * 10 (controller).
  * Accepted: the output holds the image after the step, and health is the
  * health vector: bit j-1 is 1 if module j was healthy.  It judges the round
  * before this one if every l is N, else the one three rounds before this one.
@@ -528,7 +527,7 @@ presence_answer presence_page_open(const uint8_t *setup, size_t setup_len,
  *   page, page_len     the page, PRESENCE_PAGE_BYTES; any bytes are taken
  *   the rest           as for presence_step
  * Order of the checks: 1, 2, 3, 4, 5, 6, 7, 8 (image), 9 (read, output and
- * page), 10 (controller), 11 (outgoing word).
+ * page), 10 (controller).
  * Refused: output and page stay as they were, and no step has been made.
  */
 presence_answer presence_page_step(const uint8_t *state, size_t state_len,

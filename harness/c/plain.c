@@ -468,10 +468,6 @@ presence_answer plain_step(const uint8_t *state, size_t state_len,
         s.row[j] = row[j];
     }
 
-    /* Rule 9. */
-    if (!is_bus_word(word_handed_out(&s), n))
-        return answer(11, 0, 0);
-
     store_state(&s, out);
     return answer(0, 0, health);
 }

@@ -123,7 +123,7 @@ fn try_open(setup: &[u8], own: u32, out: &mut [u8]) -> Result<u32, Refusal> {
     Ok(0)
 }
 
-/// Numbers 1 to 8, 9, 10, 11.
+/// Numbers 1 to 8, 9, 10.
 fn try_step(state: &[u8], read: &[u8], controller: u32, out: &mut [u8]) -> Result<Outcome, Refusal> {
     let (setup, mut state) = read_image(state)?;
     let read = words_of(read).filter(|words| words.len() == setup.n).ok_or(refusal(9, 0))?;
@@ -156,7 +156,7 @@ fn try_page_open(setup: &[u8], own: u32, out: &mut [u8], page: &mut [u8]) -> Res
     Ok(health)
 }
 
-/// Numbers 1 to 8, 9 for the read, the output or the page, 10, 11.
+/// Numbers 1 to 8, 9 for the read, the output or the page, 10.
 fn try_page_step(
     state: &[u8],
     read: &[u8],

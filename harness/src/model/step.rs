@@ -1,5 +1,5 @@
-//! One step of one module: rules 1 to 9, struck-off modules, why a word was not heard, and modules that come back (document 02, E4, E5, E6).
-//! Numbers 10 and 11.
+//! One step of one module: rules 1 to 8, struck-off modules, why a word was not heard, and modules that come back (document 02, E4, E5, E6).
+//! Number 10.
 
 use super::setup::Setup;
 use super::state::{Entry, State};
@@ -156,14 +156,10 @@ fn new_syndrome(n: usize, aligned: &[Entry; MAX], accused: &[u32; MAX]) -> u32 {
     (1..=n).filter(right).fold(0, |syndrome, j| syndrome | only(j))
 }
 
-/// Rules 7 and 9: the outgoing word, 11 if it would not be heard.
-fn outgoing_word(n: usize, send_mark: bool, latest: u32, syndrome: u32) -> Result<u32, Refusal> {
+/// Rule 7: the outgoing word.
+fn outgoing_word(send_mark: bool, latest: u32, syndrome: u32) -> u32 {
     let handed = if send_mark { latest } else { syndrome };
-    let word = Vector { kind: 5, bits: handed }.word();
-    if heard_word(n, word).is_none() {
-        return Err(refusal(11, 0));
-    }
-    Ok(word)
+    Vector { kind: 5, bits: handed }.word()
 }
 
 /// Rule 8 for one module that it finds in the view.
@@ -223,8 +219,8 @@ pub fn step(setup: &Setup, state: &mut State, read: &[u32], controller: u32) -> 
     let accused = accusations(n, &rows, health);
     let syndrome = new_syndrome(n, &aligned, &accused);
 
-    // Rules 7 and 9 come before 8: a refusal leaves the counters.
-    let word = outgoing_word(n, own.send_mark, state.latest, syndrome)?;
+    // Rule 7.
+    let word = outgoing_word(own.send_mark, state.latest, syndrome);
 
     // Rule 8, on the view that it finds.
     for j in 1..=n {
