@@ -14,6 +14,12 @@ def told(output, text=None):
     return summary(Account(read_run(output.splitlines(True)), loaded))
 
 
+def told_of(name):
+    """The summary of a stored run with a return limit."""
+    data, output = (read(root(f"harness/data/e06/{name}.{end}")) for end in ("bin", "out"))
+    return summary(Account(read_run(output.decode().splitlines(True)), script.load(data, name)))
+
+
 SETUP = SHEET.split("cast")[0]
 ALL = ("1111", "1111")
 
@@ -77,8 +83,7 @@ Left the view:
 
     def test_a_module_that_came_back(self):
         # with u = 0 the losses of rounds 1 and 5 are judged in rounds 2 and 6, one charge of 3 is over the limit of 2, and two good rounds follow
-        data, output = (read(root("harness/data/e06/017-ok-q2." + end)) for end in ("bin", "out"))
-        self.assertEqual(summary(Account(read_run(output.decode().splitlines(True)), script.load(data, "017"))), """\
+        self.assertEqual(told_of("017-ok-q2"), """\
 3 modules, 13 rounds
 limits:    penalty 2, reward 3, return 2
 cast:      nobody
@@ -102,9 +107,7 @@ Came back into the view (2.5 ms a round):
 
     def test_with_read_places_below_n_a_return_comes_as_much_later_as_the_charge(self):
         # the losses of rounds 1 and 5 are judged in rounds 4 and 8, and one good round follows
-        data, output = (read(root("harness/data/e06/016-ok-q1." + end)) for end in ("bin", "out"))
-        text = summary(Account(read_run(output.decode().splitlines(True)), script.load(data, "016")))
-        self.assertTrue(text.endswith("""
+        self.assertTrue(told_of("016-ok-q1").endswith("""
 Left the view:
   module 1: in round 4
   module 2: in round 8

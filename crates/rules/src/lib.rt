@@ -43,8 +43,8 @@ pub struct Account {
     pub returns: u32,
 }
 
-// The counters of all modules, and the view. It stands between the arrays since the compiler copies what lies between two single numbers as one
-// block, and calls memcpy of the C library for a block of more than 128 bytes.
+// The counters of all modules, and the view. It stands between the arrays since three of them in a row were copied by calls of memcpy, which
+// the library does not have.
 pub struct Counters {
     pub penalty: [u32; 16],
     pub reward: [u32; 16],
