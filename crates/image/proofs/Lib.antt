@@ -1,5 +1,7 @@
 pub mod SingleWords
 pub mod RowLaws
+pub mod CounterSectionLaws
+pub mod PenaltyLaws
 pub mod ReturnLaws
 pub mod CounterLaws
 pub mod TailLaws

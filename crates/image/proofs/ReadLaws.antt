@@ -5,22 +5,21 @@ use mathlib.Core.List.{List}
 use Prim.Native.Nat.{ℕ, _+_, _<_, _≤_}
 use lib.ListN.{getD}
 use Rattle.words.specs.Word.{wordAt}
+use Rattle.words.specs.Bits.{bit}
 use Rattle.words.specs.Array.{array}
 use Rattle.words.specs.Count.{all}
 use Rattle.words.specs.Verdict.{allRight}
 use Rattle.words.proofs.ArrayLaws.{array-at}
-use Rattle.words.proofs.CountLaws.{all-both}
-use Rattle.words.proofs.VerdictLaws.{and-end}
-use Rattle.setup.specs.Layout.{penaltyLimitAt, rewardLimitAt, modulesAt}
+use Rattle.setup.specs.Layout.{headAt, penaltyLimitAt, rewardLimitAt, modulesAt}
 use Rattle.setup.specs.Limits.{mostPenaltyLimit, mostRewardLimit}
-use Rattle.setup.specs.Setup.{sizeIn, limitIn, criticalityIn, setupOf}
+use Rattle.setup.specs.Setup.{returnLimitIn, sizeIn, limitIn, criticalityIn, setupOf}
 use Rattle.setup.specs.Check.{limitOk, moduleTest, wordTests}
 use Rattle.setup.specs.declared.Setup.{Setup}
-use Rattle.image.specs.Layout.{ownAt, latestAt, earlierAt}
-use Rattle.image.specs.Words.{ownNumberOk, ownOk, syndromeOk}
+use Rattle.image.specs.Layout.{ownAt, latestAt, earlierAt, penaltiesAt, rewardsAt, returnsAt}
+use Rattle.image.specs.Words.{viewIn, ownNumberOk, ownOk, syndromeOk}
 use Rattle.image.specs.Rows.{rowTest}
-use Rattle.image.specs.Returns.{returnTest}
-use Rattle.image.specs.Counters.{counterOf, counterIn, penaltyFits, rewardFits, penaltyTest, rewardTest, counterTests}
+use Rattle.image.specs.CounterSection.{counterIn, CounterSection, limitsIn, accountIn}
+use Rattle.image.specs.Counters.{counterTests}
 use Rattle.image.specs.Check.{wordsRight, imageTests}
 
 -- ---- the tests, in the order of the pass
@@ -72,23 +71,25 @@ pub read-criticality : {setup : Setup} (s : List ℕ) {n : ℕ} → n ≡ sizeIn
 unfolding setupOf
 read-criticality s h e = rw h (ap (λ (x : Setup). x .criticality) e)
 
--- the three tests of every module in one pass
-pub counters-right : (w : ℕ → ℕ) (n : ℕ) → all n (λ j. penaltyTest w n j && (rewardTest w n j && returnTest w n j)) ≡ allRight (counterTests w n)
-unfolding allRight
-counters-right w n =
-    all-both n (penaltyTest w n) (λ j. rewardTest w n j && returnTest w n j)
-    ∙ ap (λ (b : Bool). all n (penaltyTest w n) && b)
-    (all-both n (rewardTest w n) (returnTest w n) ∙ ap (λ (b : Bool). all n (rewardTest w n) && b) (sym (and-end (all n (returnTest w n)))))
-
 -- a word at a place that has a name
 pub word-by : {at place w : ℕ} (s : List ℕ) (j : ℕ) → at ≡ place → w ≡ wordAt s (at + j) → w ≡ wordAt s (place + j)
 word-by s j a e = e ∙ ap (λ (x : ℕ). wordAt s (x + j)) a
 
--- tests of words that are already read
-pub penalty-by : {b v v′ : Bool} {p p′ k k′ w w′ : ℕ} (j : ℕ) → p ≡ p′ → k ≡ k′ → v ≡ v′ → w ≡ w′
-    → b ≡ counterOf 13 j w && penaltyFits p k v (counterIn w) → b ≡ counterOf 13 j w′ && penaltyFits p′ k′ v′ (counterIn w′)
-penalty-by j q e f g h = rw (q, e, f, g) at h
+-- and its counter
+pub counter-by : {at place v : ℕ} (s : List ℕ) (j : ℕ) → at ≡ place → v ≡ counterIn (wordAt s (at + j)) → v ≡ counterIn (wordAt s (place + j))
+counter-by s j a e = e ∙ ap (λ (x : ℕ). counterIn (wordAt s (x + j))) a
 
-pub reward-by : {b : Bool} {limit limit′ x x′ w w′ : ℕ} (j : ℕ) → limit ≡ limit′ → x ≡ x′ → w ≡ w′
-    → b ≡ counterOf 14 j w && rewardFits limit x (counterIn w) → b ≡ counterOf 14 j w′ && rewardFits limit′ x′ (counterIn w′)
-reward-by j q e f h = rw (q, e, f) at h
+-- what the counters of a module are tested by, and its account, field by field
+module _ (w : ℕ → ℕ) (n j : ℕ) where
+  pub limits-by : {p r q k : ℕ} → p ≡ limitIn (w penaltyLimitAt) → r ≡ limitIn (w rewardLimitAt) → q ≡ returnLimitIn (w headAt)
+      → k ≡ criticalityIn (w (modulesAt + j)) → record { p = p; r = r; q = q; criticality = k } ≡ limitsIn w j
+  limits-by p r q k = λ i. record { p = p i; r = r i; q = q i; criticality = k i }
+
+  pub account-by : {b : Bool} {x y z : ℕ} → b ≡ bit (viewIn (w (ownAt n))) j → x ≡ counterIn (w (penaltiesAt n + j))
+      → y ≡ counterIn (w (rewardsAt n + j)) → z ≡ counterIn (w (returnsAt n + j))
+      → record { present = b; penalty = x; reward = y; returns = z } ≡ accountIn w n j
+  account-by b x y z = λ i. record { present = b i; penalty = x i; reward = y i; returns = z i }
+
+-- one counter of the first j modules
+abbrev pub valuesTo : (ℕ → ℕ) → ℕ → ℕ → CounterSection → List ℕ
+valuesTo w n j x = array j (λ k. counterIn (w (x .at n + k)))

@@ -6,31 +6,31 @@ use mathlib.Core.Logic.{_⊎_, inl, inr, ⊎-elim}
 use Prim.Native.Nat.{ℕ, _<_, _≤_}
 use native.Mathlib.Omega.{arith}
 use native.Mathlib.Nat.{eq-zero-or-pos}
+use lib.ListN.{getD}
 use lib.Dec.{eqb, ltb}
 use borrow.Author.Tests.{eqb-true, eq-eqb, ltb-true, lt-ltb}
 use Rattle.words.specs.Word.{wordAt}
+use Rattle.words.specs.Bits.{bit}
 use Rattle.words.proofs.Truth.{and-true, or-l, or-r, or-cases}
-use Rattle.words.proofs.ArrayLaws.{clearFrom, array-clear}
 use Rattle.setup.specs.Layout.{headAt}
 use Rattle.setup.specs.Limits.{mostReturnLimit}
 use Rattle.setup.specs.Setup.{returnLimitIn, setupOf}
 use Rattle.setup.specs.declared.Setup.{Setup}
 use Rattle.rules.specs.Account.{accountAt, countersOf}
 use Rattle.rules.specs.declared.Account.{Account}
-use Rattle.rules.specs.declared.Counters.{Counters}
 use Rattle.rules.proofs.AccountLaws.{CountFits, counts-fit}
-use Rattle.image.specs.Returns.{returnFits, returnOk}
+use Rattle.image.specs.Returns.{returnFits, returnCounts}
+use Rattle.image.specs.Counters.{countersIn}
+use Rattle.image.proofs.CounterSectionLaws.{SectionHolds}
 
 -- ---- one return count
 
 -- in the view it is 0
 pub return-none : (q count : ℕ) → returnFits q true count ≡ true → count ≡ 0
-unfolding returnFits
 return-none q count e = ⊎-elim (λ (t : eqb count 0 ≡ true). eqb-true count 0 t) (λ (t : false ≡ true). absurd (false≢true t)) (or-cases (eqb count 0) false e)
 
 -- outside the view it is 0 or below Q
 pub return-below : (q count : ℕ) → returnFits q false count ≡ true → (count ≡ 0) ⊎ (count < q)
-unfolding returnFits
 return-below q count e =
     ⊎-elim (λ (t : eqb count 0 ≡ true). inl (eqb-true count 0 t)) (λ (t : ltb count q ≡ true). inr (ltb-true count q t)) (or-cases (eqb count 0) (ltb count q) e)
 
@@ -40,7 +40,6 @@ return-is q true count e = inl (return-none q count e)
 return-is q false count e = ⊎-elim (λ (z : count ≡ 0). inl z) (λ (h : count < q). inr (refl, h)) (return-below q count e)
 
 pub return-of : (q : ℕ) (present : Bool) (count : ℕ) → (count ≡ 0) ⊎ ((present ≡ false) × (count < q)) → returnFits q present count ≡ true
-unfolding returnFits
 return-of q present count f =
     ⊎-elim (λ (z : count ≡ 0). or-l (eqb count 0) _ (eq-eqb count 0 z))
     (λ (h : (present ≡ false) × (count < q)). or-r (eqb count 0) _ (and-true (not present) _ (ap not (h .0)) (lt-ltb count q (h .1))))
@@ -60,31 +59,26 @@ pub return-limit : {setup : Setup} (s : List ℕ) → setup ≡ setupOf s → se
 unfolding setupOf
 return-limit s e = ap (λ (x : Setup). x .q) e
 
--- the test of a word that is already read
-pub return-by : {b v v′ : Bool} {q q′ w w′ : ℕ} (j : ℕ) → q ≡ q′ → v ≡ v′ → w ≡ w′
-    → b ≡ returnOk q v j w → b ≡ returnOk q′ v′ j w′
-return-by j e f g h = rw (e, f, g) at h
+-- ---- as rule 8 leaves it
 
--- as rule 8 leaves it
 count-fits : (q : ℕ) (a : Account) → CountFits q a → returnFits q (a .present) (a .returns) ≡ true
 count-fits q a f = go (a .present) refl
   where
     go : (b : Bool) → a .present ≡ b → returnFits q (a .present) (a .returns) ≡ true
-    go true e = return-zero q _ _ (f .present e)
+    go true e = return-zero q (a .present) (a .returns) (f .present e)
     go false e =
-        ⊎-elim (λ (z : a .returns ≡ 0). return-zero q _ _ z)
+        ⊎-elim (λ (z : a .returns ≡ 0). return-zero q (a .present) (a .returns) z)
         (λ (h : 0 < a .returns). return-of q (a .present) (a .returns) (inr (e, omega (arith, f .below)))) (eq-zero-or-pos (a .returns))
 
--- ---- those of all modules, within the limits of a setup
+-- ---- those of all modules
 
-pub record ReturnsFit (s : Setup) (c : Counters) : Type 0 where
-  pub fits : (j : ℕ) → j < s .n → returnFits (s .q) (accountAt c j .present) (accountAt c j .returns) ≡ true
-  pub none : clearFrom (s .n) (c .returns) ≡ true
-
--- those after a round, whatever they were before
-pub returns-after : (s : Setup) (health : ℕ) (c : Counters) → s .n ≤ 16 → ReturnsFit s (countersOf s health c)
-unfolding countersOf
-returns-after s health c small = record {
-  fits = λ j h. count-fits (s .q) (accountAt (countersOf s health c) j) (counts-fit s health c small j h);
-  none = array-clear (s .n) _;
+pub returns-hold : SectionHolds returnCounts
+unfolding countersIn countersOf accountAt
+returns-hold = record {
+  read = λ s n. refl;
+  zeros = λ view. refl;
+  opened = λ s j f. refl;
+  made = λ s health c. (_, refl);
+  kept = λ s health c j f fits h. count-fits (s .q) (accountAt (countersOf s health c) j) (counts-fit s health c (f .most) j h);
+  small = λ s c j f h e. omega (arith, return-small (s .q) (bit (c .view) j) (getD (c .returns) j 0) (f .q-most) e);
 }

@@ -1,20 +1,22 @@
 -- The answers of the sections, each after those before it, and the sections as they are written.
 use mathlib.Core.Path.{_≡_, refl, _∙_, sym}
 use mathlib.Core.Bool.{Bool, true, false, not}
-use mathlib.Core.List.{List, [], _∷_}
-use Prim.Native.Nat.{ℕ}
+use mathlib.Core.List.{List, [], _∷_, _++_}
+use Prim.Native.Nat.{ℕ, _+_, _*_, _^_, _<_, _≤_}
 use native.Mathlib.Omega.{arith}
 use lib.ListN.{getD}
-use Rattle.words.specs.Verdict.{verdict, accepted, single, each, andThen, outcome, thenTests, firstRefusal}
+use Rattle.words.specs.Verdict.{verdict, accepted, Test, single, each, andThen, outcome, thenTests, firstRefusal}
 use Rattle.words.specs.declared.Verdict.{Verdict}
-use Rattle.words.specs.Runs.{putRun, putRuns}
+use Rattle.words.specs.Runs.{Run, total, putRun, putRuns}
 use Rattle.words.proofs.VerdictLaws.{and-then-next, single-ok, single-refused}
 use Rattle.words.proofs.SearchLaws.{begins-refused, begins-well}
 use Rattle.rules.specs.declared.Counters.{Counters}
-use Rattle.image.specs.Layout.{ownAt, rowsAt, latestAt, earlierAt, penaltiesAt, rewardsAt, returnsAt}
+use Rattle.image.specs.Layout.{ownAt, rowsAt, latestAt, earlierAt, endAt, imageLength}
 use Rattle.image.specs.Words.{ownNumberOk, ownOk, syndromeOk}
-use Rattle.image.specs.Counters.{counterWord, counterTests, counterRuns}
-use Rattle.image.specs.Check.{sectionTest, checkTail}
+use Rattle.image.specs.CounterSection.{counterWord, CounterSection, counterTest, sectionTest, sectionRun}
+use Rattle.image.specs.Counters.{counterSections, counterTests, countersRoomy}
+use Rattle.image.specs.Check.{wordTest, checkTail}
+use Rattle.image.proofs.CounterSectionLaws.{Among, roomy-counters}
 
 -- one word after the answer v, of which b is the test
 module _ (v : Verdict) {b ok : Bool} {r : Verdict} (number : ℕ) {at place : ℕ} (z : v .number ≡ 0) (e : b ≡ ok) (p : at ≡ place) where
@@ -38,24 +40,54 @@ module _ {b ok c fit : Bool} {r : Verdict} {at place : ℕ} (e : b ≡ ok) (d : 
   own-fails f t a = word-fails accepted 8 refl d p t a ∙ begins-well 7 place (single fit 8 place ∷ []) e f
 
 module _ (w : ℕ → ℕ) (n : ℕ) where
-  pub counters-joined : (v : Verdict) {v₁ v₂ v₃ : Verdict} {a b c : ℕ} → a ≡ penaltiesAt n → v₁ ≡ andThen v (outcome (each n (sectionTest w n 13) 8 a))
-      → b ≡ rewardsAt n → v₂ ≡ andThen v₁ (outcome (each n (sectionTest w n 14) 8 b))
-      → c ≡ returnsAt n → v₃ ≡ andThen v₂ (outcome (each n (sectionTest w n 15) 8 c)) → v₃ ≡ thenTests v (counterTests w n)
-  unfolding thenTests sectionTest
-  counters-joined v a₁ e₁ a₂ e₂ a₃ e₃ = rw (e₃, e₂, e₁, a₁, a₂, a₃)
-
   pub tail-joined : {v₀ v₁ v₂ v₃ v₄ : Verdict} {a b c : ℕ}
       → v₀ ≡ firstRefusal (single (ownNumberOk n (w (ownAt n))) 7 (ownAt n) ∷ single (ownOk n (w (ownAt n))) 8 (ownAt n) ∷ [])
-      → a ≡ rowsAt n → v₁ ≡ andThen v₀ (outcome (each n (sectionTest w n 11) 8 a))
+      → a ≡ rowsAt n → v₁ ≡ andThen v₀ (outcome (each n (wordTest w n 11 a) 8 a))
       → b ≡ latestAt n → v₂ ≡ andThen v₁ (outcome (single (syndromeOk n (w b)) 8 b))
       → c ≡ earlierAt n → v₃ ≡ andThen v₂ (outcome (single (syndromeOk n (w c)) 8 c))
       → v₄ ≡ thenTests v₃ (counterTests w n) → v₄ ≡ checkTail w n
-  unfolding checkTail thenTests sectionTest
+  unfolding checkTail thenTests wordTest
   tail-joined e₀ a e₁ b e₂ c e₃ e₄ = rw (e₄, e₃, e₂, e₁, e₀, a, b, c)
 
-pub counters-written : (n : ℕ) (c : Counters) (o : List ℕ) {o₁ o₂ o₃ : List ℕ} {a b d : ℕ}
-    → a ≡ penaltiesAt n → o₁ ≡ putRun o a n (λ j. counterWord 13 j (getD (c .penalty) j 0))
-    → b ≡ rewardsAt n → o₂ ≡ putRun o₁ b n (λ j. counterWord 14 j (getD (c .reward) j 0))
-    → d ≡ returnsAt n → o₃ ≡ putRun o₂ d n (λ j. counterWord 15 j (getD (c .returns) j 0)) → o₃ ≡ putRuns o (penaltiesAt n) (counterRuns n c)
+-- ---- one section of counters after others
+
+then-last : (v : Verdict) (ts : List Test) (t : Test) → thenTests v (ts ++ (t ∷ [])) ≡ andThen (thenTests v ts) (outcome t)
+unfolding thenTests
+then-last v [] t = refl
+then-last v (u ∷ ts) t = then-last (andThen v (outcome u)) ts t
+
+put-last : (o : List ℕ) (at : ℕ) (rs : List Run) (r : Run) → putRuns o at (rs ++ (r ∷ [])) ≡ putRun (putRuns o at rs) (at + total rs) (r .count) (r .word)
+unfolding putRuns total
+put-last o at [] r =
+    let e : at + 0 ≡ at = omega arith in
+    rw e
+put-last o at (q ∷ rs) r =
+    let e : at + q .count + total rs ≡ at + (q .count + total rs) = omega arith in
+    rw (← e) (put-last (putRun o at (q .count) (q .word)) (at + q .count) rs r)
+
+pub none-tested : (v : Verdict) → v ≡ thenTests v []
+unfolding thenTests
+none-tested v = refl
+
+pub none-written : (o : List ℕ) (at : ℕ) → o ≡ putRuns o at []
 unfolding putRuns
-counters-written n c o a e₁ b e₂ d e₃ = rw (e₃, e₂, e₁, a, b, d)
+none-written o at = refl
+
+module _ (n : ℕ) (x : CounterSection) {a : ℕ} (place : a ≡ x .at n) where
+  -- tested
+  pub then-tested : {v₁ v₂ : Verdict} (w : ℕ → ℕ) (v : Verdict) (ts : List Test) → v₁ ≡ thenTests v ts
+      → v₂ ≡ andThen v₁ (outcome (each n (wordTest w n (x .kind) a) 8 a)) → wordTest w n (x .kind) (x .at n) ≡ counterTest x w n
+      → v₂ ≡ thenTests v (ts ++ (sectionTest w n x ∷ []))
+  then-tested w v ts e d is = rw (d, e, place, is) (sym (then-last v ts (sectionTest w n x)))
+
+  -- written
+  pub then-written : {o₁ o₂ : List ℕ} (c : Counters) (o : List ℕ) (at : ℕ) (rs : List Run) → o₁ ≡ putRuns o at rs
+      → o₂ ≡ putRun o₁ a n (λ j. counterWord (x .kind) j (getD (x .values c) j 0)) → x .at n ≡ at + total rs
+      → o₂ ≡ putRuns o at (rs ++ (sectionRun n c x ∷ []))
+  then-written c o at rs e d is = rw (d, e, place, is) (sym (put-last o at rs (sectionRun n c x)))
+
+-- what a writer of a section asks for
+pub room-there : {n a size : ℕ} (x : CounterSection) (c : Counters) → Among x counterSections → n ≤ 16 → countersRoomy n c ≡ true → a ≡ x .at n
+    → size ≡ imageLength n → x .kind < 16 → x .at n + n ≤ endAt n
+    → (x .kind < 16) × (n ≤ 16) × ((j : ℕ) → j < n → getD (x .values c) j 0 < 2 ^ 23) × (a < 2 ^ 16) × ((a + n) * 4 ≤ size)
+room-there x c i l e place there kind end = (kind, l, roomy-counters _ c l e .small x i, omega arith, omega arith)

@@ -1,5 +1,5 @@
 -- The check of a saved state: numbers 1 to 8 in their order, each with the index of its word. (document 01, "Answers and their order")
-use Prim.Native.Nat.{ℕ}
+use Prim.Native.Nat.{ℕ, _+_}
 use mathlib.Core.Bool.{Bool, cond, _&&_}
 use mathlib.Core.List.{List, _∷_, _++_}
 use lib.ListN.{length}
@@ -13,8 +13,8 @@ use Rattle.setup.specs.Check.{wordTests, checkHead}
 use Rattle.image.specs.Layout.{ownAt, latestAt, earlierAt, imageLength}
 use Rattle.image.specs.Words.{ownNumberOk, ownOk, syndromeOk}
 use Rattle.image.specs.Rows.{rowTest, rowTests}
-use Rattle.image.specs.Returns.{returnTest}
-use Rattle.image.specs.Counters.{penaltyTest, rewardTest, counterTests}
+use Rattle.image.specs.CounterSection.{counterOf, limitsIn, accountIn}
+use Rattle.image.specs.Counters.{counterTests, fitsBy}
 
 -- numbers 7 and 8 of the words w of an image of n modules: own number and view, rows, the two syndromes, counters
 abbrev pub tailTests : (ℕ → ℕ) → ℕ → List Test
@@ -50,7 +50,6 @@ abbrev pub wordsRight : (ℕ → ℕ) → ℕ → Bool
 wordsRight w n =
     (ownNumberOk n (w (ownAt n)) && ownOk n (w (ownAt n))) && (syndromeOk n (w (latestAt n)) && syndromeOk n (w (earlierAt n)))
 
--- The test of a word by the kind of its section, where there is one word a module; only the search through such a section names it.
-unfoldable pub sectionTest : (ℕ → ℕ) → ℕ → ℕ → ℕ → Bool
-sectionTest w n kind j =
-    cond (eqb kind 11) (rowTest w n j) (cond (eqb kind 13) (penaltyTest w n j) (cond (eqb kind 15) (returnTest w n j) (rewardTest w n j)))
+-- The test of word j of a section with one word a module, by its kind and place; only the search through such a section names it.
+unfoldable pub wordTest : (ℕ → ℕ) → ℕ → ℕ → ℕ → ℕ → Bool
+wordTest w n kind at j = cond (eqb kind 11) (rowTest w n j) (counterOf kind j (w (at + j)) && fitsBy kind (limitsIn w j) (accountIn w n j))

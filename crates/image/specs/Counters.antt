@@ -1,87 +1,76 @@
--- The counters of the modules: the words, their tests, what is read and what is written. (document 01, "What runs", kinds 13 and 14; the return counts stand in Returns.antt)
-use Prim.Native.Nat.{ℕ, _+_, _*_, _-_, _/_, _%_, _^_}
+-- The counters of the modules: their sections in their order, what all of them are read as and written as. (document 01, "What runs", kinds 13 and
+-- 14; the return counts stand in Returns.antt)
+use Prim.Native.Nat.{ℕ, _+_}
 use mathlib.Core.Path.{_≡_}
-use mathlib.Core.Bool.{Bool, not, _&&_, _||_, Bool·beq}
-use mathlib.Core.List.{List, [], _∷_}
-use lib.ListN.{getD, length, replicate}
+use mathlib.Core.Bool.{Bool, true, false, cond, not, _&&_, _||_, Bool·beq}
+use mathlib.Core.List.{List, [], _∷_, map, foldr}
+use lib.ListN.{length, replicate}
 use lib.Dec.{eqb, leb, ltb}
-use Rattle.words.specs.Word.{wordAt, kindUnit, numberUnit}
-use Rattle.words.specs.Bits.{bit}
-use Rattle.words.specs.Array.{array, bounded}
-use Rattle.words.specs.Verdict.{Test, each}
+use Rattle.words.specs.Word.{wordAt}
+use Rattle.words.specs.Verdict.{Test}
 use Rattle.words.specs.Runs.{Run}
-use Rattle.setup.specs.Layout.{penaltyLimitAt, rewardLimitAt, modulesAt}
-use Rattle.setup.specs.Setup.{limitIn, criticalityIn}
+use Rattle.rules.specs.declared.Account.{Account}
 use Rattle.rules.specs.declared.Counters.{Counters}
 use Rattle.image.specs.Layout.{ownAt, penaltiesAt, rewardsAt}
 use Rattle.image.specs.Words.{viewIn}
-use Rattle.image.specs.Returns.{returnTests, returnsIn, returnRun}
+use Rattle.image.specs.CounterSection.{CounterSection, Each, sectionTest, valuesIn, sectionRun, sectionRoomy}
+use Rattle.image.specs.Returns.{returnCounts}
+use Rattle.image.specs.declared.Limits.{Limits}
 
--- kinds 13 and 14, of module j + 1: 27..23 module, then penalty in 20..0; reward in 22..0
-abbrev pub counterWord : ℕ → ℕ → ℕ → ℕ
-counterWord kind j v = kind * kindUnit + (j + 1) * numberUnit + v
-
--- the counter in such a word, a penalty with the spare bits 22 and 21, which the check refuses
-abbrev pub counterIn : ℕ → ℕ
-counterIn w = w % numberUnit
-
--- a word of this kind, of module j + 1
-abbrev pub counterOf : ℕ → ℕ → ℕ → Bool
-counterOf kind j w = eqb (w / numberUnit) (kind * 2 ^ 5 + (j + 1))
-
--- a penalty: at most P + criticality; in the view exactly where it is not over P
-unfoldable pub penaltyFits : ℕ → ℕ → Bool → ℕ → Bool
+-- a penalty, in 20..0 of its word: at most P + criticality; in the view exactly where it is not over P
+abbrev pub penaltyFits : ℕ → ℕ → Bool → ℕ → Bool
 penaltyFits p criticality present penalty = leb penalty (p + criticality) && Bool·beq present (leb penalty p)
 
--- a reward: below R, and 0 where the penalty is 0
-unfoldable pub rewardFits : ℕ → ℕ → ℕ → Bool
+abbrev pub penalties : CounterSection
+penalties = record {
+  kind = 13;
+  at = penaltiesAt;
+  values = λ c. c .penalty;
+  fits = λ l a. penaltyFits (l .p) (l .criticality) (a .present) (a .penalty);
+}
+
+-- a reward, in 22..0 of its word: below R, and 0 where the penalty is 0
+abbrev pub rewardFits : ℕ → ℕ → ℕ → Bool
 rewardFits r penalty reward = ltb reward r && (eqb reward 0 || not (eqb penalty 0))
 
--- ---- the sections, in an image of n modules whose words are w, or whose bytes are s
+abbrev pub rewards : CounterSection
+rewards = record { kind = 14; at = rewardsAt; values = λ c. c .reward; fits = λ l a. rewardFits (l .r) (a .penalty) (a .reward) }
 
--- kind 13, the number j + 1, a penalty that fits
-abbrev pub penaltyTest : (ℕ → ℕ) → ℕ → ℕ → Bool
-penaltyTest w n j =
-    counterOf 13 j (w (penaltiesAt n + j))
-    && penaltyFits (limitIn (w penaltyLimitAt)) (criticalityIn (w (modulesAt + j))) (bit (viewIn (w (ownAt n))) j) (counterIn (w (penaltiesAt n + j)))
+-- the sections of counters, in the order of their places
+abbrev pub counterSections : List CounterSection
+counterSections = penalties ∷ rewards ∷ returnCounts ∷ []
 
--- kind 14, the number j + 1, a reward that fits the penalty
-abbrev pub rewardTest : (ℕ → ℕ) → ℕ → ℕ → Bool
-rewardTest w n j =
-    counterOf 14 j (w (rewardsAt n + j)) && rewardFits (limitIn (w rewardLimitAt)) (counterIn (w (penaltiesAt n + j))) (counterIn (w (rewardsAt n + j)))
+-- ---- of all sections
 
--- number 8 at the first wrong penalty, then at the first wrong reward, then at the first wrong return count
+-- number 8 at the first wrong counter, section after section
 abbrev pub counterTests : (ℕ → ℕ) → ℕ → List Test
-counterTests w n = each n (penaltyTest w n) 8 (penaltiesAt n) ∷ each n (rewardTest w n) 8 (rewardsAt n) ∷ returnTests w n ∷ []
+counterTests w n = map (sectionTest w n) counterSections
 
 -- read, with the view from the word of the own number
 unfoldable pub countersIn : List ℕ → ℕ → Counters
 countersIn s n = record {
   view = viewIn (wordAt s (ownAt n));
-  penalty = array n (λ j. counterIn (wordAt s (penaltiesAt n + j)));
-  reward = array n (λ j. counterIn (wordAt s (rewardsAt n + j)));
-  returns = returnsIn s n;
+  penalty = valuesIn s n penalties;
+  reward = valuesIn s n rewards;
+  returns = valuesIn s n returnCounts;
 }
-
--- one counter of every module, written
-abbrev pub counterRun : ℕ → ℕ → List ℕ → Run
-counterRun kind n a = record { count = n; word = λ j. counterWord kind j (getD a j 0) }
 
 -- written
 abbrev pub counterRuns : ℕ → Counters → List Run
-counterRuns n c = counterRun 13 n (c .penalty) ∷ counterRun 14 n (c .reward) ∷ returnRun n (c .returns) ∷ []
+counterRuns n c = map (sectionRun n c) counterSections
 
 -- no counter has grown yet
 abbrev pub zeroCounters : ℕ → Counters
 zeroCounters view = record { view = view; penalty = replicate 16 0; reward = replicate 16 0; returns = replicate 16 0 }
 
 -- the arrays have 16 entries, as those of the struct have
-pub record ShapedCounters (c : Counters) : Type 0 where
-  pub penalty : length (c .penalty) ≡ 16
-  pub reward : length (c .reward) ≡ 16
-  pub returns : length (c .returns) ≡ 16
+abbrev pub ShapedCounters : Counters → Type 0
+ShapedCounters c = Each (λ x. length (x .values c) ≡ 16) counterSections
 
 -- every counter has room in its word, and the entries from n on are 0
 unfoldable pub countersRoomy : ℕ → Counters → Bool
-countersRoomy n c =
-    bounded n (numberUnit - 1) (c .penalty) && (bounded n (numberUnit - 1) (c .reward) && bounded n (numberUnit - 1) (c .returns))
+countersRoomy n c = foldr (λ x roomy. sectionRoomy n c x && roomy) true counterSections
+
+-- whether a counter fits in the section of a kind; only the search through a section names it
+abbrev pub fitsBy : ℕ → Limits → Account → Bool
+fitsBy kind l a = foldr (λ x other. cond (eqb kind (x .kind)) (x .fits l a) other) false counterSections

@@ -1,6 +1,5 @@
 // The check of a saved state in lent bytes: numbers 1 to 8, each with the index of the first word that is wrong.
-use crate::counters::penalty_right;
-use crate::counters::reward_right;
+use crate::counters::counter_right;
 use crate::layout::earlier_at;
 use crate::layout::image_length;
 use crate::layout::latest_at;
@@ -9,7 +8,6 @@ use crate::layout::penalties_at;
 use crate::layout::returns_at;
 use crate::layout::rewards_at;
 use crate::layout::rows_at;
-use crate::returns::return_right;
 use crate::rows::row_right;
 use crate::word::own_number_ok;
 use crate::word::own_ok;
@@ -24,7 +22,7 @@ use words::word::word_at;
 ghost use mathlib.Core.Path.{_≡_};
 ghost use mathlib.Core.Bool.{not};
 ghost use mathlib.Core.List.{[], _∷_};
-ghost use Prim.Native.Nat.{_≤_, _<_};
+ghost use Prim.Native.Nat.{_+_, _≤_, _<_};
 ghost use lib.ListN.{length};
 ghost use Rattle.words.specs.Word.{wordAt};
 ghost use Rattle.words.specs.Count.{lowest};
@@ -32,32 +30,30 @@ ghost use Rattle.words.specs.Verdict.{andThen, outcome, single, each, firstRefu
 ghost use Rattle.image.specs.Layout.{ownAt, endAt, imageLength};
 ghost use Rattle.image.specs.Words.{ownNumberOk, ownOk, syndromeOk};
 ghost use Rattle.image.specs.Counters.{counterTests};
-ghost use Rattle.image.specs.Check.{sectionTest, checkTail, imageSize, checkImage};
+ghost use Rattle.image.specs.Check.{wordTest, checkTail, imageSize, checkImage};
 
-// Whether the word of module j + 1 in the section of a kind is right.
-fn word_right(s: &[u8], n: usize, kind: u32, j: usize) -> bool
-    requires { ⌜ (n ≤ 16) × (length (now s) ≡ imageLength n) × (j < n) ⌝ }
-    ensures { λ r. ⌜ r ≡ sectionTest (wordAt (now (s .entry))) n kind j ⌝ }
+// Whether the word of module j + 1 is right in the section of a kind that begins at `at`.
+fn word_right(s: &[u8], n: usize, kind: u32, at: usize, j: usize) -> bool
+    requires { ⌜ (n ≤ 16) × (length (now s) ≡ imageLength n) × (kind < 16) × (at + n ≤ endAt n) × (j < n) ⌝ }
+    ensures { λ r. ⌜ r ≡ wordTest (wordAt (now (s .entry))) n kind at j ⌝ }
 {
     match kind {
         11 => row_right(s, n, j),
-        13 => penalty_right(s, n, j),
-        15 => return_right(s, n, j),
-        _ => reward_right(s, n, j),
+        _ => counter_right(s, n, kind, at, j),
     }
 }
 
 // One more than the first word of such a section that is wrong, or 0.
-fn wrong_word(s: &[u8], n: usize, kind: u32) -> usize
-    requires { ⌜ (n ≤ 16) × (length (now s) ≡ imageLength n) ⌝ }
-    ensures { λ r. ⌜ (r ≡ lowest n (λ j. not (sectionTest (wordAt (now (s .entry))) n kind j))) × (r ≤ n) ⌝ }
+fn wrong_word(s: &[u8], n: usize, kind: u32, at: usize) -> usize
+    requires { ⌜ (n ≤ 16) × (length (now s) ≡ imageLength n) × (kind < 16) × (at + n ≤ endAt n) ⌝ }
+    ensures { λ r. ⌜ (r ≡ lowest n (λ j. not (wordTest (wordAt (now (s .entry))) n kind at j))) × (r ≤ n) ⌝ }
 {
     let mut j: usize = 0;
     loop {
         if n <= j {
             break 0;
         }
-        if !word_right(s, n, kind, j) {
+        if !word_right(s, n, kind, at, j) {
             break j + 1;
         }
         j += 1;
@@ -66,13 +62,13 @@ fn wrong_word(s: &[u8], n: usize, kind: u32) -> usize
 
 // The answer v, then number 8 at the first wrong word of a section with one word a module.
 fn then_section(v: Verdict, s: &[u8], n: usize, kind: u32, at: usize) -> Verdict
-    requires { ⌜ (n ≤ 16) × (length (now s) ≡ imageLength n) × (at ≤ endAt n) ⌝ }
-    ensures { λ r. ⌜ r ≡ andThen v (outcome (each n (sectionTest (wordAt (now (s .entry))) n kind) 8 at)) ⌝ }
+    requires { ⌜ (n ≤ 16) × (length (now s) ≡ imageLength n) × (kind < 16) × (at + n ≤ endAt n) ⌝ }
+    ensures { λ r. ⌜ r ≡ andThen v (outcome (each n (wordTest (wordAt (now (s .entry))) n kind at) 8 at)) ⌝ }
 {
     if v.number != 0 {
         return v;
     }
-    let found = wrong_word(s, n, kind);
+    let found = wrong_word(s, n, kind, at);
     if found == 0 {
         return accept();
     }

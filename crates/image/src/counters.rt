@@ -1,12 +1,14 @@
 // The counters of the modules, kinds 13 and 14, and 15 of returns.rt: tested, read and written.
 use crate::CountersPart;
+use crate::Limits;
 use crate::layout::penalties_at;
 use crate::layout::returns_at;
 use crate::layout::rewards_at;
 use crate::read::criticality_in;
 use crate::read::limit_in;
 use crate::read::view_in;
-use crate::returns::return_ok;
+use crate::returns::return_fits;
+use rules::Account;
 use rules::Counters;
 use setup::layout::PENALTY_LIMIT_AT;
 use setup::layout::REWARD_LIMIT_AT;
@@ -14,6 +16,7 @@ use words::array::bounded;
 use words::bits::bit_at;
 use words::word::KIND;
 use words::word::NUMBER;
+use words::word::field;
 use words::word::put_word;
 use words::word::word_at;
 ghost use mathlib.Core.Path.{_≡_};
@@ -26,9 +29,10 @@ ghost use Rattle.words.specs.Verdict.{allRight};
 ghost use Rattle.words.specs.Runs.{putRun, putRuns};
 ghost use Rattle.setup.specs.Layout.{headAt, penaltyLimitAt, rewardLimitAt, modulesAt};
 ghost use Rattle.setup.specs.Setup.{returnLimitIn, limitIn, criticalityIn};
-ghost use Rattle.image.specs.Layout.{ownAt, penaltiesAt, imageLength};
+ghost use Rattle.image.specs.Layout.{ownAt, penaltiesAt, endAt, imageLength};
 ghost use Rattle.image.specs.Words.{viewIn};
-ghost use Rattle.image.specs.Counters.{counterWord, counterIn, counterOf, penaltyFits, rewardFits, penaltyTest, rewardTest, counterTests, countersIn, counterRuns, zeroCounters, countersRoomy};
+ghost use Rattle.image.specs.CounterSection.{counterWord, counterIn, counterOf, limitsIn, accountIn};
+ghost use Rattle.image.specs.Counters.{penaltyFits, rewardFits, fitsBy, counterTests, countersIn, counterRuns, zeroCounters, countersRoomy};
 
 // A word of this kind, of module j + 1.
 fn counter_of(kind: u32, j: usize, w: u32) -> bool
@@ -53,50 +57,61 @@ fn reward_fits(limit: u32, penalty: u32, reward: u32) -> bool
     (reward < limit) & ((reward == 0) | (penalty != 0))
 }
 
-// Kind 13, the number j + 1, a penalty that fits.
-fn penalty_ok(p: u32, criticality: u32, present: bool, j: usize, w: u32) -> bool
-    requires { ⌜ (p < 2 ^ 28) × (criticality < 2 ^ 17) × (j < 16) ⌝ }
-    ensures { λ r. ⌜ r ≡ counterOf 13 j w && penaltyFits p criticality present (counterIn w) ⌝ }
+// The counter of module j + 1 in the section that begins at `at`.
+fn counter_in(s: &[u8], at: usize, j: usize) -> u32
+    requires { ⌜ (at < 2 ^ 16) × (j < 16) × ((at + j) * 4 + 4 ≤ length (now s)) ⌝ }
+    ensures { λ r. ⌜ r ≡ counterIn (wordAt (now (s .entry)) (at + j)) ⌝ }
 {
-    counter_of(13, j, w) & penalty_fits(p, criticality, present, w % NUMBER)
+    word_at(s, at + j) % NUMBER
 }
 
-// Kind 14, the number j + 1, a reward that fits.
-fn reward_ok(limit: u32, penalty: u32, j: usize, w: u32) -> bool
-    requires { ⌜ j < 16 ⌝ }
-    ensures { λ r. ⌜ r ≡ counterOf 14 j w && rewardFits limit penalty (counterIn w) ⌝ }
+// What the counters of module j + 1 are tested by.
+fn limits_in(s: &[u8], j: usize) -> Limits
+    requires { ⌜ (j < 16) × ((modulesAt + j) * 4 + 4 ≤ length (now s)) ⌝ }
+    ensures { λ r. ⌜ r ≡ limitsIn (wordAt (now (s .entry))) j ⌝ }
 {
-    counter_of(14, j, w) & reward_fits(limit, penalty, w % NUMBER)
+    Limits {
+        p: limit_in(s, PENALTY_LIMIT_AT),
+        r: limit_in(s, REWARD_LIMIT_AT),
+        q: field(word_at(s, 0), 8, 20),
+        criticality: criticality_in(s, j),
+    }
 }
 
-// Whether the penalty of module j + 1 is right.
-pub fn penalty_right(s: &[u8], n: usize, j: usize) -> bool
+// The counters of module j + 1, and whether it is in the view.
+fn account_in(s: &[u8], n: usize, j: usize) -> Account
     requires { ⌜ (n ≤ 16) × (length (now s) ≡ imageLength n) × (j < n) ⌝ }
-    ensures { λ r. ⌜ r ≡ penaltyTest (wordAt (now (s .entry))) n j ⌝ }
+    ensures { λ r. ⌜ r ≡ accountIn (wordAt (now (s .entry))) n j ⌝ }
 {
-    let present = bit_at(view_in(s, n), j);
-    let w = word_at(s, penalties_at(n) + j);
-    penalty_ok(
-        limit_in(s, PENALTY_LIMIT_AT),
-        criticality_in(s, j),
-        present,
-        j,
-        w,
-    )
+    Account {
+        present: bit_at(view_in(s, n), j),
+        penalty: counter_in(s, penalties_at(n), j),
+        reward: counter_in(s, rewards_at(n), j),
+        returns: counter_in(s, returns_at(n), j),
+    }
 }
 
-// Whether the reward of module j + 1 is right.
-pub fn reward_right(s: &[u8], n: usize, j: usize) -> bool
-    requires { ⌜ (n ≤ 16) × (length (now s) ≡ imageLength n) × (j < n) ⌝ }
-    ensures { λ r. ⌜ r ≡ rewardTest (wordAt (now (s .entry))) n j ⌝ }
+// Whether the counter in the section of a kind fits.
+fn counter_fits(kind: u32, l: Limits, a: Account) -> bool
+    requires { ⌜ (l .p < 2 ^ 28) × (l .criticality < 2 ^ 17) ⌝ }
+    ensures { λ r. ⌜ r ≡ fitsBy kind l a ⌝ }
 {
-    let penalty = word_at(s, penalties_at(n) + j) % NUMBER;
-    reward_ok(
-        limit_in(s, REWARD_LIMIT_AT),
-        penalty,
-        j,
-        word_at(s, rewards_at(n) + j),
-    )
+    match kind {
+        13 => penalty_fits(l.p, l.criticality, a.present, a.penalty),
+        14 => reward_fits(l.r, a.penalty, a.reward),
+        15 => return_fits(l.q, a.present, a.returns),
+        _ => false,
+    }
+}
+
+// Whether the word of module j + 1 is right in the section of a kind that begins at `at`.
+pub fn counter_right(s: &[u8], n: usize, kind: u32, at: usize, j: usize) -> bool
+    requires { ⌜ (n ≤ 16) × (length (now s) ≡ imageLength n) × (kind < 16) × (at + n ≤ endAt n) × (j < n) ⌝ }
+    ensures { λ r. ⌜ r ≡ counterOf kind j (wordAt (now (s .entry)) (at + j)) && fitsBy kind (limitsIn (wordAt (now (s .entry))) j) (accountIn (wordAt (now (s .entry))) n j) ⌝ }
+{
+    let limits = limits_in(s, j);
+    let account = account_in(s, n, j);
+    counter_of(kind, j, word_at(s, at + j)) & counter_fits(kind, limits, account)
 }
 
 // The counters, and whether their words are right, by what the words before them hold.
@@ -127,9 +142,10 @@ pub fn load_counters(
         let u = word_at(s, l + j);
         let x = w % NUMBER;
         let present = bit_at(view, j);
-        let fits = penalty_ok(p, criticality[j], present, j, w);
-        let others = reward_ok(limit, x, j, v) & return_ok(q, present, j, u);
-        good = good & (fits & others);
+        let a = counter_of(13, j, w) & penalty_fits(p, criticality[j], present, x);
+        let b = counter_of(14, j, v) & reward_fits(limit, x, v % NUMBER);
+        let c = counter_of(15, j, u) & return_fits(q, present, u % NUMBER);
+        good = good & (a & (b & c));
         penalty[j] = x;
         reward[j] = v % NUMBER;
         returns[j] = u % NUMBER;

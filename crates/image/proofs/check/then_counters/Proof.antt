@@ -1,41 +1,33 @@
--- The sections in their turn.
-use Rattle.image.proofs.SectionLaws.{counters-joined}
+-- One section after the other.
+use mathlib.Core.Path.{refl}
+use Rattle.words.specs.Word.{wordAt}
+use Rattle.image.specs.Returns.{returnCounts}
+use Rattle.image.specs.Counters.{penalties, rewards}
+use Rattle.image.specs.Check.{wordTest}
+use Rattle.image.proofs.SectionLaws.{none-tested, then-tested}
 use borrow.Author.Needs.{needs}
 use Rattle.image.proofs.check.then_counters.Statement.{statement}
 use Rattle.image.proofs.check.then_counters.Tie as tie
 
-penalties-at-requires : tie.Need-penalties-at-requires
-penalties-at-requires c κs = search needs
-
-then-section-requires : tie.Need-then-section-requires
-then-section-requires c κs = search needs
-
-rewards-at-requires : tie.Need-rewards-at-requires
-rewards-at-requires c κs = search needs
-
-then-section-requires-2 : tie.Need-then-section-requires-2
-then-section-requires-2 c κs = search needs
-
-returns-at-requires : tie.Need-returns-at-requires
-returns-at-requires c κs = search needs
-
-then-section-requires-3 : tie.Need-then-section-requires-3
-then-section-requires-3 c κs = search needs
-
 returns : tie.Need-returns
+unfolding wordTest
 returns c =
     let b = c .before .before in
-    counters-joined _ _ _ (b .before .before .before .penalties-at .ensures) (b .before .before .then-section .ensures) (b .before .rewards-at .ensures) (b .then-section2 .ensures)
-    (c .before .returns-at .ensures) (c .then-section3 .ensures)
+    let a = b .before .before in
+    let t = a .before .before .before .args in
+    let w = wordAt (t .s .now) in
+    let p = then-tested (t .n) penalties (a .before .penalties-at .ensures) w _ _ (none-tested (t .v)) (a .then-section .ensures) refl in
+    let r = then-tested (t .n) rewards (b .before .rewards-at .ensures) w _ _ p (b .then-section2 .ensures) refl in
+    then-tested (t .n) returnCounts (c .before .returns-at .ensures) w _ _ r (c .then-section3 .ensures) refl
 
 pub then-counters-spec : {M : Type 1} → statement M
 then-counters-spec =
     tie.close
     (tie.spec
-    penalties-at-requires
-    then-section-requires
-    rewards-at-requires
-    then-section-requires-2
-    returns-at-requires
-    then-section-requires-3
+    (λ c κs. search needs)
+    (λ c κs. search needs)
+    (λ c κs. search needs)
+    (λ c κs. search needs)
+    (λ c κs. search needs)
+    (λ c κs. search needs)
     returns)

@@ -4,7 +4,7 @@ use mathlib.Core.Path.{refl}
 use Rattle.words.specs.Word.{wordAt}
 use Rattle.words.specs.Verdict.{each}
 use Rattle.words.proofs.SearchLaws.{search-skipped, search-none, search-found}
-use Rattle.image.specs.Check.{sectionTest}
+use Rattle.image.specs.Check.{wordTest}
 use borrow.Author.Needs.{needs}
 use Rattle.image.proofs.check.then_section.Statement.{statement}
 use Rattle.image.proofs.check.then_section.Tie as tie
@@ -21,7 +21,7 @@ accept-requires c κs = search needs
 returns-2 : tie.Need-returns-2
 returns-2 c =
     let a = c .before .before .before .before .before .before .args in
-    search-none _ (each (a .n) (sectionTest (wordAt (a .s .now)) (a .n) (a .kind)) 8 (a .at)) (c .before .before .before .if1 .left) (c .before .before .wrong-word .ensures .0) (c .before .if2 .taken) (c .accept .ensures)
+    search-none _ (each (a .n) (wordTest (wordAt (a .s .now)) (a .n) (a .kind) (a .at)) 8 (a .at)) (c .before .before .before .if1 .left) (c .before .before .wrong-word .ensures .0) (c .before .if2 .taken) (c .accept .ensures)
 
 add-refusal : tie.Need-add-refusal
 add-refusal c = search needs
@@ -38,7 +38,7 @@ refusal-requires c κs = search needs
 returns-3 : tie.Need-returns-3
 returns-3 c =
     let a = c .before .before .before .before .before .before .args in
-    search-found _ (each (a .n) (sectionTest (wordAt (a .s .now)) (a .n) (a .kind)) 8 (a .at)) (c .before .before .before .if1 .left) (c .before .before .wrong-word .ensures .0) (c .before .if2 .left) refl (c .refusal .ensures)
+    search-found _ (each (a .n) (wordTest (wordAt (a .s .now)) (a .n) (a .kind) (a .at)) 8 (a .at)) (c .before .before .before .if1 .left) (c .before .before .wrong-word .ensures .0) (c .before .if2 .left) refl (c .refusal .ensures)
 
 pub then-section-spec : {M : Type 1} → statement M
 then-section-spec =

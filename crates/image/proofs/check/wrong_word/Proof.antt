@@ -6,16 +6,16 @@ use mathlib.Core.Bool.{not}
 use Rattle.words.specs.Word.{wordAt}
 use Rattle.words.specs.Count.{lowest}
 use Rattle.words.proofs.LowestLaws.{lowest-ends, asked-none, asked-found}
-use Rattle.image.specs.Check.{sectionTest}
+use Rattle.image.specs.Check.{wordTest}
 use borrow.Author.Needs.{needs}
 use Rattle.image.proofs.check.wrong_word.Statement.{statement}
 use Rattle.image.proofs.check.wrong_word.Tie as tie
 
 abbrev Inv-loop : tie.InvT-loop
-Inv-loop s n kind j₀ j = (j ≤ n) × (lowest j (λ k. not (sectionTest (wordAt s) n kind k)) ≡ 0)
+Inv-loop s n kind at j₀ j = (j ≤ n) × (lowest j (λ k. not (wordTest (wordAt s) n kind at k)) ≡ 0)
 
 abbrev μ-loop : tie.MeasureT-loop
-μ-loop s n kind j₀ j = n - j
+μ-loop s n kind at j₀ j = n - j
 
 loop-holds : tie.Need-loop-holds Inv-loop μ-loop
 unfolding lowest
@@ -24,7 +24,7 @@ loop-holds c = (omega arith, refl)
 word-right-requires : tie.Need-word-right-requires Inv-loop μ-loop
 word-right-requires c κs =
     let a = c .before .before .before .pre in
-    (a .0, a .1, omega arith)
+    (a .0, a .1, a .2, a .3, omega arith)
 
 add-result : tie.Need-add-result Inv-loop μ-loop
 add-result c = omega arith

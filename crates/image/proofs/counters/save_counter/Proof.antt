@@ -4,7 +4,7 @@ use Prim.Native.Nat.{_-_, _≤_}
 use mathlib.Core.Path.{_≡_, refl, _∙_}
 use lib.ListN.{length, getD}
 use Rattle.words.specs.Runs.{putRun}
-use Rattle.image.specs.Counters.{counterWord}
+use Rattle.image.specs.CounterSection.{counterWord}
 use Rattle.words.proofs.RunLaws.{put-step, put-end}
 use borrow.Author.Needs.{needs}
 use Rattle.image.proofs.counters.save_counter.Statement.{statement}

@@ -1,64 +1,55 @@
--- One counter after the other.
+-- One section after the other.
 use native.Mathlib.Omega.{arith}
 use mathlib.Core.Path.{_∙_}
-use Rattle.image.proofs.CounterLaws.{roomy-counters}
-use Rattle.image.proofs.SectionLaws.{counters-written}
+use Rattle.words.specs.Runs.{total}
+use Rattle.image.specs.Layout.{penaltiesAt}
+use Rattle.image.specs.Returns.{returnCounts}
+use Rattle.image.specs.Counters.{penalties, rewards}
+use Rattle.image.proofs.CounterSectionLaws.{first, later, roomy-counters}
+use Rattle.image.proofs.SectionLaws.{none-written, then-written, room-there}
 use borrow.Author.Needs.{needs}
 use Rattle.image.proofs.counters.save_counters.Statement.{statement}
 use Rattle.image.proofs.counters.save_counters.Tie as tie
 
-penalties-at-requires : tie.Need-penalties-at-requires
-penalties-at-requires c κs = search needs
-
 save-counter-requires : tie.Need-save-counter-requires
 save-counter-requires c κs =
     let a = c .before .before .before .before .before in
-    let m = roomy-counters _ _ (a .pre .0) (a .pre .1) in
-    let e = c .penalties-at .ensures in
-    let l = a .pre .2 in
-    (omega arith, a .pre .0, m .penalty, omega arith, omega arith)
-
-rewards-at-requires : tie.Need-rewards-at-requires
-rewards-at-requires c κs = search needs
+    room-there penalties _ first (a .pre .0) (a .pre .1) (c .penalties-at .ensures) (a .pre .2) (omega arith) (omega arith)
 
 save-counter-requires-2 : tie.Need-save-counter-requires-2
 save-counter-requires-2 c κs =
-    let a = c .before .before .before .before .before .before .before .before .before .before in
-    let m = roomy-counters _ _ (a .pre .0) (a .pre .1) in
-    let e = c .rewards-at .ensures in
-    let l = c .before .before .before .before .save-counter .kept .1 .1 .1 .0 ∙ a .pre .2 in
-    (omega arith, a .pre .0, m .reward, omega arith, omega arith)
-
-returns-at-requires : tie.Need-returns-at-requires
-returns-at-requires c κs = search needs
+    let b = c .before .before .before .before in
+    let a = b .before .before .before .before .before .before in
+    room-there rewards _ (later first) (a .pre .0) (a .pre .1) (c .rewards-at .ensures) (b .save-counter .kept .1 .1 .1 .0 ∙ a .pre .2) (omega arith) (omega arith)
 
 save-counter-requires-3 : tie.Need-save-counter-requires-3
 save-counter-requires-3 c κs =
-    let b = c .before .before .before .before .before in
-    let a = b .before .before .before .before .before .before .before .before .before .before .before in
-    let m = roomy-counters _ _ (a .pre .0) (a .pre .1) in
-    let e = c .returns-at .ensures in
-    let l = b .save-counter2 .kept .1 .1 .1 .0 ∙ b .before .before .before .before .before .save-counter .kept .1 .1 .1 .0 ∙ a .pre .2 in
-    (omega arith, a .pre .0, m .returns, omega arith, omega arith)
-
-same-length : tie.Need-same-length
-same-length c = search needs
+    let d = c .before .before .before .before .before in
+    let b = d .before .before .before .before .before in
+    let a = b .before .before .before .before .before .before in
+    room-there returnCounts _ (later (later first)) (a .pre .0) (a .pre .1) (c .returns-at .ensures)
+    (d .save-counter2 .kept .1 .1 .1 .0 ∙ b .save-counter .kept .1 .1 .1 .0 ∙ a .pre .2) (omega arith) (omega arith)
 
 returns : tie.Need-returns
+unfolding total
 returns c =
-    let b = c .before .before .before .before .before .before in
-    counters-written _ (b .before .before .before .before .before .before .before .before .before .before .before .before .before .args .counters) _ (b .before .before .before .before .before .before .before .before .penalties-at .ensures) (b .before .before .before .before .before .before .before .save-counter .ensures) (b .before .before .before .rewards-at .ensures) (b .before .before .save-counter2 .ensures)
-    (c .before .before .before .returns-at .ensures) (c .before .before .save-counter3 .ensures)
+    let d = c .before .before in
+    let b = d .before .before .before .before .before .before in
+    let a = b .before .before .before .before .before in
+    let t = a .before .before .before .before .before .before .args in
+    let p = then-written (t .n) penalties (a .before .penalties-at .ensures) (t .counters) _ _ _ (none-written _ (penaltiesAt (t .n))) (a .save-counter .ensures) (omega arith) in
+    let r = then-written (t .n) rewards (b .before .rewards-at .ensures) (t .counters) _ _ _ p (b .save-counter2 .ensures) (omega arith) in
+    then-written (t .n) returnCounts (d .before .returns-at .ensures) (t .counters) _ _ _ r (d .save-counter3 .ensures) (omega arith)
 
 pub save-counters-spec : {M : Type 1} → statement M
 save-counters-spec =
     tie.close
     (tie.spec
-    penalties-at-requires
+    (λ c κs. search needs)
     save-counter-requires
-    rewards-at-requires
+    (λ c κs. search needs)
     save-counter-requires-2
-    returns-at-requires
+    (λ c κs. search needs)
     save-counter-requires-3
-    same-length
+    (λ c. search needs)
     returns)

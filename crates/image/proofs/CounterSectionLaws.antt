@@ -1,0 +1,147 @@
+-- Sections of counters, whatever their kind: a word is made of its fields, the words that counters are written as hold them, and what passes is
+-- written as it was read. And what has to hold of a section for all that is said of the counters of a state.
+use mathlib.Core.Path.{_≡_, refl, ap, ap₂, _∙_, sym}
+use mathlib.Core.Bool.{Bool, true, _&&_}
+use mathlib.Core.List.{List, [], _∷_, map, foldr}
+use Prim.Native.Nat.{ℕ, _+_, _-_, _*_, _/_, _%_, _^_, _<_, _≤_}
+use native.Mathlib.Omega.{arith}
+use lib.ListN.{getD, length, replicate}
+use borrow.Author.Tests.{eqb-true, eq-eqb}
+use Rattle.words.specs.Array.{array}
+use Rattle.words.specs.Count.{all}
+use Rattle.words.specs.Verdict.{allRight}
+use Rattle.words.proofs.Truth.{and-l, and-r, and-true}
+use Rattle.words.proofs.ArrayLaws.{clearFrom, array-at, array-ext, array-own, bounded-at, bounded-clear, bounded-of}
+use Rattle.words.proofs.CountLaws.{all-both, all-intro}
+use Rattle.setup.specs.declared.Setup.{Setup}
+use Rattle.setup.proofs.SetupLaws.{SetupFits}
+use Rattle.rules.specs.Account.{accountAt, countersOf}
+use Rattle.rules.specs.declared.Account.{Account}
+use Rattle.rules.specs.declared.Counters.{Counters}
+use Rattle.image.specs.CounterSection.{counterWord, counterIn, counterOf, CounterSection, Each, limitsIn, accountIn, counterTest, sectionTest, valuesIn, sectionRoomy}
+use Rattle.image.specs.Counters.{counterSections, counterTests, countersIn, zeroCounters, countersRoomy}
+use Rattle.image.specs.declared.Limits.{Limits}
+
+-- ---- one word
+
+pub counter-made : (kind j w : ℕ) → counterOf kind j w ≡ true → counterWord kind j (counterIn w) ≡ w
+counter-made kind j w e =
+    let k : w / 2 ^ 23 ≡ kind * 2 ^ 5 + (j + 1) = eqb-true (w / 2 ^ 23) _ e in
+    let c : w ≡ w / 2 ^ 23 * 2 ^ 23 + w % 2 ^ 23 = omega arith in
+    omega arith
+
+module _ (kind j v : ℕ) (h : v < 2 ^ 23) where
+  pub counter-right : counterOf kind j (counterWord kind j v) ≡ true
+  counter-right =
+      let e : counterWord kind j v / 2 ^ 23 ≡ kind * 2 ^ 5 + (j + 1) = omega arith in
+      eq-eqb _ _ e
+
+  pub counter-back : counterIn (counterWord kind j v) ≡ v
+  counter-back = omega arith
+
+-- the test of a word u that is already read, with what it is tested by
+pub test-by : {u : ℕ} {l : Limits} {a : Account} {of fits : Bool} (x : CounterSection) (w : ℕ → ℕ) (n j : ℕ) → u ≡ w (x .at n + j) → l ≡ limitsIn w j
+    → a ≡ accountIn w n j → of ≡ counterOf (x .kind) j u → fits ≡ x .fits l a → of && fits ≡ counterTest x w n j
+test-by x w n j e f g of fits = ap₂ _&&_ (of ∙ ap (counterOf (x .kind) j) e) (fits ∙ ap₂ (x .fits) f g)
+
+-- ---- one section
+
+-- words that one counter of every module is written as hold it, and give its array back
+module _ (kind n at : ℕ) (w : ℕ → ℕ) (a : List ℕ) (small : (j : ℕ) → j < n → getD a j 0 < 2 ^ 23)
+    (f : (j : ℕ) → j < n → w (at + j) ≡ counterWord kind j (getD a j 0)) where
+  pub counter-there : (j : ℕ) → j < n → counterIn (w (at + j)) ≡ getD a j 0
+  counter-there j h = ap counterIn (f j h) ∙ counter-back kind j _ (small j h)
+
+  pub counter-passes : (j : ℕ) → j < n → counterOf kind j (w (at + j)) ≡ true
+  counter-passes j h = rw (f j h) (counter-right kind j _ (small j h))
+
+  pub array-back : n ≤ 16 → length a ≡ 16 → clearFrom n a ≡ true → a ≡ array n (λ j. counterIn (w (at + j)))
+  array-back l shaped clear = sym (array-ext n _ (λ j. getD a j 0) counter-there ∙ array-own n a l shaped clear)
+
+-- words of the kind are written as they were read
+pub counter-same : (kind n at : ℕ) (w : ℕ → ℕ) → n ≤ 16 → ((j : ℕ) → j < n → counterOf kind j (w (at + j)) ≡ true)
+    → (j : ℕ) → j < n → w (at + j) ≡ counterWord kind j (getD (array n (λ k. counterIn (w (at + k)))) j 0)
+counter-same kind n at w l pass j h = sym (rw (array-at n (λ k. counterIn (w (at + k))) j h l) (counter-made kind j (w (at + j)) (pass j h)))
+
+-- ---- the sections of a list
+
+pub data Among (x : CounterSection) : List CounterSection → Type 0 where
+  first : {xs : List CounterSection} → Among x (x ∷ xs)
+  later : {y : CounterSection} {xs : List CounterSection} → Among x xs → Among x (y ∷ xs)
+
+pub each-at : (P : CounterSection → Type 0) {x : CounterSection} {xs : List CounterSection} → Among x xs → Each P xs → P x
+each-at P first (p, ps) = p
+each-at P (later i) (p, ps) = each-at P i ps
+
+pub each-of : (P : CounterSection → Type 0) (xs : List CounterSection) → ((x : CounterSection) → Among x xs → P x) → Each P xs
+each-of P [] f = tt
+each-of P (x ∷ xs) f = (f x first, each-of P xs (λ y i. f y (later i)))
+
+module _ (test : CounterSection → Bool) where
+  every-at : {x : CounterSection} {xs : List CounterSection} → Among x xs → foldr (λ x b. test x && b) true xs ≡ true → test x ≡ true
+  every-at {x} first e = and-l (test x) _ e
+  every-at (later {y} i) e = every-at i (and-r (test y) _ e)
+
+  every-of : (xs : List CounterSection) → ((x : CounterSection) → Among x xs → test x ≡ true) → foldr (λ x b. test x && b) true xs ≡ true
+  every-of [] f = refl
+  every-of (x ∷ xs) f = and-true (test x) _ (f x first) (every-of xs (λ y i. f y (later i)))
+
+-- the tests of one module
+abbrev pub testsAt : (ℕ → ℕ) → ℕ → ℕ → Bool
+testsAt w n j = foldr (λ x b. counterTest x w n j && b) true counterSections
+
+-- those of every module in one pass
+pub counters-right : (w : ℕ → ℕ) (n : ℕ) → all n (testsAt w n) ≡ allRight (counterTests w n)
+unfolding allRight
+counters-right w n = go counterSections
+  where
+    go : (xs : List CounterSection) → all n (λ j. foldr (λ x b. counterTest x w n j && b) true xs) ≡ allRight (map (sectionTest w n) xs)
+    go [] = all-intro n _ (λ j h. refl)
+    go (x ∷ xs) = all-both n (counterTest x w n) _ ∙ ap (λ (b : Bool). all n (counterTest x w n) && b) (go xs)
+
+-- ---- counters that have room in their words
+
+pub record CountersSmall (n : ℕ) (c : Counters) : Type 0 where
+  pub small : (x : CounterSection) → Among x counterSections → (j : ℕ) → j < n → getD (x .values c) j 0 < 2 ^ 23
+  pub clear : (x : CounterSection) → Among x counterSections → clearFrom n (x .values c) ≡ true
+
+pub roomy-counters : (n : ℕ) (c : Counters) → n ≤ 16 → countersRoomy n c ≡ true → CountersSmall n c
+unfolding countersRoomy
+roomy-counters n c l e = record {
+  small = λ x i j h. omega (arith, bounded-at n _ (x .values c) (every-at (sectionRoomy n c) i e) j h l);
+  clear = λ x i. bounded-clear n _ (x .values c) (every-at (sectionRoomy n c) i e);
+}
+
+pub counters-roomy : (n : ℕ) (c : Counters) → CountersSmall n c → countersRoomy n c ≡ true
+unfolding countersRoomy
+counters-roomy n c m =
+    every-of (sectionRoomy n c) counterSections (λ x i. bounded-of n _ (x .values c) (λ j h. omega (arith, m .small x i j h)) (m .clear x i))
+
+-- ---- counters within the limits of a setup
+
+-- what those of module j + 1 are tested by
+abbrev pub limitsOf : Setup → ℕ → Limits
+limitsOf s j = record { p = s .p; r = s .r; q = s .q; criticality = getD (s .criticality) j 0 }
+
+pub record CountersFit (s : Setup) (c : Counters) : Type 0 where
+  pub fits : (x : CounterSection) → Among x counterSections → (j : ℕ) → j < s .n → x .fits (limitsOf s j) (accountAt c j) ≡ true
+  pub clear : (x : CounterSection) → Among x counterSections → clearFrom (s .n) (x .values c) ≡ true
+
+-- a module that is opened
+abbrev pub zeroAccount : Account
+zeroAccount = record { present = true; penalty = 0; reward = 0; returns = 0 }
+
+-- what has to hold of a section
+pub record SectionHolds (x : CounterSection) : Type 0 where
+  -- read are the counters of its words
+  pub read : (s : List ℕ) (n : ℕ) → x .values (countersIn s n) ≡ valuesIn s n x
+  -- at opening they are 0, which fits
+  pub zeros : (view : ℕ) → x .values (zeroCounters view) ≡ replicate 16 0
+  pub opened : (s : Setup) (j : ℕ) → SetupFits s → x .fits (limitsOf s j) zeroAccount ≡ true
+  -- a round leaves an array of counters that fit
+  pub made : (s : Setup) (health : ℕ) (c : Counters) → (f : ℕ → ℕ) × (x .values (countersOf s health c) ≡ array (s .n) f)
+  pub kept : (s : Setup) (health : ℕ) (c : Counters) (j : ℕ) → SetupFits s → CountersFit s c → j < s .n
+      → x .fits (limitsOf s j) (accountAt (countersOf s health c) j) ≡ true
+  -- one that fits has room
+  pub small : (s : Setup) (c : Counters) (j : ℕ) → SetupFits s → j < s .n → x .fits (limitsOf s j) (accountAt c j) ≡ true
+      → getD (x .values c) j 0 < 2 ^ 23

@@ -1,0 +1,83 @@
+-- A section of counters: a word for each module, with its number and one counter. What is one of every such section: its words, their test, what is
+-- read, what is written, and which counters have room. (document 01, "What runs", kinds 13 and 14; document 02, E6, kind 15)
+use Prim.Native.Nat.{ℕ, _+_, _*_, _-_, _/_, _%_, _^_}
+use mathlib.Core.Bool.{Bool, _&&_}
+use mathlib.Core.List.{List, [], _∷_}
+use lib.ListN.{getD}
+use lib.Dec.{eqb}
+use Rattle.words.specs.Word.{wordAt, kindUnit, numberUnit}
+use Rattle.words.specs.Bits.{bit}
+use Rattle.words.specs.Array.{array, bounded}
+use Rattle.words.specs.Verdict.{Test, each}
+use Rattle.words.specs.Runs.{Run}
+use Rattle.setup.specs.Layout.{headAt, penaltyLimitAt, rewardLimitAt, modulesAt}
+use Rattle.setup.specs.Setup.{returnLimitIn, limitIn, criticalityIn}
+use Rattle.rules.specs.declared.Account.{Account}
+use Rattle.rules.specs.declared.Counters.{Counters}
+use Rattle.image.specs.Layout.{ownAt, penaltiesAt, rewardsAt, returnsAt}
+use Rattle.image.specs.Words.{viewIn}
+use Rattle.image.specs.declared.Limits.{Limits}
+
+-- of module j + 1: 27..23 module, 22..0 counter
+abbrev pub counterWord : ℕ → ℕ → ℕ → ℕ
+counterWord kind j v = kind * kindUnit + (j + 1) * numberUnit + v
+
+-- the counter in such a word, with the spare bits above it, which the check refuses
+abbrev pub counterIn : ℕ → ℕ
+counterIn w = w % numberUnit
+
+-- a word of this kind, of module j + 1
+abbrev pub counterOf : ℕ → ℕ → ℕ → Bool
+counterOf kind j w = eqb (w / numberUnit) (kind * 2 ^ 5 + (j + 1))
+
+-- the kind of the words, their place in an image of n modules, the counters that they hold, and whether the counter of an account is right
+pub record CounterSection : Type 0 where
+  pub kind : ℕ
+  pub at : ℕ → ℕ
+  pub values : Counters → List ℕ
+  pub fits : Limits → Account → Bool
+
+-- what holds of each section of a list
+abbrev pub Each : (CounterSection → Type 0) → List CounterSection → Type 0
+Each P [] = Unit {0}
+Each P (x ∷ xs) = P x × Each P xs
+
+-- ---- in an image of n modules whose words are w, or whose bytes are s
+
+-- what the counters of module j + 1 are tested by
+abbrev pub limitsIn : (ℕ → ℕ) → ℕ → Limits
+limitsIn w j = record {
+  p = limitIn (w penaltyLimitAt);
+  r = limitIn (w rewardLimitAt);
+  q = returnLimitIn (w headAt);
+  criticality = criticalityIn (w (modulesAt + j));
+}
+
+-- and these counters, with the module's bit of the view
+abbrev pub accountIn : (ℕ → ℕ) → ℕ → ℕ → Account
+accountIn w n j = record {
+  present = bit (viewIn (w (ownAt n))) j;
+  penalty = counterIn (w (penaltiesAt n + j));
+  reward = counterIn (w (rewardsAt n + j));
+  returns = counterIn (w (returnsAt n + j));
+}
+
+-- the kind, the number j + 1, a counter that fits
+abbrev pub counterTest : CounterSection → (ℕ → ℕ) → ℕ → ℕ → Bool
+counterTest x w n j = counterOf (x .kind) j (w (x .at n + j)) && x .fits (limitsIn w j) (accountIn w n j)
+
+-- number 8 at the first wrong counter
+abbrev pub sectionTest : (ℕ → ℕ) → ℕ → CounterSection → Test
+sectionTest w n x = each n (counterTest x w n) 8 (x .at n)
+
+-- read
+abbrev pub valuesIn : List ℕ → ℕ → CounterSection → List ℕ
+valuesIn s n x = array n (λ j. counterIn (wordAt s (x .at n + j)))
+
+-- written
+abbrev pub sectionRun : ℕ → Counters → CounterSection → Run
+sectionRun n c x = record { count = n; word = λ j. counterWord (x .kind) j (getD (x .values c) j 0) }
+
+-- every counter has room in its word, and the entries from n on are 0
+abbrev pub sectionRoomy : ℕ → Counters → CounterSection → Bool
+sectionRoomy n c x = bounded n (numberUnit - 1) (x .values c)
