@@ -63,13 +63,16 @@ round-counters s health c f fits = record {
 -- ---- their arrays
 
 pub zero-shaped : (view : ℕ) → ShapedCounters (zeroCounters view)
+unfolding ShapedCounters
 zero-shaped view = each-of _ counterSections (λ x i. ap length (holds x i .zeros view))
 
 pub round-shaped : (s : Setup) (health : ℕ) (c : Counters) → ShapedCounters c → ShapedCounters (countersOf s health c)
+unfolding ShapedCounters
 round-shaped s health c a =
     each-of _ counterSections (λ x i. let (g, e) = holds x i .made s health c in ap length e ∙ array-length (s .n) g)
 
 pub read-shaped : (s : List ℕ) (n : ℕ) → ShapedCounters (countersIn s n)
+unfolding ShapedCounters
 read-shaped s n = each-of _ counterSections (λ x i. ap length (holds x i .read s n) ∙ array-length n _)
 
 -- ---- words that counters are written as
@@ -138,7 +141,7 @@ module _ (w : ℕ → ℕ) (s : Setup) (c : Counters) (m : CountersSmall (s .n) 
 -- read from their bytes, they give them back
 pub counters-back : (s : List ℕ) (n : ℕ) (c : Counters) → n ≤ 16 → CountersSmall n c → ShapedCounters c
     → Follows (wordAt s) (penaltiesAt n) (counterRuns n c) → viewIn (wordAt s (ownAt n)) ≡ c .view → c ≡ countersIn s n
-unfolding countersIn
+unfolding countersIn ShapedCounters
 counters-back s n c l m a f v = λ i. record {
   view = sym v i;
   penalty = back penalties first i;

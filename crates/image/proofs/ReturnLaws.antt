@@ -18,10 +18,11 @@ use Rattle.setup.specs.Setup.{returnLimitIn, setupOf}
 use Rattle.setup.specs.declared.Setup.{Setup}
 use Rattle.rules.specs.Account.{accountAt, countersOf}
 use Rattle.rules.specs.declared.Account.{Account}
+use Rattle.rules.specs.declared.Counters.{Counters}
 use Rattle.rules.proofs.AccountLaws.{CountFits, counts-fit}
 use Rattle.image.specs.Returns.{returnFits, returnCounts}
 use Rattle.image.specs.Counters.{countersIn}
-use Rattle.image.proofs.CounterSectionLaws.{SectionHolds}
+use Rattle.image.proofs.CounterSectionLaws.{first, later, CountersFit, SectionHolds}
 
 -- ---- one return count
 
@@ -71,6 +72,11 @@ count-fits q a f = go (a .present) refl
         (λ (h : 0 < a .returns). return-of q (a .present) (a .returns) (inr (e, omega (arith, f .below)))) (eq-zero-or-pos (a .returns))
 
 -- ---- those of all modules
+
+-- within the limits of a setup
+pub returns-small : (s : Setup) (c : Counters) → s .q ≤ mostReturnLimit → CountersFit s c → (j : ℕ) → j < s .n → accountAt c j .returns < mostReturnLimit
+unfolding accountAt
+returns-small s c l f j h = return-small (s .q) (bit (c .view) j) (getD (c .returns) j 0) l (f .fits returnCounts (later (later first)) j h)
 
 pub returns-hold : SectionHolds returnCounts
 unfolding countersIn countersOf accountAt

@@ -64,7 +64,7 @@ abbrev pub zeroCounters : ℕ → Counters
 zeroCounters view = record { view = view; penalty = replicate 16 0; reward = replicate 16 0; returns = replicate 16 0 }
 
 -- the arrays have 16 entries, as those of the struct have
-abbrev pub ShapedCounters : Counters → Type 0
+unfoldable pub ShapedCounters : Counters → Type 0
 ShapedCounters c = Each (λ x. length (x .values c) ≡ 16) counterSections
 
 -- every counter has room in its word, and the entries from n on are 0

@@ -13,7 +13,7 @@ use Rattle.setup.proofs.SetupLaws.{verdict-fits}
 use Rattle.image.specs.Rows.{rowsRoomy}
 use Rattle.image.specs.Check.{checkTail}
 use Rattle.image.proofs.RowLaws.{RowsSmall, roomy-rows, rows-roomy}
-use Rattle.image.proofs.CounterLaws.{CountersSmall, roomy-counters, counters-roomy}
+use Rattle.image.proofs.CounterSectionLaws.{CountersSmall, roomy-counters, counters-roomy}
 use Rattle.presence.specs.Image.{imageRuns}
 use Rattle.presence.specs.Valid.{roomy, stateVerdict, Valid}
 use Rattle.presence.specs.declared.State.{State}

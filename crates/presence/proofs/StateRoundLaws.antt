@@ -26,7 +26,8 @@ use Rattle.rules.specs.declared.Reading.{Reading}
 use Rattle.rules.specs.declared.Counters.{Counters}
 use Rattle.rules.specs.declared.Judgement.{Judgement}
 use Rattle.image.specs.Counters.{zeroCounters}
-use Rattle.image.proofs.ReturnLaws.{return-small}
+use Rattle.image.proofs.PenaltyLaws.{accounts-fit}
+use Rattle.image.proofs.ReturnLaws.{returns-small}
 use Rattle.presence.specs.Valid.{stateVerdict, Valid}
 use Rattle.presence.specs.Opening.{fresh, blank, checkOpening, openOf}
 use Rattle.presence.specs.Step.{skewOf, placeOf, ownSyndrome, alignedFor, judgementFor, outgoingFor, afterRound, refusedStep, acceptedStep, readStep, stepOf}
@@ -74,7 +75,7 @@ pub in-range : (st : State) → StateFits st → (j : ℕ) → j < st .setup .n
     → InRange (getD (st .setup .criticality) j 0) (accountAt (st .counters) j)
 in-range st f j h =
     fits-in-range (st .setup .p) (st .setup .r) _ _ (f .setup .p-most) (f .setup .r-most) (f .setup .each j h .most)
-    (return-small _ _ _ (f .setup .q-most) (f .counters .returns .fits j h)) (f .counters .accounts j h)
+    (returns-small (st .setup) (st .counters) (f .setup .q-most) (f .counters) j h) (accounts-fit (st .setup) (st .counters) (f .counters) j h)
 
 -- ---- the round
 

@@ -25,7 +25,8 @@ use Rattle.image.specs.Rows.{rowFits}
 use Rattle.image.proofs.TailLaws.{TailFits, tail-pass, tail-ok}
 use Rattle.image.proofs.SingleWords.{own-made, syndrome-made, own-number-right, own-right, syndrome-right}
 use Rattle.image.proofs.RowLaws.{RowsSmall, row-small, rows-ok, rows-pass, reading-fits}
-use Rattle.image.proofs.CounterLaws.{CountersFit, counters-small, counters-ok, counters-pass, zero-counters, round-counters}
+use Rattle.image.proofs.CounterSectionLaws.{CountersFit}
+use Rattle.image.proofs.CounterLaws.{counters-small, counters-ok, counters-pass, zero-counters, round-counters}
 use Rattle.presence.specs.Image.{imageRuns}
 use Rattle.presence.specs.Valid.{roomy, stateVerdict, Valid}
 use Rattle.presence.specs.Opening.{fresh}

@@ -1,7 +1,7 @@
 -- Every section at its place.
 use native.Mathlib.Omega.{arith}
 use mathlib.Core.Path.{_∙_}
-use Rattle.image.proofs.CounterLaws.{counters-roomy}
+use Rattle.image.proofs.CounterSectionLaws.{counters-roomy}
 use Rattle.presence.proofs.SmallLaws.{roomy-small}
 use Rattle.presence.proofs.SaveLaws.{sections-written}
 use borrow.Author.Needs.{needs}
