@@ -17,14 +17,14 @@ use Rattle.setup.specs.Layout.{headAt, penaltyLimitAt, rewardLimitAt, modulesAt
 use Rattle.setup.specs.Setup.{returnLimitIn, sizeIn, limitIn, criticalityIn, setupOf}
 use Rattle.setup.proofs.SetupLaws.{SetupFits}
 use Rattle.setup.specs.declared.Setup.{Setup}
-use Rattle.rules.specs.Account.{accountAt, countersOf}
+use Rattle.rules.specs.Account.{countersOf}
 use Rattle.rules.specs.declared.Counters.{Counters}
 use Rattle.image.specs.Layout.{ownAt, penaltiesAt}
 use Rattle.image.specs.Words.{viewIn}
-use Rattle.image.specs.CounterSection.{counterWord, counterIn, counterOf, CounterSection, limitsIn, accountIn, counterTest, valuesIn}
+use Rattle.image.specs.CounterSection.{counterWord, counterIn, counterOf, CounterSection, basisIn, counterTest, valuesIn}
 use Rattle.image.specs.Returns.{returnCounts}
 use Rattle.image.specs.Counters.{penalties, rewards, counterSections, counterTests, countersIn, counterRuns, zeroCounters, ShapedCounters}
-use Rattle.image.proofs.CounterSectionLaws.{counter-there, counter-passes, array-back, counter-same, Among, first, later, each-at, each-of, CountersSmall, limitsOf, CountersFit, zeroAccount, SectionHolds}
+use Rattle.image.proofs.CounterSectionLaws.{counter-there, counter-passes, array-back, counter-same, Among, first, later, each-at, each-of, CountersSmall, basisOf, CountersFit, SectionHolds}
 use Rattle.image.proofs.PenaltyLaws.{penalties-hold, rewards-hold}
 use Rattle.image.proofs.ReturnLaws.{returns-hold}
 
@@ -35,26 +35,33 @@ holds x i = each-at SectionHolds i (penalties-hold, (rewards-hold, (returns-hold
 
 -- they have room
 pub counters-small : (s : Setup) (c : Counters) → SetupFits s → CountersFit s c → CountersSmall (s .n) c
-counters-small s c f fits = record { small = λ x i j h. holds x i .small s c j f h (fits .fits x i j h); clear = fits .clear }
+counters-small s c f fits = record { small = λ x i j h. holds x i .small s c f (fits .fits x i) j h; clear = fits .clear }
 
 -- those of a module that is opened
 pub zero-counters : (s : Setup) → SetupFits s → CountersFit s (zeroCounters (full (s .n)))
-unfolding accountAt
 zero-counters s f = record {
-  fits = λ x i j h. ap (x .fits (limitsOf s j)) (account j h) ∙ holds x i .opened s j f;
+  fits = λ x i j h.
+      ap₂ (x .fits)
+      (λ k. record {
+        p = s .p;
+        r = s .r;
+        q = s .q;
+        criticality = getD (s .criticality) j 0;
+        present = bit-full (s .n) j h k;
+        penalty = zero-at j h k;
+      })
+      (ap (λ (a : List ℕ). getD a j 0) (holds x i .zeros _) ∙ zero-at j h)
+      ∙ holds x i .opened s j f;
   clear = λ x i. ap (clearFrom (s .n)) (holds x i .zeros _) ∙ clear-of (s .n) (replicate 16 0) (λ i h l. getD-replicate {A = ℕ} 16 i 0 0 l);
 }
   where
     zero-at : (j : ℕ) → j < s .n → getD {A = ℕ} (replicate 16 0) j 0 ≡ 0
     zero-at j k = getD-replicate {A = ℕ} 16 j 0 0 (omega (arith, f .most))
 
-    account : (j : ℕ) → j < s .n → accountAt (zeroCounters (full (s .n))) j ≡ zeroAccount
-    account j h = λ i. record { present = bit-full (s .n) j h i; penalty = zero-at j h i; reward = zero-at j h i; returns = zero-at j h i }
-
 -- those after a round
 pub round-counters : (s : Setup) (health : ℕ) (c : Counters) → SetupFits s → CountersFit s c → CountersFit s (countersOf s health c)
 round-counters s health c f fits = record {
-  fits = λ x i j h. holds x i .kept s health c j f fits h;
+  fits = λ x i j h. holds x i .kept s health c f fits j h;
   clear = λ x i.
       let (g, e) = holds x i .made s health c in
       ap (clearFrom (s .n)) e ∙ array-clear (s .n) g;
@@ -109,18 +116,19 @@ module _ (w : ℕ → ℕ) (s : Setup) (c : Counters) (m : CountersSmall (s .n) 
   there : (x : CounterSection) → Among x counterSections → (j : ℕ) → j < n → counterIn (w (x .at n + j)) ≡ getD (x .values c) j 0
   there x i = counter-there (x .kind) n (x .at n) w (x .values c) (m .small x i) (written w n c f x i)
 
-  account-there : (j : ℕ) → j < n → accountIn w n j ≡ accountAt c j
-  unfolding accountAt
-  account-there j h = λ i. record {
-    present = ap (λ (v : ℕ). bit v j) (b .view-there) i;
-    penalty = there penalties first j h i;
-    reward = there rewards (later first) j h i;
-    returns = there returnCounts (later (later first)) j h i;
-  }
-
-  same-fit : (x : CounterSection) (j : ℕ) → j < n → x .fits (limitsIn w j) (accountIn w n j) ≡ x .fits (limitsOf s j) (accountAt c j)
-  same-fit x j h =
-      ap₂ (x .fits) (λ i. record { p = b .p-there i; r = b .r-there i; q = b .q-there i; criticality = b .criticality-there j h i }) (account-there j h)
+  same-fit : (x : CounterSection) → Among x counterSections → (j : ℕ) → j < n
+      → x .fits (basisIn w n j) (counterIn (w (x .at n + j))) ≡ x .fits (basisOf s c j) (getD (x .values c) j 0)
+  same-fit x i j h =
+      ap₂ (x .fits)
+      (λ k. record {
+        p = b .p-there k;
+        r = b .r-there k;
+        q = b .q-there k;
+        criticality = b .criticality-there j h k;
+        present = bit (b .view-there k) j;
+        penalty = there penalties first j h k;
+      })
+      (there x i j h)
 
   -- they pass where the counters are within the limits
   pub counters-ok : CountersFit s c → Passed (counterTests w n)
@@ -129,12 +137,12 @@ module _ (w : ℕ → ℕ) (s : Setup) (c : Counters) (m : CountersSmall (s .n) 
       each-of (Right w n) counterSections
       (λ x i j h.
       and-true (counterOf (x .kind) j (w (x .at n + j))) _
-      (counter-passes (x .kind) n (x .at n) w (x .values c) (m .small x i) (written w n c f x i) j h) (same-fit x j h ∙ fits .fits x i j h))
+      (counter-passes (x .kind) n (x .at n) w (x .values c) (m .small x i) (written w n c f x i) j h) (same-fit x i j h ∙ fits .fits x i j h))
 
   -- and are within the limits where they pass
   pub counters-pass : Passed (counterTests w n) → CountersFit s c
   counters-pass pass = record {
-    fits = λ x i j h. sym (same-fit x j h) ∙ and-r (counterOf (x .kind) j (w (x .at n + j))) _ (right w n pass x i j h);
+    fits = λ x i j h. sym (same-fit x i j h) ∙ and-r (counterOf (x .kind) j (w (x .at n + j))) _ (right w n pass x i j h);
     clear = m .clear;
   }
 

@@ -7,6 +7,7 @@ use Prim.Native.Nat.{ℕ, _+_, _-_, _*_, _/_, _%_, _^_, _<_, _≤_}
 use native.Mathlib.Omega.{arith}
 use lib.ListN.{getD, length, replicate}
 use borrow.Author.Tests.{eqb-true, eq-eqb}
+use Rattle.words.specs.Bits.{bit}
 use Rattle.words.specs.Array.{array}
 use Rattle.words.specs.Count.{all}
 use Rattle.words.specs.Verdict.{allRight}
@@ -15,12 +16,11 @@ use Rattle.words.proofs.ArrayLaws.{clearFrom, array-at, array-ext, array-own, b
 use Rattle.words.proofs.CountLaws.{all-both, all-intro}
 use Rattle.setup.specs.declared.Setup.{Setup}
 use Rattle.setup.proofs.SetupLaws.{SetupFits}
-use Rattle.rules.specs.Account.{accountAt, countersOf}
-use Rattle.rules.specs.declared.Account.{Account}
+use Rattle.rules.specs.Account.{countersOf}
 use Rattle.rules.specs.declared.Counters.{Counters}
-use Rattle.image.specs.CounterSection.{counterWord, counterIn, counterOf, CounterSection, Each, limitsIn, accountIn, counterTest, sectionTest, valuesIn, sectionRoomy}
+use Rattle.image.specs.CounterSection.{counterWord, counterIn, counterOf, CounterSection, Each, basisIn, counterTest, sectionTest, valuesIn, sectionRoomy}
 use Rattle.image.specs.Counters.{counterSections, counterTests, countersIn, zeroCounters, countersRoomy}
-use Rattle.image.specs.declared.Limits.{Limits}
+use Rattle.image.specs.declared.Basis.{Basis}
 
 -- ---- one word
 
@@ -39,10 +39,10 @@ module _ (kind j v : ℕ) (h : v < 2 ^ 23) where
   pub counter-back : counterIn (counterWord kind j v) ≡ v
   counter-back = omega arith
 
--- the test of a word u that is already read, with what it is tested by
-pub test-by : {u : ℕ} {l : Limits} {a : Account} {of fits : Bool} (x : CounterSection) (w : ℕ → ℕ) (n j : ℕ) → u ≡ w (x .at n + j) → l ≡ limitsIn w j
-    → a ≡ accountIn w n j → of ≡ counterOf (x .kind) j u → fits ≡ x .fits l a → of && fits ≡ counterTest x w n j
-test-by x w n j e f g of fits = ap₂ _&&_ (of ∙ ap (counterOf (x .kind) j) e) (fits ∙ ap₂ (x .fits) f g)
+-- the test of a word u that is already read, on the basis b
+pub test-by : {u : ℕ} {b : Basis} {of fits : Bool} (x : CounterSection) (w : ℕ → ℕ) (n j : ℕ) → u ≡ w (x .at n + j) → b ≡ basisIn w n j
+    → of ≡ counterOf (x .kind) j u → fits ≡ x .fits b (counterIn u) → of && fits ≡ counterTest x w n j
+test-by x w n j e f of fits = ap₂ _&&_ (of ∙ ap (counterOf (x .kind) j) e) (fits ∙ ap₂ (x .fits) f (ap counterIn e))
 
 -- ---- one section
 
@@ -119,17 +119,27 @@ counters-roomy n c m =
 
 -- ---- counters within the limits of a setup
 
--- what those of module j + 1 are tested by
-abbrev pub limitsOf : Setup → ℕ → Limits
-limitsOf s j = record { p = s .p; r = s .r; q = s .q; criticality = getD (s .criticality) j 0 }
+-- the basis for module j + 1
+abbrev pub basisOf : Setup → Counters → ℕ → Basis
+basisOf s c j = record {
+  p = s .p;
+  r = s .r;
+  q = s .q;
+  criticality = getD (s .criticality) j 0;
+  present = bit (c .view) j;
+  penalty = getD (c .penalty) j 0;
+}
+
+abbrev pub Fitting : Setup → Counters → CounterSection → Type 0
+Fitting s c x = (j : ℕ) → j < s .n → x .fits (basisOf s c j) (getD (x .values c) j 0) ≡ true
 
 pub record CountersFit (s : Setup) (c : Counters) : Type 0 where
-  pub fits : (x : CounterSection) → Among x counterSections → (j : ℕ) → j < s .n → x .fits (limitsOf s j) (accountAt c j) ≡ true
+  pub fits : (x : CounterSection) → Among x counterSections → Fitting s c x
   pub clear : (x : CounterSection) → Among x counterSections → clearFrom (s .n) (x .values c) ≡ true
 
--- a module that is opened
-abbrev pub zeroAccount : Account
-zeroAccount = record { present = true; penalty = 0; reward = 0; returns = 0 }
+-- for a module that is opened
+abbrev pub zeroBasis : Setup → ℕ → Basis
+zeroBasis s j = record { p = s .p; r = s .r; q = s .q; criticality = getD (s .criticality) j 0; present = true; penalty = 0 }
 
 -- what has to hold of a section
 pub record SectionHolds (x : CounterSection) : Type 0 where
@@ -137,11 +147,9 @@ pub record SectionHolds (x : CounterSection) : Type 0 where
   pub read : (s : List ℕ) (n : ℕ) → x .values (countersIn s n) ≡ valuesIn s n x
   -- at opening they are 0, which fits
   pub zeros : (view : ℕ) → x .values (zeroCounters view) ≡ replicate 16 0
-  pub opened : (s : Setup) (j : ℕ) → SetupFits s → x .fits (limitsOf s j) zeroAccount ≡ true
+  pub opened : (s : Setup) (j : ℕ) → SetupFits s → x .fits (zeroBasis s j) 0 ≡ true
   -- a round leaves an array of counters that fit
   pub made : (s : Setup) (health : ℕ) (c : Counters) → (f : ℕ → ℕ) × (x .values (countersOf s health c) ≡ array (s .n) f)
-  pub kept : (s : Setup) (health : ℕ) (c : Counters) (j : ℕ) → SetupFits s → CountersFit s c → j < s .n
-      → x .fits (limitsOf s j) (accountAt (countersOf s health c) j) ≡ true
-  -- one that fits has room
-  pub small : (s : Setup) (c : Counters) (j : ℕ) → SetupFits s → j < s .n → x .fits (limitsOf s j) (accountAt c j) ≡ true
-      → getD (x .values c) j 0 < 2 ^ 23
+  pub kept : (s : Setup) (health : ℕ) (c : Counters) → SetupFits s → CountersFit s c → Fitting s (countersOf s health c) x
+  -- those that fit have room
+  pub small : (s : Setup) (c : Counters) → SetupFits s → Fitting s c x → (j : ℕ) → j < s .n → getD (x .values c) j 0 < 2 ^ 23

@@ -63,9 +63,9 @@ penalties-hold = record {
   zeros = λ view. refl;
   opened = λ s j f. rw (le-leb 0 (s .p + getD (s .criticality) j 0) (omega arith), le-leb 0 (s .p) (omega arith));
   made = λ s health c. (_, refl);
-  kept = λ s health c j f fits h. penalty-of _ (s .r) _ _ _ _ (accounts-after s health c (f .most) fits j h);
-  small = λ s c j f h e.
-      omega (arith, leb-true (getD (c .penalty) j 0) _ (and-l (leb (getD (c .penalty) j 0) (s .p + getD (s .criticality) j 0)) _ e), f .p-most, f .each j h .most);
+  kept = λ s health c f fits j h. penalty-of _ (s .r) _ _ _ _ (accounts-after s health c (f .most) fits j h);
+  small = λ s c f fits j h.
+      omega (arith, leb-true (getD (c .penalty) j 0) _ (and-l (leb (getD (c .penalty) j 0) (s .p + getD (s .criticality) j 0)) _ (fits j h)), f .p-most, f .each j h .most);
 }
 
 pub rewards-hold : SectionHolds rewards
@@ -75,6 +75,6 @@ rewards-hold = record {
   zeros = λ view. refl;
   opened = λ s j f. rw (lt-ltb 0 (s .r) (f .r-least));
   made = λ s health c. (_, refl);
-  kept = λ s health c j f fits h. reward-of (s .p) _ _ _ _ _ (accounts-after s health c (f .most) fits j h);
-  small = λ s c j f h e. omega (arith, ltb-true (getD (c .reward) j 0) _ (and-l (ltb (getD (c .reward) j 0) (s .r)) _ e), f .r-most);
+  kept = λ s health c f fits j h. reward-of (s .p) _ _ _ _ _ (accounts-after s health c (f .most) fits j h);
+  small = λ s c f fits j h. omega (arith, ltb-true (getD (c .reward) j 0) _ (and-l (ltb (getD (c .reward) j 0) (s .r)) _ (fits j h)), f .r-most);
 }

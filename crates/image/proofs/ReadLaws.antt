@@ -15,10 +15,10 @@ use Rattle.setup.specs.Limits.{mostPenaltyLimit, mostRewardLimit}
 use Rattle.setup.specs.Setup.{returnLimitIn, sizeIn, limitIn, criticalityIn, setupOf}
 use Rattle.setup.specs.Check.{limitOk, moduleTest, wordTests}
 use Rattle.setup.specs.declared.Setup.{Setup}
-use Rattle.image.specs.Layout.{ownAt, latestAt, earlierAt, penaltiesAt, rewardsAt, returnsAt}
+use Rattle.image.specs.Layout.{ownAt, latestAt, earlierAt, penaltiesAt}
 use Rattle.image.specs.Words.{viewIn, ownNumberOk, ownOk, syndromeOk}
 use Rattle.image.specs.Rows.{rowTest}
-use Rattle.image.specs.CounterSection.{counterIn, CounterSection, limitsIn, accountIn}
+use Rattle.image.specs.CounterSection.{counterIn, CounterSection, basisIn}
 use Rattle.image.specs.Counters.{counterTests}
 use Rattle.image.specs.Check.{wordsRight, imageTests}
 
@@ -75,20 +75,11 @@ read-criticality s h e = rw h (ap (λ (x : Setup). x .criticality) e)
 pub word-by : {at place w : ℕ} (s : List ℕ) (j : ℕ) → at ≡ place → w ≡ wordAt s (at + j) → w ≡ wordAt s (place + j)
 word-by s j a e = e ∙ ap (λ (x : ℕ). wordAt s (x + j)) a
 
--- and its counter
-pub counter-by : {at place v : ℕ} (s : List ℕ) (j : ℕ) → at ≡ place → v ≡ counterIn (wordAt s (at + j)) → v ≡ counterIn (wordAt s (place + j))
-counter-by s j a e = e ∙ ap (λ (x : ℕ). counterIn (wordAt s (x + j))) a
-
--- what the counters of a module are tested by, and its account, field by field
-module _ (w : ℕ → ℕ) (n j : ℕ) where
-  pub limits-by : {p r q k : ℕ} → p ≡ limitIn (w penaltyLimitAt) → r ≡ limitIn (w rewardLimitAt) → q ≡ returnLimitIn (w headAt)
-      → k ≡ criticalityIn (w (modulesAt + j)) → record { p = p; r = r; q = q; criticality = k } ≡ limitsIn w j
-  limits-by p r q k = λ i. record { p = p i; r = r i; q = q i; criticality = k i }
-
-  pub account-by : {b : Bool} {x y z : ℕ} → b ≡ bit (viewIn (w (ownAt n))) j → x ≡ counterIn (w (penaltiesAt n + j))
-      → y ≡ counterIn (w (rewardsAt n + j)) → z ≡ counterIn (w (returnsAt n + j))
-      → record { present = b; penalty = x; reward = y; returns = z } ≡ accountIn w n j
-  account-by b x y z = λ i. record { present = b i; penalty = x i; reward = y i; returns = z i }
+-- what the counters of a module are tested by, field by field
+pub basis-by : {p r q k x : ℕ} {b : Bool} (w : ℕ → ℕ) (n j : ℕ) → p ≡ limitIn (w penaltyLimitAt) → r ≡ limitIn (w rewardLimitAt)
+    → q ≡ returnLimitIn (w headAt) → k ≡ criticalityIn (w (modulesAt + j)) → b ≡ bit (viewIn (w (ownAt n))) j
+    → x ≡ counterIn (w (penaltiesAt n + j)) → record { p = p; r = r; q = q; criticality = k; present = b; penalty = x } ≡ basisIn w n j
+basis-by w n j p r q k b x = λ i. record { p = p i; r = r i; q = q i; criticality = k i; present = b i; penalty = x i }
 
 -- one counter of the first j modules
 abbrev pub valuesTo : (ℕ → ℕ) → ℕ → ℕ → CounterSection → List ℕ

@@ -85,6 +85,6 @@ returns-hold = record {
   zeros = λ view. refl;
   opened = λ s j f. refl;
   made = λ s health c. (_, refl);
-  kept = λ s health c j f fits h. count-fits (s .q) (accountAt (countersOf s health c) j) (counts-fit s health c (f .most) j h);
-  small = λ s c j f h e. omega (arith, return-small (s .q) (bit (c .view) j) (getD (c .returns) j 0) (f .q-most) e);
+  kept = λ s health c f fits j h. count-fits (s .q) (accountAt (countersOf s health c) j) (counts-fit s health c (f .most) j h);
+  small = λ s c f fits j h. omega (arith, return-small (s .q) (bit (c .view) j) (getD (c .returns) j 0) (f .q-most) (fits j h));
 }

@@ -13,7 +13,7 @@ use Rattle.setup.specs.Check.{wordTests, checkHead}
 use Rattle.image.specs.Layout.{ownAt, latestAt, earlierAt, imageLength}
 use Rattle.image.specs.Words.{ownNumberOk, ownOk, syndromeOk}
 use Rattle.image.specs.Rows.{rowTest, rowTests}
-use Rattle.image.specs.CounterSection.{counterOf, limitsIn, accountIn}
+use Rattle.image.specs.CounterSection.{counterIn, counterOf, basisIn}
 use Rattle.image.specs.Counters.{counterTests, fitsBy}
 
 -- numbers 7 and 8 of the words w of an image of n modules: own number and view, rows, the two syndromes, counters
@@ -52,4 +52,4 @@ wordsRight w n =
 
 -- The test of word j of a section with one word a module, by its kind and place; only the search through such a section names it.
 unfoldable pub wordTest : (ℕ → ℕ) → ℕ → ℕ → ℕ → ℕ → Bool
-wordTest w n kind at j = cond (eqb kind 11) (rowTest w n j) (counterOf kind j (w (at + j)) && fitsBy kind (limitsIn w j) (accountIn w n j))
+wordTest w n kind at j = cond (eqb kind 11) (rowTest w n j) (counterOf kind j (w (at + j)) && fitsBy kind (basisIn w n j) (counterIn (w (at + j))))

@@ -12,11 +12,10 @@ use Rattle.words.specs.Verdict.{Test, each}
 use Rattle.words.specs.Runs.{Run}
 use Rattle.setup.specs.Layout.{headAt, penaltyLimitAt, rewardLimitAt, modulesAt}
 use Rattle.setup.specs.Setup.{returnLimitIn, limitIn, criticalityIn}
-use Rattle.rules.specs.declared.Account.{Account}
 use Rattle.rules.specs.declared.Counters.{Counters}
-use Rattle.image.specs.Layout.{ownAt, penaltiesAt, rewardsAt, returnsAt}
+use Rattle.image.specs.Layout.{ownAt, penaltiesAt}
 use Rattle.image.specs.Words.{viewIn}
-use Rattle.image.specs.declared.Limits.{Limits}
+use Rattle.image.specs.declared.Basis.{Basis}
 
 -- of module j + 1: 27..23 module, 22..0 counter
 abbrev pub counterWord : ℕ → ℕ → ℕ → ℕ
@@ -30,12 +29,13 @@ counterIn w = w % numberUnit
 abbrev pub counterOf : ℕ → ℕ → ℕ → Bool
 counterOf kind j w = eqb (w / numberUnit) (kind * 2 ^ 5 + (j + 1))
 
--- the kind of the words, their place in an image of n modules, the counters that they hold, and whether the counter of an account is right
+-- the kind of the words, their place in an image of n modules, the counters that they hold, and which counters are right, on the basis of what
+-- other words say of the module
 pub record CounterSection : Type 0 where
   pub kind : ℕ
   pub at : ℕ → ℕ
   pub values : Counters → List ℕ
-  pub fits : Limits → Account → Bool
+  pub fits : Basis → ℕ → Bool
 
 -- what holds of each section of a list
 abbrev pub Each : (CounterSection → Type 0) → List CounterSection → Type 0
@@ -44,27 +44,20 @@ Each P (x ∷ xs) = P x × Each P xs
 
 -- ---- in an image of n modules whose words are w, or whose bytes are s
 
--- what the counters of module j + 1 are tested by
-abbrev pub limitsIn : (ℕ → ℕ) → ℕ → Limits
-limitsIn w j = record {
+-- the basis for module j + 1
+abbrev pub basisIn : (ℕ → ℕ) → ℕ → ℕ → Basis
+basisIn w n j = record {
   p = limitIn (w penaltyLimitAt);
   r = limitIn (w rewardLimitAt);
   q = returnLimitIn (w headAt);
   criticality = criticalityIn (w (modulesAt + j));
-}
-
--- and these counters, with the module's bit of the view
-abbrev pub accountIn : (ℕ → ℕ) → ℕ → ℕ → Account
-accountIn w n j = record {
   present = bit (viewIn (w (ownAt n))) j;
   penalty = counterIn (w (penaltiesAt n + j));
-  reward = counterIn (w (rewardsAt n + j));
-  returns = counterIn (w (returnsAt n + j));
 }
 
 -- the kind, the number j + 1, a counter that fits
 abbrev pub counterTest : CounterSection → (ℕ → ℕ) → ℕ → ℕ → Bool
-counterTest x w n j = counterOf (x .kind) j (w (x .at n + j)) && x .fits (limitsIn w j) (accountIn w n j)
+counterTest x w n j = counterOf (x .kind) j (w (x .at n + j)) && x .fits (basisIn w n j) (counterIn (w (x .at n + j)))
 
 -- number 8 at the first wrong counter
 abbrev pub sectionTest : (ℕ → ℕ) → ℕ → CounterSection → Test

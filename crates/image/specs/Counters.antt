@@ -9,32 +9,27 @@ use lib.Dec.{eqb, leb, ltb}
 use Rattle.words.specs.Word.{wordAt}
 use Rattle.words.specs.Verdict.{Test}
 use Rattle.words.specs.Runs.{Run}
-use Rattle.rules.specs.declared.Account.{Account}
 use Rattle.rules.specs.declared.Counters.{Counters}
 use Rattle.image.specs.Layout.{ownAt, penaltiesAt, rewardsAt}
 use Rattle.image.specs.Words.{viewIn}
 use Rattle.image.specs.CounterSection.{CounterSection, Each, sectionTest, valuesIn, sectionRun, sectionRoomy}
 use Rattle.image.specs.Returns.{returnCounts}
-use Rattle.image.specs.declared.Limits.{Limits}
+use Rattle.image.specs.declared.Basis.{Basis}
 
 -- a penalty, in 20..0 of its word: at most P + criticality; in the view exactly where it is not over P
 abbrev pub penaltyFits : ℕ → ℕ → Bool → ℕ → Bool
 penaltyFits p criticality present penalty = leb penalty (p + criticality) && Bool·beq present (leb penalty p)
 
 abbrev pub penalties : CounterSection
-penalties = record {
-  kind = 13;
-  at = penaltiesAt;
-  values = λ c. c .penalty;
-  fits = λ l a. penaltyFits (l .p) (l .criticality) (a .present) (a .penalty);
-}
+penalties =
+    record { kind = 13; at = penaltiesAt; values = λ c. c .penalty; fits = λ b v. penaltyFits (b .p) (b .criticality) (b .present) v }
 
 -- a reward, in 22..0 of its word: below R, and 0 where the penalty is 0
 abbrev pub rewardFits : ℕ → ℕ → ℕ → Bool
 rewardFits r penalty reward = ltb reward r && (eqb reward 0 || not (eqb penalty 0))
 
 abbrev pub rewards : CounterSection
-rewards = record { kind = 14; at = rewardsAt; values = λ c. c .reward; fits = λ l a. rewardFits (l .r) (a .penalty) (a .reward) }
+rewards = record { kind = 14; at = rewardsAt; values = λ c. c .reward; fits = λ b v. rewardFits (b .r) (b .penalty) v }
 
 -- the sections of counters, in the order of their places
 abbrev pub counterSections : List CounterSection
@@ -72,5 +67,5 @@ unfoldable pub countersRoomy : ℕ → Counters → Bool
 countersRoomy n c = foldr (λ x roomy. sectionRoomy n c x && roomy) true counterSections
 
 -- whether a counter fits in the section of a kind; only the search through a section names it
-abbrev pub fitsBy : ℕ → Limits → Account → Bool
-fitsBy kind l a = foldr (λ x other. cond (eqb kind (x .kind)) (x .fits l a) other) false counterSections
+abbrev pub fitsBy : ℕ → Basis → ℕ → Bool
+fitsBy kind b v = foldr (λ x other. cond (eqb kind (x .kind)) (x .fits b v) other) false counterSections

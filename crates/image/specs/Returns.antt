@@ -10,4 +10,4 @@ abbrev pub returnFits : ℕ → Bool → ℕ → Bool
 returnFits q present count = eqb count 0 || (not present && ltb count q)
 
 abbrev pub returnCounts : CounterSection
-returnCounts = record { kind = 15; at = returnsAt; values = λ c. c .returns; fits = λ l a. returnFits (l .q) (a .present) (a .returns) }
+returnCounts = record { kind = 15; at = returnsAt; values = λ c. c .returns; fits = λ b v. returnFits (b .q) (b .present) v }

@@ -1,6 +1,6 @@
 // The counters of the modules, kinds 13 and 14, and 15 of returns.rt: tested, read and written.
+use crate::Basis;
 use crate::CountersPart;
-use crate::Limits;
 use crate::layout::penalties_at;
 use crate::layout::returns_at;
 use crate::layout::rewards_at;
@@ -8,7 +8,6 @@ use crate::read::criticality_in;
 use crate::read::limit_in;
 use crate::read::view_in;
 use crate::returns::return_fits;
-use rules::Account;
 use rules::Counters;
 use setup::layout::PENALTY_LIMIT_AT;
 use setup::layout::REWARD_LIMIT_AT;
@@ -31,7 +30,7 @@ ghost use Rattle.setup.specs.Layout.{headAt, penaltyLimitAt, rewardLimitAt, mod
 ghost use Rattle.setup.specs.Setup.{returnLimitIn, limitIn, criticalityIn};
 ghost use Rattle.image.specs.Layout.{ownAt, penaltiesAt, endAt, imageLength};
 ghost use Rattle.image.specs.Words.{viewIn};
-ghost use Rattle.image.specs.CounterSection.{counterWord, counterIn, counterOf, limitsIn, accountIn};
+ghost use Rattle.image.specs.CounterSection.{counterWord, counterIn, counterOf, basisIn};
 ghost use Rattle.image.specs.Counters.{penaltyFits, rewardFits, fitsBy, counterTests, countersIn, counterRuns, zeroCounters, countersRoomy};
 
 // A word of this kind, of module j + 1.
@@ -57,49 +56,30 @@ fn reward_fits(limit: u32, penalty: u32, reward: u32) -> bool
     (reward < limit) & ((reward == 0) | (penalty != 0))
 }
 
-// The counter of module j + 1 in the section that begins at `at`.
-fn counter_in(s: &[u8], at: usize, j: usize) -> u32
-    requires { ⌜ (at < 2 ^ 16) × (j < 16) × ((at + j) * 4 + 4 ≤ length (now s)) ⌝ }
-    ensures { λ r. ⌜ r ≡ counterIn (wordAt (now (s .entry)) (at + j)) ⌝ }
-{
-    word_at(s, at + j) % NUMBER
-}
-
 // What the counters of module j + 1 are tested by.
-fn limits_in(s: &[u8], j: usize) -> Limits
-    requires { ⌜ (j < 16) × ((modulesAt + j) * 4 + 4 ≤ length (now s)) ⌝ }
-    ensures { λ r. ⌜ r ≡ limitsIn (wordAt (now (s .entry))) j ⌝ }
+fn basis_in(s: &[u8], n: usize, j: usize) -> Basis
+    requires { ⌜ (n ≤ 16) × (length (now s) ≡ imageLength n) × (j < n) ⌝ }
+    ensures { λ r. ⌜ r ≡ basisIn (wordAt (now (s .entry))) n j ⌝ }
 {
-    Limits {
+    Basis {
         p: limit_in(s, PENALTY_LIMIT_AT),
         r: limit_in(s, REWARD_LIMIT_AT),
         q: field(word_at(s, 0), 8, 20),
         criticality: criticality_in(s, j),
-    }
-}
-
-// The counters of module j + 1, and whether it is in the view.
-fn account_in(s: &[u8], n: usize, j: usize) -> Account
-    requires { ⌜ (n ≤ 16) × (length (now s) ≡ imageLength n) × (j < n) ⌝ }
-    ensures { λ r. ⌜ r ≡ accountIn (wordAt (now (s .entry))) n j ⌝ }
-{
-    Account {
         present: bit_at(view_in(s, n), j),
-        penalty: counter_in(s, penalties_at(n), j),
-        reward: counter_in(s, rewards_at(n), j),
-        returns: counter_in(s, returns_at(n), j),
+        penalty: word_at(s, penalties_at(n) + j) % NUMBER,
     }
 }
 
-// Whether the counter in the section of a kind fits.
-fn counter_fits(kind: u32, l: Limits, a: Account) -> bool
-    requires { ⌜ (l .p < 2 ^ 28) × (l .criticality < 2 ^ 17) ⌝ }
-    ensures { λ r. ⌜ r ≡ fitsBy kind l a ⌝ }
+// Whether a counter fits in the section of a kind.
+fn counter_fits(kind: u32, b: Basis, v: u32) -> bool
+    requires { ⌜ (b .p < 2 ^ 28) × (b .criticality < 2 ^ 17) ⌝ }
+    ensures { λ r. ⌜ r ≡ fitsBy kind b v ⌝ }
 {
     match kind {
-        13 => penalty_fits(l.p, l.criticality, a.present, a.penalty),
-        14 => reward_fits(l.r, a.penalty, a.reward),
-        15 => return_fits(l.q, a.present, a.returns),
+        13 => penalty_fits(b.p, b.criticality, b.present, v),
+        14 => reward_fits(b.r, b.penalty, v),
+        15 => return_fits(b.q, b.present, v),
         _ => false,
     }
 }
@@ -107,11 +87,12 @@ fn counter_fits(kind: u32, l: Limits, a: Account) -> bool
 // Whether the word of module j + 1 is right in the section of a kind that begins at `at`.
 pub fn counter_right(s: &[u8], n: usize, kind: u32, at: usize, j: usize) -> bool
     requires { ⌜ (n ≤ 16) × (length (now s) ≡ imageLength n) × (kind < 16) × (at + n ≤ endAt n) × (j < n) ⌝ }
-    ensures { λ r. ⌜ r ≡ counterOf kind j (wordAt (now (s .entry)) (at + j)) && fitsBy kind (limitsIn (wordAt (now (s .entry))) j) (accountIn (wordAt (now (s .entry))) n j) ⌝ }
+    ensures { λ r. ⌜ r ≡ counterOf kind j (wordAt (now (s .entry)) (at + j))
+        && fitsBy kind (basisIn (wordAt (now (s .entry))) n j) (counterIn (wordAt (now (s .entry)) (at + j))) ⌝ }
 {
-    let limits = limits_in(s, j);
-    let account = account_in(s, n, j);
-    counter_of(kind, j, word_at(s, at + j)) & counter_fits(kind, limits, account)
+    let basis = basis_in(s, n, j);
+    let w = word_at(s, at + j);
+    counter_of(kind, j, w) & counter_fits(kind, basis, w % NUMBER)
 }
 
 // The counters, and whether their words are right, by what the words before them hold.

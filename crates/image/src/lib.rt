@@ -23,12 +23,14 @@ pub struct CountersPart {
     pub counters: Counters,
 }
 
-// What the counters of a module are tested by: the limits P, R and Q, and its criticality.
-pub struct Limits {
+// What the counters of a module are tested by: the limits P, R and Q, its criticality, its bit of the view and its penalty.
+pub struct Basis {
     pub p: u32,
     pub r: u32,
     pub q: u32,
     pub criticality: u32,
+    pub present: bool,
+    pub penalty: u32,
 }
 
 pub mod check;

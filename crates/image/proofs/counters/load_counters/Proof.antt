@@ -14,7 +14,7 @@ use Rattle.image.specs.CounterSection.{counterIn}
 use Rattle.image.specs.Returns.{returnCounts}
 use Rattle.image.specs.Counters.{penalties, rewards, countersIn}
 use Rattle.image.proofs.CounterSectionLaws.{test-by, testsAt, counters-right}
-use Rattle.image.proofs.ReadLaws.{array-read, word-by, limits-by, account-by, valuesTo}
+use Rattle.image.proofs.ReadLaws.{array-read, word-by, basis-by, valuesTo}
 use borrow.Author.Needs.{needs}
 use Rattle.image.proofs.counters.load_counters.Statement.{statement}
 use Rattle.image.proofs.counters.load_counters.Tie as tie
@@ -57,13 +57,12 @@ loop-again c =
     let e = word-by _ (l .j) (q .before .before .before .penalties-at .ensures) (v .before .before .before .word-at .ensures) in
     let f = word-by _ (l .j) (q .before .before .rewards-at .ensures) (v .before .before .word-at2 .ensures) in
     let g = word-by _ (l .j) (q .before .returns-at .ensures) (v .before .word-at3 .ensures) in
-    let limits = limits-by w n (l .j) (r .0) (r .1) (r .4) (array-read _ _ (r .3) (l .j) h (s .pre .0 .0)) in
-    let account = account-by w n (l .j) (v .bit-at .ensures ∙ ap (λ (v : ℕ). bit v (l .j)) (r .2)) (ap counterIn e) (ap counterIn f) (ap counterIn g) in (
+    let basis = basis-by w n (l .j) (r .0) (r .1) (r .4) (array-read _ _ (r .3) (l .j) h (s .pre .0 .0)) (v .bit-at .ensures ∙ ap (λ (v : ℕ). bit v (l .j)) (r .2)) (ap counterIn e) in (
       omega (arith, h),
       all-step _ _ (l .inv .1)
-          (ap₂ _&&_ (test-by penalties w n (l .j) e limits account (a .before .counter-of .ensures) (a .penalty-fits .ensures))
-          (ap₂ _&&_ (test-by rewards w n (l .j) f limits account (b .before .counter-of2 .ensures) (b .reward-fits .ensures))
-          (test-by returnCounts w n (l .j) g limits account (c .before .counter-of3 .ensures) (c .return-fits .ensures) ∙ sym (and-end _)))),
+          (ap₂ _&&_ (test-by penalties w n (l .j) e basis (a .before .counter-of .ensures) (a .penalty-fits .ensures))
+          (ap₂ _&&_ (test-by rewards w n (l .j) f basis (b .before .counter-of2 .ensures) (b .reward-fits .ensures))
+          (test-by returnCounts w n (l .j) g basis (c .before .counter-of3 .ensures) (c .return-fits .ensures) ∙ sym (and-end _)))),
       array-step _ _ (l .inv .2) (ap counterIn e),
       array-step _ _ (l .inv .3) (ap counterIn f),
       array-step _ _ (l .inv .4) (ap counterIn g),
