@@ -1,6 +1,6 @@
 -- Sections of counters, whatever their kind: a word is made of its fields, the words that counters are written as hold them, and what passes is
 -- written as it was read. And what has to hold of a section for all that is said of the counters of a state.
-use mathlib.Core.Path.{_≡_, refl, ap, ap₂, _∙_, sym}
+use mathlib.Core.Path.{_≡_, refl, ap, _∙_, sym}
 use mathlib.Core.Bool.{Bool, true, _&&_}
 use mathlib.Core.List.{List, [], _∷_, map, foldr}
 use Prim.Native.Nat.{ℕ, _+_, _-_, _*_, _/_, _%_, _^_, _<_, _≤_}
@@ -18,7 +18,7 @@ use Rattle.setup.specs.declared.Setup.{Setup}
 use Rattle.setup.proofs.SetupLaws.{SetupFits}
 use Rattle.rules.specs.Account.{countersOf}
 use Rattle.rules.specs.declared.Counters.{Counters}
-use Rattle.image.specs.CounterSection.{counterWord, counterIn, counterOf, CounterSection, Each, basisIn, counterTest, sectionTest, valuesIn, sectionRoomy}
+use Rattle.image.specs.CounterSection.{counterWord, counterIn, counterOf, CounterSection, Each, counterTest, sectionTest, valuesIn, sectionRoomy}
 use Rattle.image.specs.Counters.{counterSections, counterTests, countersIn, zeroCounters, countersRoomy}
 use Rattle.image.specs.declared.Basis.{Basis}
 
@@ -38,11 +38,6 @@ module _ (kind j v : ℕ) (h : v < 2 ^ 23) where
 
   pub counter-back : counterIn (counterWord kind j v) ≡ v
   counter-back = omega arith
-
--- the test of a word u that is already read, on the basis b
-pub test-by : {u : ℕ} {b : Basis} {of fits : Bool} (x : CounterSection) (w : ℕ → ℕ) (n j : ℕ) → u ≡ w (x .at n + j) → b ≡ basisIn w n j
-    → of ≡ counterOf (x .kind) j u → fits ≡ x .fits b (counterIn u) → of && fits ≡ counterTest x w n j
-test-by x w n j e f of fits = ap₂ _&&_ (of ∙ ap (counterOf (x .kind) j) e) (fits ∙ ap₂ (x .fits) f (ap counterIn e))
 
 -- ---- one section
 

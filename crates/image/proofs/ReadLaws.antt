@@ -1,26 +1,27 @@
 -- What one pass over an image finds: whether every word is right, and what the counters are read with.
-use mathlib.Core.Path.{_≡_, refl, ap, _∙_, sym}
+use mathlib.Core.Path.{_≡_, refl, ap, ap₂, _∙_, sym}
 use mathlib.Core.Bool.{Bool, true, false, _&&_}
 use mathlib.Core.List.{List}
 use Prim.Native.Nat.{ℕ, _+_, _<_, _≤_}
-use lib.ListN.{getD}
+use lib.ListN.{getD, set, length, replicate}
 use Rattle.words.specs.Word.{wordAt}
 use Rattle.words.specs.Bits.{bit}
 use Rattle.words.specs.Array.{array}
 use Rattle.words.specs.Count.{all}
 use Rattle.words.specs.Verdict.{allRight}
-use Rattle.words.proofs.ArrayLaws.{array-at}
+use Rattle.words.proofs.ArrayLaws.{array-at, array-step, array-end}
 use Rattle.setup.specs.Layout.{headAt, penaltyLimitAt, rewardLimitAt, modulesAt}
 use Rattle.setup.specs.Limits.{mostPenaltyLimit, mostRewardLimit}
 use Rattle.setup.specs.Setup.{returnLimitIn, sizeIn, limitIn, criticalityIn, setupOf}
 use Rattle.setup.specs.Check.{limitOk, moduleTest, wordTests}
 use Rattle.setup.specs.declared.Setup.{Setup}
-use Rattle.image.specs.Layout.{ownAt, latestAt, earlierAt, penaltiesAt}
+use Rattle.image.specs.Layout.{ownAt, latestAt, earlierAt, penaltiesAt, imageLength}
 use Rattle.image.specs.Words.{viewIn, ownNumberOk, ownOk, syndromeOk}
 use Rattle.image.specs.Rows.{rowTest}
-use Rattle.image.specs.CounterSection.{counterIn, CounterSection, basisIn}
+use Rattle.image.specs.CounterSection.{counterIn, counterOf, CounterSection, basisIn, counterTest, valuesIn}
 use Rattle.image.specs.Counters.{counterTests}
 use Rattle.image.specs.Check.{wordsRight, imageTests}
+use Rattle.image.specs.declared.Basis.{Basis}
 
 -- ---- the tests, in the order of the pass
 
@@ -81,6 +82,47 @@ pub basis-by : {p r q k x : ℕ} {b : Bool} (w : ℕ → ℕ) (n j : ℕ) → p 
     → x ≡ counterIn (w (penaltiesAt n + j)) → record { p = p; r = r; q = q; criticality = k; present = b; penalty = x } ≡ basisIn w n j
 basis-by w n j p r q k b x = λ i. record { p = p i; r = r i; q = q i; criticality = k i; present = b i; penalty = x i }
 
--- one counter of the first j modules
-abbrev pub valuesTo : (ℕ → ℕ) → ℕ → ℕ → CounterSection → List ℕ
-valuesTo w n j x = array j (λ k. counterIn (w (x .at n + k)))
+-- ---- the pass over the counters
+
+-- what it is given
+pub record Given (s : List ℕ) (n q p limit view : ℕ) (criticality : List ℕ) : Type 0 where
+  pub most : n ≤ 16
+  pub size : length s ≡ imageLength n
+  pub p-there : p ≡ limitIn (wordAt s penaltyLimitAt)
+  pub r-there : limit ≡ limitIn (wordAt s rewardLimitAt)
+  pub q-there : q ≡ returnLimitIn (wordAt s headAt)
+  pub view-there : view ≡ viewIn (wordAt s (ownAt n))
+  pub criticality-there : criticality ≡ array n (λ j. criticalityIn (wordAt s (modulesAt + j)))
+
+-- the array a holds the counters of the first j modules, by the words from `at` on
+pub record Held (s : List ℕ) (n j at : ℕ) (a : List ℕ) (x : CounterSection) : Type 0 where
+  pub place : at ≡ x .at n
+  pub values : a ≡ array j (λ k. counterIn (wordAt s (x .at n + k)))
+
+pub held-none : {s : List ℕ} {n at : ℕ} {x : CounterSection} → at ≡ x .at n → Held s n 0 at (replicate 16 0) x
+unfolding array
+held-none e = record { place = e; values = refl }
+
+module _ {s : List ℕ} {n j at u : ℕ} {a : List ℕ} {x : CounterSection} (held : Held s n j at a x) (e : u ≡ wordAt s (at + j)) where
+  -- the word u of the next module
+  pub held-word : u ≡ wordAt s (x .at n + j)
+  held-word = word-by s j (held .place) e
+
+  pub held-step : Held s n (j + 1) at (set a j (counterIn u)) x
+  held-step = record { place = held .place; values = array-step j _ (held .values) (ap counterIn held-word) }
+
+  -- its test
+  pub held-test : {b : Basis} {of fits : Bool} → b ≡ basisIn (wordAt s) n j → of ≡ counterOf (x .kind) j u → fits ≡ x .fits b (counterIn u)
+      → of && fits ≡ counterTest x (wordAt s) n j
+  held-test f of fits = ap₂ _&&_ (of ∙ ap (counterOf (x .kind) j) held-word) (fits ∙ ap₂ (x .fits) f (ap counterIn held-word))
+
+pub held-end : {s : List ℕ} {n j at : ℕ} {a : List ℕ} {x : CounterSection} → j ≡ n → Held s n j at a x → a ≡ valuesIn s n x
+held-end e held = array-end _ e (held .values)
+
+-- what the next module is tested by
+pub given-basis : {s criticality : List ℕ} {n q p limit view j u : ℕ} {present : Bool} → Given s n q p limit view criticality → j < n
+    → present ≡ bit view j → u ≡ wordAt s (penaltiesAt n + j)
+    → record { p = p; r = limit; q = q; criticality = getD criticality j 0; present = present; penalty = counterIn u } ≡ basisIn (wordAt s) n j
+given-basis {s = s} {n = n} {j = j} g h v e =
+    basis-by (wordAt s) n j (g .p-there) (g .r-there) (g .q-there) (array-read n _ (g .criticality-there) j h (g .most))
+    (v ∙ ap (λ (x : ℕ). bit x j) (g .view-there)) (ap counterIn e)

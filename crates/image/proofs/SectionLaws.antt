@@ -86,8 +86,8 @@ module _ (n : ℕ) (x : CounterSection) {a : ℕ} (place : a ≡ x .at n) where
       → o₂ ≡ putRuns o at (rs ++ (sectionRun n c x ∷ []))
   then-written c o at rs e d is = rw (d, e, place, is) (sym (put-last o at rs (sectionRun n c x)))
 
--- what a writer of a section asks for
-pub room-there : {n a size : ℕ} (x : CounterSection) (c : Counters) → Among x counterSections → n ≤ 16 → countersRoomy n c ≡ true → a ≡ x .at n
-    → size ≡ imageLength n → x .kind < 16 → x .at n + n ≤ endAt n
+-- what the writer of a section asks for
+pub room-there : {n a size : ℕ} (x : CounterSection) (c : Counters) → Among x counterSections → countersRoomy n c ≡ true → a ≡ x .at n
+    → (n ≤ 16) × (size ≡ imageLength n) × (x .kind < 16) × (x .at n + n ≤ endAt n)
     → (x .kind < 16) × (n ≤ 16) × ((j : ℕ) → j < n → getD (x .values c) j 0 < 2 ^ 23) × (a < 2 ^ 16) × ((a + n) * 4 ≤ size)
-room-there x c i l e place there kind end = (kind, l, roomy-counters _ c l e .small x i, omega arith, omega arith)
+room-there x c i e place (l, there, kind, end) = (kind, l, roomy-counters _ c l e .small x i, omega arith, omega arith)

@@ -21,6 +21,7 @@ use Rattle.image.specs.Layout.{ownAt}
 use Rattle.image.specs.Counters.{countersIn}
 use Rattle.image.specs.Words.{viewIn}
 use Rattle.image.specs.Check.{checkImage}
+use Rattle.image.proofs.PenaltyLaws.{accounts-fit}
 use Rattle.presence.specs.Valid.{Valid}
 use Rattle.presence.specs.Opening.{openOf}
 use Rattle.presence.specs.Step.{acceptedStep, stepOf}
@@ -271,7 +272,7 @@ promise = record {
   shown = shows;
   grew = λ image health z.
       let f = valid-fits (stateOf image) (load-valid image z) in
-      charged-grows (stateOf image .setup) (stateOf image .counters) health (f .setup) (f .counters .accounts);
+      charged-grows (stateOf image .setup) (stateOf image .counters) health (f .setup) (accounts-fit (stateOf image .setup) (stateOf image .counters) (f .counters));
   change-flag = change-is;
   charge-flag = charge-is;
   other-flags = others-are;

@@ -1,45 +1,59 @@
 -- After j turns the counters are those of the first j words of each section, and `good` says whether these are right.
 use native.Mathlib.Omega.{arith}
-use Prim.Native.Nat.{ℕ, _-_, _≤_}
-use mathlib.Core.Path.{_≡_, refl, ap, ap₂, _∙_, sym}
+use Prim.Native.Nat.{_-_, _≤_}
+use mathlib.Core.Path.{_≡_, refl, ap₂, _∙_, sym}
 use mathlib.Core.Bool.{_&&_}
 use Rattle.words.specs.Word.{wordAt}
-use Rattle.words.specs.Bits.{bit}
-use Rattle.words.specs.Array.{array}
 use Rattle.words.specs.Count.{all}
-use Rattle.words.proofs.ArrayLaws.{array-step, array-end}
 use Rattle.words.proofs.CountLaws.{all-step, all-end}
 use Rattle.words.proofs.VerdictLaws.{and-end}
-use Rattle.image.specs.CounterSection.{counterIn}
 use Rattle.image.specs.Returns.{returnCounts}
 use Rattle.image.specs.Counters.{penalties, rewards, countersIn}
-use Rattle.image.proofs.CounterSectionLaws.{test-by, testsAt, counters-right}
-use Rattle.image.proofs.ReadLaws.{array-read, word-by, basis-by, valuesTo}
+use Rattle.image.proofs.CounterSectionLaws.{testsAt, counters-right}
+use Rattle.image.proofs.ReadLaws.{array-read, Given, Held, held-none, held-word, held-step, held-test, held-end, given-basis}
 use borrow.Author.Needs.{needs}
 use Rattle.image.proofs.counters.load_counters.Statement.{statement}
 use Rattle.image.proofs.counters.load_counters.Tie as tie
 
 abbrev Inv-loop : tie.InvT-loop
 Inv-loop s n q p limit view criticality i k l good₀ penalty₀ reward₀ returns₀ j₀ good penalty reward returns j =
-    (j ≤ n)
+    Given s n q p limit view criticality
+    × (j ≤ n)
     × (good ≡ all j (testsAt (wordAt s) n))
-    × (penalty ≡ valuesTo (wordAt s) n j penalties)
-    × (reward ≡ valuesTo (wordAt s) n j rewards)
-    × (returns ≡ valuesTo (wordAt s) n j returnCounts)
+    × Held s n j i penalty penalties
+    × Held s n j k reward rewards
+    × Held s n j l returns returnCounts
 
 abbrev μ-loop : tie.MeasureT-loop
 μ-loop s n q p limit view criticality i k l good₀ penalty₀ reward₀ returns₀ j₀ good penalty reward returns j = n - j
 
 loop-holds : tie.Need-loop-holds Inv-loop μ-loop
-unfolding all array
-loop-holds c = (omega arith, refl, refl, refl, refl)
+unfolding all
+loop-holds c =
+    let b = c .before in
+    let a = b .before in
+    let r = a .before .before .pre in (
+      record {
+        most = r .0 .0;
+        size = r .0 .1;
+        p-there = r .1 .0;
+        r-there = r .1 .1;
+        q-there = r .1 .4;
+        view-there = r .1 .2;
+        criticality-there = r .1 .3;
+      },
+      omega arith,
+      refl,
+      held-none (a .penalties-at .ensures),
+      held-none (b .rewards-at .ensures),
+      held-none (c .returns-at .ensures),
+    )
 
 penalty-fits-requires : tie.Need-penalty-fits-requires Inv-loop μ-loop
 penalty-fits-requires c κs =
-    let q = c .before .before .before .before .before .before in
-    let a = q .before .before .before .before .before in
-    let k = array-read _ _ (a .pre .1 .3) (q .loop .j) (omega arith) (a .pre .0 .0) in
-    let p = a .pre .1 .0 in
+    let l = c .before .before .before .before .before .before .loop in
+    let g = l .inv .0 in
+    let k = array-read _ _ (g .criticality-there) (l .j) (omega arith) (g .most) in
     (omega arith, omega arith)
 
 loop-again : tie.Need-loop-again Inv-loop μ-loop
@@ -47,39 +61,34 @@ loop-again c =
     let b = c .before .before in
     let a = b .before .before in
     let v = a .before .before in
-    let q = v .before .before .before .before .before in
-    let l = q .loop in
-    let s = q .before .before .before .before .before in
-    let r = s .pre .1 in
-    let h = v .before .before .before .before .loop-test .taken in
-    let w = wordAt (s .args .s .now) in
-    let n = s .args .n in
-    let e = word-by _ (l .j) (q .before .before .before .penalties-at .ensures) (v .before .before .before .word-at .ensures) in
-    let f = word-by _ (l .j) (q .before .before .rewards-at .ensures) (v .before .before .word-at2 .ensures) in
-    let g = word-by _ (l .j) (q .before .returns-at .ensures) (v .before .word-at3 .ensures) in
-    let basis = basis-by w n (l .j) (r .0) (r .1) (r .4) (array-read _ _ (r .3) (l .j) h (s .pre .0 .0)) (v .bit-at .ensures ∙ ap (λ (v : ℕ). bit v (l .j)) (r .2)) (ap counterIn e) in (
+    let y = v .before in
+    let x = y .before in
+    let w = x .before in
+    let h = w .before .loop-test .taken in
+    let i = w .before .before .loop .inv in
+    let basis = given-basis (i .0) h (v .bit-at .ensures) (held-word (i .3) (w .word-at .ensures)) in (
+      i .0,
       omega (arith, h),
-      all-step _ _ (l .inv .1)
-          (ap₂ _&&_ (test-by penalties w n (l .j) e basis (a .before .counter-of .ensures) (a .penalty-fits .ensures))
-          (ap₂ _&&_ (test-by rewards w n (l .j) f basis (b .before .counter-of2 .ensures) (b .reward-fits .ensures))
-          (test-by returnCounts w n (l .j) g basis (c .before .counter-of3 .ensures) (c .return-fits .ensures) ∙ sym (and-end _)))),
-      array-step _ _ (l .inv .2) (ap counterIn e),
-      array-step _ _ (l .inv .3) (ap counterIn f),
-      array-step _ _ (l .inv .4) (ap counterIn g),
+      all-step _ _ (i .2)
+          (ap₂ _&&_ (held-test (i .3) (w .word-at .ensures) basis (a .before .counter-of .ensures) (a .penalty-fits .ensures))
+          (ap₂ _&&_ (held-test (i .4) (x .word-at2 .ensures) basis (b .before .counter-of2 .ensures) (b .reward-fits .ensures))
+          (held-test (i .5) (y .word-at3 .ensures) basis (c .before .counter-of3 .ensures) (c .return-fits .ensures) ∙ sym (and-end _)))),
+      held-step (i .3) (w .word-at .ensures),
+      held-step (i .4) (x .word-at2 .ensures),
+      held-step (i .5) (y .word-at3 .ensures),
     )
 
 returns : tie.Need-returns Inv-loop μ-loop
 unfolding countersIn
 returns c =
     let i = c .before .loop .inv in
-    let a = c .before .before .before .before .before .before in
-    let e : c .before .loop .j ≡ a .args .n = omega arith in (
-      all-end _ e (i .1) ∙ counters-right (wordAt (a .args .s .now)) _,
+    let e : c .before .loop .j ≡ c .before .before .before .before .before .before .args .n = omega arith in (
+      all-end _ e (i .2) ∙ counters-right (wordAt (c .before .before .before .before .before .before .args .s .now)) _,
       λ k. record {
-        view = a .pre .1 .2 k;
-        penalty = array-end _ e (i .2) k;
-        reward = array-end _ e (i .3) k;
-        returns = array-end _ e (i .4) k;
+        view = i .0 .view-there k;
+        penalty = held-end e (i .3) k;
+        reward = held-end e (i .4) k;
+        returns = held-end e (i .5) k;
       },
     )
 
@@ -94,11 +103,11 @@ load-counters-spec =
     (λ c κs. search needs)
     loop-holds
     (λ c. omega arith)
-    (λ c κs. omega (arith, c .before .before .before .before .penalties-at .ensures))
+    (λ c κs. omega arith)
     (λ c. omega arith)
-    (λ c κs. omega (arith, c .before .before .before .before .rewards-at .ensures))
+    (λ c κs. omega arith)
     (λ c. omega arith)
-    (λ c κs. omega (arith, c .before .before .before .before .returns-at .ensures))
+    (λ c κs. omega arith)
     (λ c κs. omega arith)
     (λ c κs. omega arith)
     (λ c. omega arith)

@@ -1,34 +1,14 @@
 -- One section after the other.
 use native.Mathlib.Omega.{arith}
-use mathlib.Core.Path.{_∙_}
 use Rattle.words.specs.Runs.{total}
 use Rattle.image.specs.Layout.{penaltiesAt}
 use Rattle.image.specs.Returns.{returnCounts}
 use Rattle.image.specs.Counters.{penalties, rewards}
-use Rattle.image.proofs.CounterSectionLaws.{first, later, roomy-counters}
+use Rattle.image.proofs.CounterSectionLaws.{first, later}
 use Rattle.image.proofs.SectionLaws.{none-written, then-written, room-there}
 use borrow.Author.Needs.{needs}
 use Rattle.image.proofs.counters.save_counters.Statement.{statement}
 use Rattle.image.proofs.counters.save_counters.Tie as tie
-
-save-counter-requires : tie.Need-save-counter-requires
-save-counter-requires c κs =
-    let a = c .before .before .before .before .before in
-    room-there penalties _ first (a .pre .0) (a .pre .1) (c .penalties-at .ensures) (a .pre .2) (omega arith) (omega arith)
-
-save-counter-requires-2 : tie.Need-save-counter-requires-2
-save-counter-requires-2 c κs =
-    let b = c .before .before .before .before in
-    let a = b .before .before .before .before .before .before in
-    room-there rewards _ (later first) (a .pre .0) (a .pre .1) (c .rewards-at .ensures) (b .save-counter .kept .1 .1 .1 .0 ∙ a .pre .2) (omega arith) (omega arith)
-
-save-counter-requires-3 : tie.Need-save-counter-requires-3
-save-counter-requires-3 c κs =
-    let d = c .before .before .before .before .before in
-    let b = d .before .before .before .before .before in
-    let a = b .before .before .before .before .before .before in
-    room-there returnCounts _ (later (later first)) (a .pre .0) (a .pre .1) (c .returns-at .ensures)
-    (d .save-counter2 .kept .1 .1 .1 .0 ∙ b .save-counter .kept .1 .1 .1 .0 ∙ a .pre .2) (omega arith) (omega arith)
 
 returns : tie.Need-returns
 unfolding total
@@ -46,10 +26,10 @@ save-counters-spec =
     tie.close
     (tie.spec
     (λ c κs. search needs)
-    save-counter-requires
+    (λ c κs. room-there penalties _ first (c .before .before .before .before .before .pre .1) (c .penalties-at .ensures) (omega arith))
     (λ c κs. search needs)
-    save-counter-requires-2
+    (λ c κs. room-there rewards _ (later first) (c .before .before .before .before .before .before .before .before .before .before .pre .1) (c .rewards-at .ensures) (omega arith))
     (λ c κs. search needs)
-    save-counter-requires-3
+    (λ c κs. room-there returnCounts _ (later (later first)) (c .before .before .before .before .before .before .before .before .before .before .before .before .before .before .before .before .pre .1) (c .returns-at .ensures) (omega arith))
     (λ c. search needs)
     returns)
