@@ -19,6 +19,7 @@ use Rattle.setup.specs.Setup.{setupOf, setupBytes, blankSetup}
 use Rattle.setup.specs.Check.{moduleFits, markFits, whole, headFits, headOk, limitOk, moduleOk, markOk, moduleTest, checkHead, checkWords, checkSetup, setupRoomy, roomVerdict, setupVerdict}
 use Rattle.image.specs.Words.{ownNumberOk, ownOk, syndromeOk}
 use Rattle.image.specs.Rows.{rowFits, rowOk, rowsRoomy}
+use Rattle.image.specs.CounterSection.{counterOk}
 use Rattle.image.specs.Counters.{countersRoomy}
 use Rattle.image.specs.Check.{checkTail}
 use Rattle.presence.specs.Valid.{roomy, stateVerdict}
@@ -36,7 +37,7 @@ use Rattle.agreement.specs.Session.{Session, RuleFollower, Bound, size, 
 use Rattle.agreement.specs.Stars.{digits, bound, keptTo, TestsMean, StarsRight}
 
 pub stars-right : StarsRight
-unfolding wordAt bytesOf bit pack count any all lowest array bounded andThen outcome thenTests runWord runsOf setupBytes setupOf blankSetup moduleFits markFits whole headFits headOk limitOk moduleOk markOk moduleTest checkHead checkWords checkSetup setupRoomy roomVerdict setupVerdict skewed busWord receptionOf isHeard heardRow causeIn entryOf readingOf causesOf alignedOf decision tally voteOf healthOf differsAt accusationOf accusationsOf syndromeOf votersOf judgementOf outgoingOf charged rewarded awaited accounted accountAt accountedAt countersOf rowFits ownNumberOk ownOk rowOk syndromeOk rowsRoomy countersRoomy checkTail roomy stateVerdict fresh blank checkOpening openOf placeOf markOf ownSyndrome alignedFor judgementFor outgoingFor afterRound refusedStep acceptedStep readStep stepOf differ half heard halfIn breakerIn unheardIn within keptOver limit bitIn wordIn readRound state health handed sent keptBy digits bound keptTo
+unfolding wordAt bytesOf bit pack count any all lowest array bounded andThen outcome thenTests runWord runsOf setupBytes setupOf blankSetup moduleFits markFits whole headFits headOk limitOk moduleOk markOk moduleTest checkHead checkWords checkSetup setupRoomy roomVerdict setupVerdict skewed busWord receptionOf isHeard heardRow causeIn entryOf readingOf causesOf alignedOf decision tally voteOf healthOf differsAt accusationOf accusationsOf syndromeOf votersOf judgementOf outgoingOf charged rewarded awaited accounted accountAt accountedAt countersOf rowFits ownNumberOk ownOk rowOk syndromeOk rowsRoomy counterOk countersRoomy checkTail roomy stateVerdict fresh blank checkOpening openOf placeOf markOf ownSyndrome alignedFor judgementFor outgoingFor afterRound refusedStep acceptedStep readStep stepOf differ half heard halfIn breakerIn unheardIn within keptOver limit bitIn wordIn readRound state health handed sent keptBy digits bound keptTo
 stars-right = refl
 
 module _ (S : Session) where

@@ -17,6 +17,7 @@ use Rattle.setup.specs.Setup.{setupOf, setupBytes, blankSetup}
 use Rattle.setup.specs.Check.{moduleFits, markFits, whole, headFits, headOk, limitOk, moduleOk, markOk, moduleTest, checkHead, checkWords, checkSetup, setupRoomy, roomVerdict, setupVerdict}
 use Rattle.image.specs.Words.{ownNumberOk, ownOk, syndromeOk}
 use Rattle.image.specs.Rows.{rowFits, rowOk, readingIn, rowsRoomy}
+use Rattle.image.specs.CounterSection.{counterOk}
 use Rattle.image.specs.Counters.{countersIn, countersRoomy}
 use Rattle.image.specs.Check.{checkTail, checkImage}
 use Rattle.presence.specs.Valid.{roomy, stateVerdict}
@@ -27,5 +28,5 @@ use Rattle.calls.specs.Calls.{refusedCall, wrote, checkCall, openCall, s
 use Rattle.calls.specs.ReturnCases.{ReturnCasesRight}
 
 pub return-cases-right : ReturnCasesRight
-unfolding wordAt putWord bytesOf bit pack count any all lowest array bounded andThen outcome thenTests runsOf runWord setupOf setupBytes blankSetup moduleFits markFits whole headFits headOk limitOk moduleOk markOk moduleTest checkHead checkWords checkSetup setupRoomy roomVerdict setupVerdict skewed busWord receptionOf isHeard heardRow causeIn entryOf readingOf causesOf alignedOf decision tally voteOf healthOf differsAt accusationOf accusationsOf syndromeOf votersOf judgementOf outgoingOf charged rewarded awaited accounted accountAt accountedAt countersOf rowFits ownNumberOk ownOk rowOk syndromeOk readingIn rowsRoomy countersIn countersRoomy checkTail checkImage roomy stateVerdict fresh blank checkOpening openOf placeOf markOf ownSyndrome alignedFor judgementFor outgoingFor afterRound refusedStep acceptedStep readStep stepOf imageOf stateOf roomFor refusedCall wrote openCall stepCall checkCall saveCall
+unfolding wordAt putWord bytesOf bit pack count any all lowest array bounded andThen outcome thenTests runsOf runWord setupOf setupBytes blankSetup moduleFits markFits whole headFits headOk limitOk moduleOk markOk moduleTest checkHead checkWords checkSetup setupRoomy roomVerdict setupVerdict skewed busWord receptionOf isHeard heardRow causeIn entryOf readingOf causesOf alignedOf decision tally voteOf healthOf differsAt accusationOf accusationsOf syndromeOf votersOf judgementOf outgoingOf charged rewarded awaited accounted accountAt accountedAt countersOf rowFits ownNumberOk ownOk rowOk syndromeOk readingIn rowsRoomy countersIn counterOk countersRoomy checkTail checkImage roomy stateVerdict fresh blank checkOpening openOf placeOf markOf ownSyndrome alignedFor judgementFor outgoingFor afterRound refusedStep acceptedStep readStep stepOf imageOf stateOf roomFor refusedCall wrote openCall stepCall checkCall saveCall
 return-cases-right = refl

@@ -21,7 +21,7 @@ use Rattle.rules.specs.Account.{countersOf}
 use Rattle.rules.specs.declared.Counters.{Counters}
 use Rattle.image.specs.Layout.{ownAt, penaltiesAt}
 use Rattle.image.specs.Words.{viewIn}
-use Rattle.image.specs.CounterSection.{counterWord, counterIn, counterOf, CounterSection, basisIn, counterTest, valuesIn}
+use Rattle.image.specs.CounterSection.{counterWord, counterIn, counterOf, CounterSection, counterOk, basisIn, counterTest, valuesIn}
 use Rattle.image.specs.Returns.{returnCounts}
 use Rattle.image.specs.Counters.{penalties, rewards, counterSections, counterTests, countersIn, counterRuns, zeroCounters, ShapedCounters}
 use Rattle.image.proofs.CounterSectionLaws.{counter-there, counter-passes, array-back, counter-same, Among, first, later, each-at, each-of, CountersSmall, basisOf, CountersFit, SectionHolds}
@@ -132,7 +132,7 @@ module _ (w : ℕ → ℕ) (s : Setup) (c : Counters) (m : CountersSmall (s .n) 
 
   -- they pass where the counters are within the limits
   pub counters-ok : CountersFit s c → Passed (counterTests w n)
-  unfolding Passed
+  unfolding Passed counterOk
   counters-ok fits =
       each-of (Right w n) counterSections
       (λ x i j h.
@@ -141,6 +141,7 @@ module _ (w : ℕ → ℕ) (s : Setup) (c : Counters) (m : CountersSmall (s .n) 
 
   -- and are within the limits where they pass
   pub counters-pass : Passed (counterTests w n) → CountersFit s c
+  unfolding counterOk
   counters-pass pass = record {
     fits = λ x i j h. sym (same-fit x i j h) ∙ and-r (counterOf (x .kind) j (w (x .at n + j))) _ (right w n pass x i j h);
     clear = m .clear;
@@ -170,7 +171,7 @@ module _ (s : List ℕ) (pass : Passed (counterTests (wordAt s) (sizeIn (wordAt 
 
   -- the counters read from them are written as they were read
   pub counters-same : Follows (wordAt s) (penaltiesAt size) (counterRuns size (countersIn s size))
-  unfolding Follows
+  unfolding Follows counterOk
   counters-same =
       each-of (Written (wordAt s) size (countersIn s size)) counterSections
       (λ x i j h.

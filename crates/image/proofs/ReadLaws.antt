@@ -9,6 +9,7 @@ use Rattle.words.specs.Bits.{bit}
 use Rattle.words.specs.Array.{array}
 use Rattle.words.specs.Count.{all}
 use Rattle.words.specs.Verdict.{allRight}
+use Rattle.words.proofs.CountLaws.{all-end}
 use Rattle.words.proofs.ArrayLaws.{array-at, array-step, array-end}
 use Rattle.setup.specs.Layout.{headAt, penaltyLimitAt, rewardLimitAt, modulesAt}
 use Rattle.setup.specs.Limits.{mostPenaltyLimit, mostRewardLimit}
@@ -18,10 +19,11 @@ use Rattle.setup.specs.declared.Setup.{Setup}
 use Rattle.image.specs.Layout.{ownAt, latestAt, earlierAt, penaltiesAt, imageLength}
 use Rattle.image.specs.Words.{viewIn, ownNumberOk, ownOk, syndromeOk}
 use Rattle.image.specs.Rows.{rowTest}
-use Rattle.image.specs.CounterSection.{counterIn, counterOf, CounterSection, basisIn, counterTest, valuesIn}
+use Rattle.image.specs.CounterSection.{counterIn, counterOf, CounterSection, counterOk, basisIn, counterTest, valuesIn}
 use Rattle.image.specs.Counters.{counterTests}
 use Rattle.image.specs.Check.{wordsRight, imageTests}
 use Rattle.image.specs.declared.Basis.{Basis}
+use Rattle.image.proofs.CounterSectionLaws.{testsAt, counters-right}
 
 -- ---- the tests, in the order of the pass
 
@@ -114,10 +116,16 @@ module _ {s : List ℕ} {n j at u : ℕ} {a : List ℕ} {x : CounterSection} (he
   -- its test
   pub held-test : {b : Basis} {of fits : Bool} → b ≡ basisIn (wordAt s) n j → of ≡ counterOf (x .kind) j u → fits ≡ x .fits b (counterIn u)
       → of && fits ≡ counterTest x (wordAt s) n j
+  unfolding counterOk
   held-test f of fits = ap₂ _&&_ (of ∙ ap (counterOf (x .kind) j) held-word) (fits ∙ ap₂ (x .fits) f (ap counterIn held-word))
 
-pub held-end : {s : List ℕ} {n j at : ℕ} {a : List ℕ} {x : CounterSection} → j ≡ n → Held s n j at a x → a ≡ valuesIn s n x
-held-end e held = array-end _ e (held .values)
+-- after the last module
+pub held-end : {s : List ℕ} {n j at : ℕ} {a : List ℕ} {x : CounterSection} → Held s n j at a x → j ≡ n → a ≡ valuesIn s n x
+held-end held e = array-end _ e (held .values)
+
+pub right-end : {s criticality : List ℕ} {n q p limit view j : ℕ} {good : Bool} → Given s n q p limit view criticality → good ≡ all j (testsAt (wordAt s) n)
+    → j ≡ n → good ≡ allRight (counterTests (wordAt s) n)
+right-end {s = s} {n = n} g right e = all-end _ e right ∙ counters-right (wordAt s) n
 
 -- what the next module is tested by
 pub given-basis : {s criticality : List ℕ} {n q p limit view j u : ℕ} {present : Bool} → Given s n q p limit view criticality → j < n

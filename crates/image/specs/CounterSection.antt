@@ -37,6 +37,10 @@ pub record CounterSection : Type 0 where
   pub values : Counters → List ℕ
   pub fits : Basis → ℕ → Bool
 
+-- the kind, the number j + 1, a counter that fits
+unfoldable pub counterOk : CounterSection → Basis → ℕ → ℕ → Bool
+counterOk x b j w = counterOf (x .kind) j w && x .fits b (counterIn w)
+
 -- what holds of each section of a list
 abbrev pub Each : (CounterSection → Type 0) → List CounterSection → Type 0
 Each P [] = Unit {0}
@@ -55,9 +59,8 @@ basisIn w n j = record {
   penalty = counterIn (w (penaltiesAt n + j));
 }
 
--- the kind, the number j + 1, a counter that fits
 abbrev pub counterTest : CounterSection → (ℕ → ℕ) → ℕ → ℕ → Bool
-counterTest x w n j = counterOf (x .kind) j (w (x .at n + j)) && x .fits (basisIn w n j) (counterIn (w (x .at n + j)))
+counterTest x w n j = counterOk x (basisIn w n j) j (w (x .at n + j))
 
 -- number 8 at the first wrong counter
 abbrev pub sectionTest : (ℕ → ℕ) → ℕ → CounterSection → Test

@@ -33,6 +33,9 @@ ghost use Rattle.image.specs.Words.{viewIn};
 ghost use Rattle.image.specs.CounterSection.{counterWord, counterIn, counterOf, basisIn};
 ghost use Rattle.image.specs.Counters.{penaltyFits, rewardFits, fitsBy, counterTests, countersIn, counterRuns, zeroCounters, countersRoomy};
 
+// The largest counter that a word has room for.
+const MOST: u32 = NUMBER - 1;
+
 // A word of this kind, of module j + 1.
 fn counter_of(kind: u32, j: usize, w: u32) -> bool
     requires { ⌜ (kind < 16) × (j < 16) ⌝ }
@@ -194,6 +197,5 @@ pub fn counters_roomy(n: usize, counters: Counters) -> bool
     let penalty = counters.penalty;
     let reward = counters.reward;
     let returns = counters.returns;
-    bounded(n, NUMBER - 1, penalty)
-        & (bounded(n, NUMBER - 1, reward) & bounded(n, NUMBER - 1, returns))
+    bounded(n, MOST, penalty) & (bounded(n, MOST, reward) & bounded(n, MOST, returns))
 }

@@ -1,6 +1,7 @@
 -- One section after the other.
 use mathlib.Core.Path.{refl}
 use Rattle.words.specs.Word.{wordAt}
+use Rattle.image.specs.CounterSection.{counterOk}
 use Rattle.image.specs.Returns.{returnCounts}
 use Rattle.image.specs.Counters.{penalties, rewards}
 use Rattle.image.specs.Check.{wordTest}
@@ -10,7 +11,7 @@ use Rattle.image.proofs.check.then_counters.Statement.{statement}
 use Rattle.image.proofs.check.then_counters.Tie as tie
 
 returns : tie.Need-returns
-unfolding wordTest
+unfolding wordTest counterOk
 returns c =
     let b = c .before .before in
     let a = b .before .before in

@@ -13,10 +13,7 @@ pub counters-roomy-spec : {M : Type 1} → statement M
 counters-roomy-spec =
     tie.close
     (tie.spec
-    (λ c. search needs)
     (λ c κs. search needs)
-    (λ c. search needs)
     (λ c κs. search needs)
-    (λ c. search needs)
     (λ c κs. search needs)
     returns)

@@ -5,12 +5,12 @@ use mathlib.Core.Path.{_≡_, refl, ap₂, _∙_, sym}
 use mathlib.Core.Bool.{_&&_}
 use Rattle.words.specs.Word.{wordAt}
 use Rattle.words.specs.Count.{all}
-use Rattle.words.proofs.CountLaws.{all-step, all-end}
+use Rattle.words.proofs.CountLaws.{all-step}
 use Rattle.words.proofs.VerdictLaws.{and-end}
 use Rattle.image.specs.Returns.{returnCounts}
 use Rattle.image.specs.Counters.{penalties, rewards, countersIn}
-use Rattle.image.proofs.CounterSectionLaws.{testsAt, counters-right}
-use Rattle.image.proofs.ReadLaws.{array-read, Given, Held, held-none, held-word, held-step, held-test, held-end, given-basis}
+use Rattle.image.proofs.CounterSectionLaws.{testsAt}
+use Rattle.image.proofs.ReadLaws.{array-read, Given, Held, held-none, held-word, held-step, held-test, held-end, right-end, given-basis}
 use borrow.Author.Needs.{needs}
 use Rattle.image.proofs.counters.load_counters.Statement.{statement}
 use Rattle.image.proofs.counters.load_counters.Tie as tie
@@ -81,14 +81,13 @@ loop-again c =
 returns : tie.Need-returns Inv-loop μ-loop
 unfolding countersIn
 returns c =
-    let i = c .before .loop .inv in
-    let e : c .before .loop .j ≡ c .before .before .before .before .before .before .args .n = omega arith in (
-      all-end _ e (i .2) ∙ counters-right (wordAt (c .before .before .before .before .before .before .args .s .now)) _,
+    let i = c .before .loop .inv in (
+      right-end (i .0) (i .2) (omega arith),
       λ k. record {
         view = i .0 .view-there k;
-        penalty = held-end e (i .3) k;
-        reward = held-end e (i .4) k;
-        returns = held-end e (i .5) k;
+        penalty = held-end (i .3) (omega arith) k;
+        reward = held-end (i .4) (omega arith) k;
+        returns = held-end (i .5) (omega arith) k;
       },
     )
 
