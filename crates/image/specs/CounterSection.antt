@@ -59,6 +59,7 @@ basisIn w n j = record {
   penalty = counterIn (w (penaltiesAt n + j));
 }
 
+-- whether the word of module j + 1 is right in a section
 abbrev pub counterTest : CounterSection → (ℕ → ℕ) → ℕ → ℕ → Bool
 counterTest x w n j = counterOk x (basisIn w n j) j (w (x .at n + j))
 

@@ -20,6 +20,7 @@ use Rattle.image.specs.declared.Basis.{Basis}
 abbrev pub penaltyFits : ℕ → ℕ → Bool → ℕ → Bool
 penaltyFits p criticality present penalty = leb penalty (p + criticality) && Bool·beq present (leb penalty p)
 
+-- kind 13
 abbrev pub penalties : CounterSection
 penalties =
     record { kind = 13; at = penaltiesAt; values = λ c. c .penalty; fits = λ b v. penaltyFits (b .p) (b .criticality) (b .present) v }
@@ -28,6 +29,7 @@ penalties =
 abbrev pub rewardFits : ℕ → ℕ → ℕ → Bool
 rewardFits r penalty reward = ltb reward r && (eqb reward 0 || not (eqb penalty 0))
 
+-- kind 14
 abbrev pub rewards : CounterSection
 rewards = record { kind = 14; at = rewardsAt; values = λ c. c .reward; fits = λ b v. rewardFits (b .r) (b .penalty) v }
 

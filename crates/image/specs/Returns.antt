@@ -9,5 +9,6 @@ use Rattle.image.specs.CounterSection.{CounterSection}
 abbrev pub returnFits : ℕ → Bool → ℕ → Bool
 returnFits q present count = eqb count 0 || (not present && ltb count q)
 
+-- kind 15
 abbrev pub returnCounts : CounterSection
 returnCounts = record { kind = 15; at = returnsAt; values = λ c. c .returns; fits = λ b v. returnFits (b .q) (b .present) v }
