@@ -2,3 +2,4 @@ pub mod Calls
 pub mod Refusals
 pub mod OutgoingImage
 pub mod ReturnCases
+pub mod Held

@@ -2,20 +2,22 @@
 use crate::Answer;
 use crate::CauseAnswer;
 use crate::WordAnswer;
+use crate::step::played;
 use image::check::check_image;
 use image::check::image_size;
 use image::earlier_in;
 use image::image_length;
 use image::latest_in;
+use image::load_image;
 use image::own_in;
 use presence::State;
-use presence::load::load;
 use presence::save::save_words;
 use setup::check::size_at;
 use setup::layout::LEAST_MODULES;
 use setup::layout::MODULES_AT;
 use setup::layout::MOST_MODULES;
 use words::bits::bit_at;
+use words::bits::power;
 use words::word::word_at;
 ghost use mathlib.Core.Path.{_≡_};
 ghost use Rattle.image.specs.Check.{checkImage};
@@ -86,24 +88,46 @@ pub extern "C" fn presence_step(
     if n == 0 {
         return refuse_image(image);
     }
-    let loaded = load(image, n);
-    if !loaded.good {
+    let mut criticality = [0u32; 16];
+    let mut rows = [0u32; 16];
+    let mut penalty = [0u32; 16];
+    let mut reward = [0u32; 16];
+    let mut returns = [0u32; 16];
+    let part = load_image(
+        image,
+        n,
+        &mut criticality,
+        &mut rows,
+        &mut penalty,
+        &mut reward,
+        &mut returns,
+    );
+    if !part.good {
         return refuse_image(image);
     }
-    let state = loaded.state;
-    if out.len() != image_length(n) {
+    if (out.len() != image_length(n)) | (read.len() != n * 4) {
         return refuse(9, 0);
     }
-    let t = state.stepped(read, controller);
-    if t.number != 0 {
-        return refuse(t.number, t.index);
+    if power(n) <= controller {
+        return refuse(10, 0);
     }
-    let next = t.state;
-    save_words(next, out);
+    let health = played(
+        image,
+        n,
+        part,
+        &criticality,
+        &mut rows,
+        &mut penalty,
+        &mut reward,
+        &mut returns,
+        read,
+        controller,
+        out,
+    );
     Answer {
         number: 0,
         index: 0,
-        health: t.health,
+        health,
     }
 }
 

@@ -73,7 +73,7 @@ each-of P [] f = tt
 each-of P (x ∷ xs) f = (f x first, each-of P xs (λ y i. f y (later i)))
 
 module _ (test : CounterSection → Bool) where
-  every-at : {x : CounterSection} {xs : List CounterSection} → Among x xs → foldr (λ x b. test x && b) true xs ≡ true → test x ≡ true
+  pub every-at : {x : CounterSection} {xs : List CounterSection} → Among x xs → foldr (λ x b. test x && b) true xs ≡ true → test x ≡ true
   every-at {x} first e = and-l (test x) _ e
   every-at (later {y} i) e = every-at i (and-r (test y) _ e)
 

@@ -12,8 +12,10 @@ use Rattle.words.specs.Verdict.{verdict, accepted, isAccepted, andThen, allRigh
 use Rattle.words.specs.declared.Verdict.{Verdict}
 use Rattle.words.proofs.Truth.{cond-true, cond-false}
 use Rattle.words.proofs.VerdictLaws.{tests-accept, and-then-stops, and-then-goes, and-then-accepts, and-end}
-use Rattle.setup.specs.Setup.{sizeIn}
+use Rattle.setup.specs.Limits.{mostReturnLimit}
+use Rattle.setup.specs.Setup.{sizeIn, returnLimitIn}
 use Rattle.setup.specs.Check.{wordTests, checkHead, checkWords}
+use Rattle.setup.proofs.WordFields.{head-made}
 use Rattle.setup.proofs.SetupCheckLaws.{head-pass}
 use Rattle.setup.proofs.SetupAnswerLaws.{head-stays, head-short, head-goes}
 use Rattle.image.specs.Layout.{imageLength}
@@ -103,6 +105,12 @@ module _ (s : List ℕ) where
         let (h, f) = head-pass s (eqb (length s) (imageLength (sizeIn (wordAt s 0)))) (eqb-true _ 0 headed-so) in
         let m = h .most in
         (omega (arith, size-same), eqb-true _ _ f ∙ ap imageLength (sym size-same), size-same)
+
+    -- the return limit of the head
+    pub size-return : returnLimitIn (wordAt s 0) ≤ mostReturnLimit
+    size-return =
+        let (h, f) = head-pass s (eqb (length s) (imageLength (sizeIn (wordAt s 0)))) (eqb-true _ 0 headed-so) in
+        head-made (wordAt s 0) (h .head) .0 .limit
 
     -- then the words decide
     pub by-words : {good : Bool} → good ≡ allRight (imageTests s n) → good ≡ isAccepted (checkImage s)

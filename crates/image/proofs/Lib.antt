@@ -6,5 +6,6 @@ pub mod ReturnLaws
 pub mod CounterLaws
 pub mod TailLaws
 pub mod ReadLaws
+pub mod GapLaws
 pub mod SectionLaws
 pub mod ImageAnswers

@@ -1,29 +1,31 @@
 -- What one pass over an image finds: whether every word is right, and what the counters are read with.
-use mathlib.Core.Path.{_≡_, refl, ap, ap₂, _∙_}
+use mathlib.Core.Path.{_≡_, refl, ap, _∙_, sym}
 use mathlib.Core.Bool.{Bool, true, false, _&&_}
 use mathlib.Core.List.{List}
 use Prim.Native.Nat.{ℕ, _+_, _<_, _≤_}
-use lib.ListN.{getD, set, length, replicate}
+use native.Mathlib.Omega.{arith}
+use lib.ListN.{getD}
 use Rattle.words.specs.Word.{wordAt}
 use Rattle.words.specs.Bits.{bit}
 use Rattle.words.specs.Array.{array}
 use Rattle.words.specs.Count.{all}
 use Rattle.words.specs.Verdict.{allRight}
-use Rattle.words.proofs.CountLaws.{all-end}
-use Rattle.words.proofs.ArrayLaws.{array-at, array-step, array-end}
+use Rattle.words.proofs.Truth.{and-l, and-r}
+use Rattle.words.proofs.ArrayLaws.{array-at}
 use Rattle.setup.specs.Layout.{headAt, penaltyLimitAt, rewardLimitAt, modulesAt}
 use Rattle.setup.specs.Limits.{mostPenaltyLimit, mostRewardLimit}
 use Rattle.setup.specs.Setup.{returnLimitIn, sizeIn, limitIn, criticalityIn, setupOf}
 use Rattle.setup.specs.Check.{limitOk, moduleTest, wordTests}
+use Rattle.setup.specs.Modules.{limitsRight, moduleRight}
 use Rattle.setup.specs.declared.Setup.{Setup}
-use Rattle.image.specs.Layout.{ownAt, latestAt, earlierAt, penaltiesAt, imageLength}
+use Rattle.setup.proofs.WordFields.{limit-made}
+use Rattle.setup.proofs.SetupReadLaws.{parts-good}
+use Rattle.image.specs.Layout.{ownAt, latestAt, earlierAt, penaltiesAt}
 use Rattle.image.specs.Words.{viewIn, ownNumberOk, ownOk, syndromeOk}
 use Rattle.image.specs.Rows.{rowTest}
-use Rattle.image.specs.CounterSection.{counterIn, counterOf, CounterSection, counterOk, basisIn, counterTest, valuesIn}
+use Rattle.image.specs.CounterSection.{counterIn, basisIn}
 use Rattle.image.specs.Counters.{counterTests}
 use Rattle.image.specs.Check.{wordsRight, imageTests}
-use Rattle.image.specs.declared.Basis.{Basis}
-use Rattle.image.proofs.CounterSectionLaws.{testsAt, counters-right}
 
 -- ---- the tests, in the order of the pass
 
@@ -60,7 +62,39 @@ loaded-good s n e₀ e₁ e₂ e₃ =
     )
     (regroup (limitOk 2 mostPenaltyLimit (w penaltyLimitAt)) (limitOk 3 mostRewardLimit (w rewardLimitAt)) (all n (moduleTest s n 5)) (all n (moduleTest s n 6)) _)
 
+-- limits whose words are right
+pub limits-within : (w : ℕ → ℕ) → limitOk 2 mostPenaltyLimit (w penaltyLimitAt) ≡ true → limitOk 3 mostRewardLimit (w rewardLimitAt) ≡ true
+    → (limitIn (w penaltyLimitAt) ≤ mostPenaltyLimit) × (limitIn (w rewardLimitAt) ≤ mostRewardLimit)
+limits-within w p r =
+    (limit-made 2 mostPenaltyLimit (w penaltyLimitAt) (omega arith) p .most, limit-made 3 mostRewardLimit (w rewardLimitAt) (omega arith) r .most)
+
+-- the same where the limits are found first
+pub limits-wrong : {limits : Bool} (s : List ℕ) (n : ℕ) → limits ≡ limitsRight s → limits ≡ false → false ≡ allRight (imageTests s n)
+limits-wrong s n e f =
+    loaded-good s n {first = false} (ap (λ (x : Bool). x && all n (λ j. moduleRight n j (wordAt s (modulesAt + j)))) (sym f) ∙ parts-good s n e refl) refl refl refl
+
+pub limits-fine : {limits modules alone rows counters : Bool} (s : List ℕ) (n : ℕ) → limits ≡ limitsRight s → limits ≡ true
+    → modules ≡ all n (λ j. moduleRight n j (wordAt s (modulesAt + j))) → alone ≡ wordsRight (wordAt s) n → rows ≡ all n (rowTest (wordAt s) n)
+    → counters ≡ allRight (counterTests (wordAt s) n) → modules && (alone && (rows && counters)) ≡ allRight (imageTests s n)
+limits-fine {modules = modules} s n e t m a r c =
+    loaded-good s n (ap (λ (x : Bool). x && modules) (sym t) ∙ parts-good s n e m) a r c
+
+pub limits-most : {limits : Bool} (s : List ℕ) → limits ≡ limitsRight s → limits ≡ true
+    → (limitIn (wordAt s penaltyLimitAt) ≤ mostPenaltyLimit) × (limitIn (wordAt s rewardLimitAt) ≤ mostRewardLimit)
+limits-most s e t =
+    let b = sym e ∙ t in
+    let p = limitOk 2 mostPenaltyLimit (wordAt s penaltyLimitAt) in
+    limits-within (wordAt s) (and-l p _ b) (and-r p _ b)
+
 -- ---- what the counters are read with
+
+pub setup-within : (s : List ℕ) (n : ℕ) → allRight (wordTests s n) ≡ true
+    → (limitIn (wordAt s penaltyLimitAt) ≤ mostPenaltyLimit) × (limitIn (wordAt s rewardLimitAt) ≤ mostRewardLimit)
+unfolding allRight all
+setup-within s n e =
+    let p = limitOk 2 mostPenaltyLimit (wordAt s penaltyLimitAt) in
+    let r = limitOk 3 mostRewardLimit (wordAt s rewardLimitAt) in
+    limits-within (wordAt s) (and-l p _ e) (and-l r _ (and-r p _ e))
 
 pub array-read : {a : List ℕ} (n : ℕ) (f : ℕ → ℕ) → a ≡ array n f → (j : ℕ) → j < n → n ≤ 16 → getD a j 0 ≡ f j
 array-read n f e j h l = ap (λ (x : List ℕ). getD x j 0) e ∙ array-at n f j h l
@@ -83,54 +117,3 @@ pub basis-by : {p r q k x : ℕ} {b : Bool} (w : ℕ → ℕ) (n j : ℕ) → p 
     → q ≡ returnLimitIn (w headAt) → k ≡ criticalityIn (w (modulesAt + j)) → b ≡ bit (viewIn (w (ownAt n))) j
     → x ≡ counterIn (w (penaltiesAt n + j)) → record { p = p; r = r; q = q; criticality = k; present = b; penalty = x } ≡ basisIn w n j
 basis-by w n j p r q k b x = λ i. record { p = p i; r = r i; q = q i; criticality = k i; present = b i; penalty = x i }
-
--- ---- the pass over the counters
-
--- what it is given
-pub record Given (s : List ℕ) (n q p limit view : ℕ) (criticality : List ℕ) : Type 0 where
-  pub most : n ≤ 16
-  pub size : length s ≡ imageLength n
-  pub p-there : p ≡ limitIn (wordAt s penaltyLimitAt)
-  pub r-there : limit ≡ limitIn (wordAt s rewardLimitAt)
-  pub q-there : q ≡ returnLimitIn (wordAt s headAt)
-  pub view-there : view ≡ viewIn (wordAt s (ownAt n))
-  pub criticality-there : criticality ≡ array n (λ j. criticalityIn (wordAt s (modulesAt + j)))
-
--- the array a holds the counters of the first j modules, by the words from `at` on
-pub record Held (s : List ℕ) (n j at : ℕ) (a : List ℕ) (x : CounterSection) : Type 0 where
-  pub place : at ≡ x .at n
-  pub values : a ≡ array j (λ k. counterIn (wordAt s (x .at n + k)))
-
-pub held-none : {s : List ℕ} {n at : ℕ} {x : CounterSection} → at ≡ x .at n → Held s n 0 at (replicate 16 0) x
-unfolding array
-held-none e = record { place = e; values = refl }
-
-module _ {s : List ℕ} {n j at u : ℕ} {a : List ℕ} {x : CounterSection} (held : Held s n j at a x) (e : u ≡ wordAt s (at + j)) where
-  -- the word u of the next module
-  pub held-word : u ≡ wordAt s (x .at n + j)
-  held-word = word-by s j (held .place) e
-
-  pub held-step : Held s n (j + 1) at (set a j (counterIn u)) x
-  held-step = record { place = held .place; values = array-step j _ (held .values) (ap counterIn held-word) }
-
-  -- its test
-  pub held-test : {b : Basis} {of fits : Bool} → b ≡ basisIn (wordAt s) n j → of ≡ counterOf (x .kind) j u → fits ≡ x .fits b (counterIn u)
-      → of && fits ≡ counterTest x (wordAt s) n j
-  unfolding counterOk
-  held-test f of fits = ap₂ _&&_ (of ∙ ap (counterOf (x .kind) j) held-word) (fits ∙ ap₂ (x .fits) f (ap counterIn held-word))
-
--- after the last module
-pub held-end : {s : List ℕ} {n j at : ℕ} {a : List ℕ} {x : CounterSection} → Held s n j at a x → j ≡ n → a ≡ valuesIn s n x
-held-end held e = array-end _ e (held .values)
-
-pub right-end : {s criticality : List ℕ} {n q p limit view j : ℕ} {good : Bool} → Given s n q p limit view criticality → good ≡ all j (testsAt (wordAt s) n)
-    → j ≡ n → good ≡ allRight (counterTests (wordAt s) n)
-right-end {s = s} {n = n} g right e = all-end _ e right ∙ counters-right (wordAt s) n
-
--- what the next module is tested by
-pub given-basis : {s criticality : List ℕ} {n q p limit view j u : ℕ} {present : Bool} → Given s n q p limit view criticality → j < n
-    → present ≡ bit view j → u ≡ wordAt s (penaltiesAt n + j)
-    → record { p = p; r = limit; q = q; criticality = getD criticality j 0; present = present; penalty = counterIn u } ≡ basisIn (wordAt s) n j
-given-basis {s = s} {n = n} {j = j} g h v e =
-    basis-by (wordAt s) n j (g .p-there) (g .r-there) (g .q-there) (array-read n _ (g .criticality-there) j h (g .most))
-    (v ∙ ap (λ (x : ℕ). bit x j) (g .view-there)) (ap counterIn e)

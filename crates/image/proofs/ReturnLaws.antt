@@ -3,7 +3,7 @@ use mathlib.Core.Path.{_≡_, refl, ap}
 use mathlib.Core.Bool.{Bool, true, false, not, false≢true}
 use mathlib.Core.List.{List}
 use mathlib.Core.Logic.{_⊎_, inl, inr, ⊎-elim}
-use Prim.Native.Nat.{ℕ, _<_, _≤_}
+use Prim.Native.Nat.{ℕ, _-_, _<_, _≤_}
 use native.Mathlib.Omega.{arith}
 use native.Mathlib.Nat.{eq-zero-or-pos}
 use lib.ListN.{getD}
@@ -74,9 +74,11 @@ count-fits q a f = go (a .present) refl
 -- ---- those of all modules
 
 -- within the limits of a setup
-pub returns-small : (s : Setup) (c : Counters) → s .q ≤ mostReturnLimit → CountersFit s c → (j : ℕ) → j < s .n → accountAt c j .returns < mostReturnLimit
+pub returns-below : (s : Setup) (c : Counters) → CountersFit s c → (j : ℕ) → j < s .n → accountAt c j .returns ≤ s .q - 1
 unfolding accountAt
-returns-small s c l f j h = return-small (s .q) (bit (c .view) j) (getD (c .returns) j 0) l (f .fits returnCounts (later (later first)) j h)
+returns-below s c f j h =
+    ⊎-elim (λ (z : getD (c .returns) j 0 ≡ 0). omega arith) (λ (t : (bit (c .view) j ≡ false) × (getD (c .returns) j 0 < s .q)). omega (arith, t .1))
+    (return-is (s .q) (bit (c .view) j) (getD (c .returns) j 0) (f .fits returnCounts (later (later first)) j h))
 
 pub returns-hold : SectionHolds returnCounts
 unfolding countersIn countersOf accountAt

@@ -1,17 +1,20 @@
 -- The rows of a read: a word is made of its fields, the words that a read is written as pass their test and hold it, and what passes is written
 -- as it was read.
 use mathlib.Core.Path.{_≡_, refl, ap, _∙_, sym, subst}
-use mathlib.Core.Bool.{Bool, true, false}
+use mathlib.Core.Bool.{Bool, true, false, cond, _&&_}
+use mathlib.Core.Logic.{_≢_, ⊎-elim}
 use mathlib.Core.List.{List}
 use Prim.Native.Nat.{ℕ, _+_, _*_, _/_, _%_, _^_, _<_, _≤_}
 use native.Mathlib.Omega.{arith}
 use lib.ListN.{getD, length}
 use lib.Dec.{eqb, ltb}
-use borrow.Author.Tests.{eqb-true, eq-eqb, ltb-true, lt-ltb}
-use Rattle.words.specs.Word.{wordAt}
+use lib.Pow.{pow-mono}
+use borrow.Author.Tests.{eqb-true, eqb-false, eq-eqb, ltb-true, ltb-false, lt-ltb, le-ltb}
+use Rattle.words.specs.Word.{wordAt, gapOf}
 use Rattle.words.specs.Bits.{b2n, bit, pack}
 use Rattle.words.specs.Array.{array}
-use Rattle.words.proofs.Truth.{and-l, and-r, and-true}
+use Rattle.words.proofs.Truth.{which, and-l, and-r, and-true}
+use Rattle.words.proofs.WordLaws.{gap-right, gap-wrong}
 use Rattle.words.proofs.BitLaws.{b2n-bit, b2n-le, bit-pack, pack-ext, pack-own}
 use Rattle.words.proofs.ArrayLaws.{clearFrom, array-at, array-ext, array-own, bounded-at, bounded-clear, bounded-of}
 use Rattle.rules.specs.Hearing.{entryOf, readingOf}
@@ -148,3 +151,42 @@ module _ (s : List ℕ) (n : ℕ) (l : n ≤ 16) (pass : (j : ℕ) → j < n →
   rows-same j h =
       sym (rw (bit-pack n (λ k. heardIn (wordAt s (rowsAt n + k))) j h, array-at n (λ k. rowIn (wordAt s (rowsAt n + k))) j h l)
       (row-made n j (wordAt s (rowsAt n + j)) (pass j h) .0))
+
+-- ---- the test by one comparison
+
+ltb-plus : (k a b : ℕ) → ltb (k + a) (k + b) ≡ ltb a b
+ltb-plus k a b =
+    ⊎-elim (λ (e : ltb a b ≡ true). lt-ltb (k + a) (k + b) (omega (arith, ltb-true a b e)) ∙ sym e)
+    (λ (e : ltb a b ≡ false). le-ltb (k + a) (k + b) (omega (arith, ltb-false a b e)) ∙ sym e) (which (ltb a b))
+
+pub row-by-gap : {x size limit : ℕ} {b : Bool} (n j w : ℕ) → n ≤ 16 → j < 16 → w < 2 ^ 32 → x ≡ gapOf 11 j w → b ≡ heardIn w → size ≡ 2 ^ n
+    → limit ≡ cond b (2 ^ 22 + size) 1 → ltb x limit ≡ rowOk n j w
+unfolding rowOk rowFits bit
+row-by-gap n j w l h m ex eb es el = rw (el, es, eb, ex) (go (eqb (w / 2 ^ 23) (11 * 2 ^ 5 + (j + 1))) (eqb (w / 2 ^ 22 % 2) 1) refl refl)
+  where
+    small : 2 ^ n ≤ 2 ^ 16
+    small = pow-mono {i = n} {j = 16} l
+
+    other : (bound : ℕ) → bound ≤ 2 ^ 22 + 2 ^ n → eqb (w / 2 ^ 23) (11 * 2 ^ 5 + (j + 1)) ≡ false → ltb (gapOf 11 j w) bound ≡ false
+    other bound le e =
+        let g : 2 ^ 23 ≤ gapOf 11 j w = gap-wrong 11 j w (omega arith) h m e in
+        le-ltb (gapOf 11 j w) bound (omega (arith, small))
+
+    go : (o b : Bool) → eqb (w / 2 ^ 23) (11 * 2 ^ 5 + (j + 1)) ≡ o → eqb (w / 2 ^ 22 % 2) 1 ≡ b
+        → ltb (gapOf 11 j w) (cond b (2 ^ 22 + 2 ^ n) 1) ≡ o && ltb (w % 2 ^ 22) (cond b (2 ^ n) 1)
+    go false true e f = other (2 ^ 22 + 2 ^ n) (omega arith) e
+    go false false e f = other 1 (omega arith) e
+    go true true e f =
+        let d = eqb-true (w / 2 ^ 22 % 2) 1 f in
+        let x : gapOf 11 j w ≡ 2 ^ 22 + w % 2 ^ 22 = gap-right 11 j w (omega arith) h e ∙ split d in
+        rw x (ltb-plus (2 ^ 22) (w % 2 ^ 22) (2 ^ n))
+      where
+        split : w / 2 ^ 22 % 2 ≡ 1 → w % 2 ^ 23 ≡ 2 ^ 22 + w % 2 ^ 22
+        split d = omega arith
+    go true false e f =
+        let d = eqb-false (w / 2 ^ 22 % 2) 1 f in
+        let x : gapOf 11 j w ≡ w % 2 ^ 22 = gap-right 11 j w (omega arith) h e ∙ whole d in
+        rw x refl
+      where
+        whole : w / 2 ^ 22 % 2 ≢ 1 → w % 2 ^ 23 ≡ w % 2 ^ 22
+        whole d = omega arith

@@ -5,14 +5,18 @@ use mathlib.Core.List.{List, [], _∷_, _++_}
 use Prim.Native.Nat.{ℕ, _+_, _*_, _^_, _<_, _≤_}
 use native.Mathlib.Omega.{arith}
 use lib.ListN.{getD}
+use Rattle.words.specs.Bits.{bit}
 use Rattle.words.specs.Verdict.{verdict, accepted, Test, single, each, andThen, outcome, thenTests, firstRefusal}
 use Rattle.words.specs.declared.Verdict.{Verdict}
 use Rattle.words.specs.Runs.{Run, total, putRun, putRuns}
 use Rattle.words.proofs.VerdictLaws.{and-then-next, single-ok, single-refused}
 use Rattle.words.proofs.SearchLaws.{begins-refused, begins-well}
 use Rattle.rules.specs.declared.Counters.{Counters}
-use Rattle.image.specs.Layout.{ownAt, rowsAt, latestAt, earlierAt, endAt, imageLength}
-use Rattle.image.specs.Words.{ownNumberOk, ownOk, syndromeOk}
+use Rattle.rules.specs.declared.Reading.{Reading}
+use Rattle.image.specs.Layout.{ownAt, rowsAt, latestAt, earlierAt, penaltiesAt, rewardsAt, returnsAt, endAt, imageLength}
+use Rattle.image.specs.Words.{ownWord, syndromeWord, ownNumberOk, ownOk, syndromeOk}
+use Rattle.image.specs.Rows.{rowWord}
+use Rattle.image.specs.Sections.{sectionRuns}
 use Rattle.image.specs.CounterSection.{counterWord, CounterSection, counterTest, sectionTest, sectionRun}
 use Rattle.image.specs.Counters.{counterSections, counterTests, countersRoomy}
 use Rattle.image.specs.Check.{wordTest, checkTail}
@@ -91,3 +95,16 @@ pub room-there : {n a size : ℕ} (x : CounterSection) (c : Counters) → Among 
     → (n ≤ 16) × (size ≡ imageLength n) × (x .kind < 16) × (x .at n + n ≤ endAt n)
     → (x .kind < 16) × (n ≤ 16) × ((j : ℕ) → j < n → getD (x .values c) j 0 < 2 ^ 23) × (a < 2 ^ 16) × ((a + n) * 4 ≤ size)
 room-there x c i e place (l, there, kind, end) = (kind, l, roomy-counters _ c l e .small x i, omega arith, omega arith)
+
+-- ---- the sections of a state, written one after the other
+
+pub sections-written : (n own : ℕ) (c : Counters) (r : Reading) (latest earlier : ℕ) (o : List ℕ) {o₁ o₂ o₃ o₄ o₅ : List ℕ} {i₁ i₂ i₃ i₄ w l e : ℕ}
+    → i₁ ≡ ownAt n → w ≡ ownWord own (c .view) → o₁ ≡ putRun o i₁ 1 (λ _. w)
+    → i₂ ≡ rowsAt n → o₂ ≡ putRun o₁ i₂ n (λ j. rowWord j (bit (r .heard) j) (getD (r .rows) j 0))
+    → i₃ ≡ latestAt n → l ≡ syndromeWord latest → o₃ ≡ putRun o₂ i₃ 1 (λ _. l)
+    → i₄ ≡ earlierAt n → e ≡ syndromeWord earlier → o₄ ≡ putRun o₃ i₄ 1 (λ _. e)
+    → o₅ ≡ putRun (putRun (putRun o₄ (penaltiesAt n) n (λ j. counterWord 13 j (getD (c .penalty) j 0)))
+    (rewardsAt n) n (λ j. counterWord 14 j (getD (c .reward) j 0))) (returnsAt n) n (λ j. counterWord 15 j (getD (c .returns) j 0))
+    → o₅ ≡ putRuns o (ownAt n) (sectionRuns n own c r latest earlier)
+unfolding putRuns
+sections-written n own c r latest earlier o a₁ w₁ e₁ a₂ e₂ a₃ w₃ e₃ a₄ w₄ e₄ e₅ = rw (e₅, e₄, e₃, e₂, e₁, a₁, a₂, a₃, a₄, w₁, w₃, w₄)

@@ -1,10 +1,11 @@
 -- A word that stands alone is made of its fields, and its fields are those that it was made of.
-use mathlib.Core.Path.{_≡_}
-use mathlib.Core.Bool.{true, not}
+use mathlib.Core.Path.{_≡_, refl}
+use mathlib.Core.Bool.{Bool, true, false, not, _&&_, _||_}
 use Prim.Native.Nat.{ℕ, _+_, _*_, _/_, _%_, _^_, _<_, _≤_}
 use native.Mathlib.Omega.{arith}
-use lib.Dec.{eqb}
+use lib.Dec.{eqb, ltb}
 use borrow.Author.Tests.{eqb-true, eq-eqb, ltb-true, lt-ltb}
+use Rattle.words.specs.Verdict.{between}
 use Rattle.words.proofs.Truth.{and-l, and-r, and-true, or-r}
 use Rattle.words.proofs.VerdictLaws.{between-is, between-of}
 use Rattle.image.specs.Words.{ownWord, ownIn, viewIn, ownNumberOk, ownOk, syndromeWord, syndromeIn, syndromeOk}
@@ -16,6 +17,29 @@ pub record OwnMade (n w : ℕ) : Type 0 where
   pub first : 1 ≤ ownIn w
   pub last : ownIn w ≤ n
   pub view : viewIn w < 2 ^ n
+
+-- a word without a spare bit is of kind 10, so its number is tested
+pub own-both : (n w : ℕ) → ownOk n w && between 1 n (ownIn w) ≡ ownNumberOk n w && ownOk n w
+unfolding ownNumberOk ownOk
+own-both n w = go (eqb (w / 2 ^ 21) (10 * 2 ^ 7)) (ltb (viewIn w) (2 ^ n)) refl
+  where
+    swap : (a b : Bool) → a && b ≡ b && a
+    swap true true = refl
+    swap true false = refl
+    swap false true = refl
+    swap false false = refl
+
+    never : (b : Bool) → false ≡ b && false
+    never true = refl
+    never false = refl
+
+    go : (k v : Bool) → eqb (w / 2 ^ 21) (10 * 2 ^ 7) ≡ k
+        → (k && v) && between 1 n (ownIn w) ≡ (not (eqb (w / 2 ^ 28) 10) || between 1 n (ownIn w)) && (k && v)
+    go true v e =
+        let d = eqb-true (w / 2 ^ 21) (10 * 2 ^ 7) e in
+        let t : w / 2 ^ 28 ≡ 10 = omega arith in
+        rw (eq-eqb (w / 2 ^ 28) 10 t) (swap v (between 1 n (ownIn w)))
+    go false v e = never (not (eqb (w / 2 ^ 28) 10) || between 1 n (ownIn w))
 
 pub own-made : (n w : ℕ) → ownNumberOk n w ≡ true → ownOk n w ≡ true → OwnMade n w
 unfolding ownNumberOk ownOk

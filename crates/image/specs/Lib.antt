@@ -4,4 +4,6 @@ pub mod Rows
 pub mod CounterSection
 pub mod Returns
 pub mod Counters
+pub mod Sections
+pub mod Part
 pub mod Check

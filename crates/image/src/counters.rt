@@ -1,6 +1,5 @@
 // The counters of the modules, kinds 13 and 14, and 15 of returns.rt: tested, read and written.
 use crate::Basis;
-use crate::CountersPart;
 use crate::layout::penalties_at;
 use crate::layout::returns_at;
 use crate::layout::rewards_at;
@@ -16,22 +15,25 @@ use words::bits::bit_at;
 use words::word::KIND;
 use words::word::NUMBER;
 use words::word::field;
+use words::word::gap;
 use words::word::put_word;
 use words::word::word_at;
 ghost use mathlib.Core.Path.{_≡_};
 ghost use mathlib.Core.Bool.{true, _&&_};
 ghost use Prim.Native.Nat.{ℕ, _+_, _*_, _^_, _≤_, _<_};
 ghost use lib.ListN.{length, getD};
-ghost use Rattle.words.specs.Word.{wordAt};
+ghost use Rattle.words.specs.Word.{wordAt, numberUnit};
 ghost use Rattle.words.specs.Array.{array};
 ghost use Rattle.words.specs.Verdict.{allRight};
-ghost use Rattle.words.specs.Runs.{putRun, putRuns};
+ghost use Rattle.words.specs.Runs.{putRun};
 ghost use Rattle.setup.specs.Layout.{headAt, penaltyLimitAt, rewardLimitAt, modulesAt};
 ghost use Rattle.setup.specs.Setup.{returnLimitIn, limitIn, criticalityIn};
-ghost use Rattle.image.specs.Layout.{ownAt, penaltiesAt, endAt, imageLength};
+ghost use Rattle.setup.specs.Limits.{mostReturnLimit, mostPenaltyLimit, mostRewardLimit};
+ghost use Rattle.image.specs.Layout.{ownAt, penaltiesAt, rewardsAt, returnsAt, endAt, imageLength};
 ghost use Rattle.image.specs.Words.{viewIn};
-ghost use Rattle.image.specs.CounterSection.{counterWord, counterIn, counterOf, basisIn};
-ghost use Rattle.image.specs.Counters.{penaltyFits, rewardFits, fitsBy, counterTests, countersIn, counterRuns, zeroCounters, countersRoomy};
+ghost use Rattle.image.specs.CounterSection.{counterWord, counterIn, counterOf, basisIn, valuesIn};
+ghost use Rattle.image.specs.Returns.{returnCounts};
+ghost use Rattle.image.specs.Counters.{penaltyFits, penalties, rewardFits, rewards, fitsBy, counterTests, zeroCounters, countersRoomy};
 
 // The largest counter that a word has room for.
 const MOST: u32 = NUMBER - 1;
@@ -98,51 +100,47 @@ pub fn counter_right(s: &[u8], n: usize, kind: u32, at: usize, j: usize) -> bool
     counter_of(kind, j, w) & counter_fits(kind, basis, w % NUMBER)
 }
 
-// The counters, and whether their words are right, by what the words before them hold.
+// The counters in lent arrays, and whether their words are right, by what the words before them hold. A word's kind and number are tested with its
+// counter, which is small where it fits; where a word is wrong the arrays hold nothing of use.
 pub fn load_counters(
     s: &[u8],
     n: usize,
     q: u32,
     p: u32,
     limit: u32,
-    criticality: [u32; 16],
+    criticality: &[u32; 16],
     view: u32,
-) -> CountersPart
+    penalty: &mut [u32; 16],
+    reward: &mut [u32; 16],
+    returns: &mut [u32; 16],
+) -> bool
     requires { ⌜ (n ≤ 16) × (length (now s) ≡ imageLength n) ⌝ }
     requires { ⌜ (p ≡ limitIn (wordAt (now s) penaltyLimitAt)) × (limit ≡ limitIn (wordAt (now s) rewardLimitAt)) × (view ≡ viewIn (wordAt (now s) (ownAt n)))
-        × (criticality ≡ array n (λ j. criticalityIn (wordAt (now s) (modulesAt + j)))) × (q ≡ returnLimitIn (wordAt (now s) headAt)) ⌝ }
-    ensures { λ r. ⌜ (r .good ≡ allRight (counterTests (wordAt (now (s .entry))) n)) × (r .counters ≡ countersIn (now (s .entry)) n) ⌝ }
+        × (now criticality ≡ array n (λ j. criticalityIn (wordAt (now s) (modulesAt + j)))) × (q ≡ returnLimitIn (wordAt (now s) headAt)) ⌝ }
+    requires { ⌜ (p ≤ mostPenaltyLimit) × (limit ≤ mostRewardLimit) × (q ≤ mostReturnLimit) ⌝ }
+    requires { ⌜ (now penalty ≡ array 0 (λ _. 0)) × (now reward ≡ array 0 (λ _. 0)) × (now returns ≡ array 0 (λ _. 0)) ⌝ }
+    ensures { λ r. ⌜ (r ≡ allRight (counterTests (wordAt (now (s .entry))) n))
+        × (r ≡ true → (now (penalty .exit) ≡ valuesIn (now (s .entry)) n penalties) × (now (reward .exit) ≡ valuesIn (now (s .entry)) n rewards)
+        × (now (returns .exit) ≡ valuesIn (now (s .entry)) n returnCounts)) ⌝ }
 {
     let i = penalties_at(n);
     let k = rewards_at(n);
     let l = returns_at(n);
     let mut good = true;
-    let mut penalty = [0u32; 16];
-    let mut reward = [0u32; 16];
-    let mut returns = [0u32; 16];
     for j in 0..n {
-        let w = word_at(s, i + j);
-        let v = word_at(s, k + j);
-        let u = word_at(s, l + j);
-        let x = w % NUMBER;
+        let x = gap(13, j, word_at(s, i + j));
+        let y = gap(14, j, word_at(s, k + j));
+        let z = gap(15, j, word_at(s, l + j));
         let present = bit_at(view, j);
-        let a = counter_of(13, j, w) & penalty_fits(p, criticality[j], present, x);
-        let b = counter_of(14, j, v) & reward_fits(limit, x, v % NUMBER);
-        let c = counter_of(15, j, u) & return_fits(q, present, u % NUMBER);
+        let a = penalty_fits(p, criticality[j], present, x);
+        let b = reward_fits(limit, x, y);
+        let c = return_fits(q, present, z);
         good = good & (a & (b & c));
         penalty[j] = x;
-        reward[j] = v % NUMBER;
-        returns[j] = u % NUMBER;
+        reward[j] = y;
+        returns[j] = z;
     }
-    CountersPart {
-        good,
-        counters: Counters {
-            view,
-            penalty,
-            reward,
-            returns,
-        },
-    }
+    good
 }
 
 // The counters of a module that is opened.
@@ -166,28 +164,27 @@ fn counter_word(kind: u32, j: usize, v: u32) -> u32
     kind * KIND + (j as u32 + 1) * NUMBER + v
 }
 
-// Writes one counter of every module.
-fn save_counter(kind: u32, n: usize, values: [u32; 16], out: &mut [u8], at: usize)
-    requires { ⌜ (kind < 16) × (n ≤ 16) × ((j : ℕ) → j < n → getD values j 0 < 2 ^ 23) × (at < 2 ^ 16) × ((at + n) * 4 ≤ length (now out)) ⌝ }
-    ensures { λ _. ⌜ now (out .exit) ≡ putRun (now (out .entry)) at n (λ j. counterWord kind j (getD values j 0)) ⌝ }
+// Writes the counters, module by module.
+pub fn save_counters(
+    n: usize,
+    penalty: &[u32; 16],
+    reward: &[u32; 16],
+    returns: &[u32; 16],
+    out: &mut [u8],
+)
+    requires { ⌜ (n ≤ 16) × (length (now out) ≡ imageLength n) × ((j : ℕ) → j < n → getD (now penalty) j 0 < numberUnit)
+        × ((j : ℕ) → j < n → getD (now reward) j 0 < numberUnit) × ((j : ℕ) → j < n → getD (now returns) j 0 < numberUnit) ⌝ }
+    ensures { λ _. ⌜ now (out .exit) ≡ putRun (putRun (putRun (now (out .entry)) (penaltiesAt n) n (λ j. counterWord 13 j (getD (now (penalty .entry)) j 0)))
+        (rewardsAt n) n (λ j. counterWord 14 j (getD (now (reward .entry)) j 0))) (returnsAt n) n (λ j. counterWord 15 j (getD (now (returns .entry)) j 0)) ⌝ }
 {
+    let i = penalties_at(n);
+    let k = rewards_at(n);
+    let l = returns_at(n);
     for j in 0..n {
-        let w = counter_word(kind, j, values[j]);
-        put_word(out, at + j, w);
+        put_word(out, i + j, counter_word(13, j, penalty[j]));
+        put_word(out, k + j, counter_word(14, j, reward[j]));
+        put_word(out, l + j, counter_word(15, j, returns[j]));
     }
-}
-
-// Writes the counters.
-pub fn save_counters(n: usize, counters: Counters, out: &mut [u8])
-    requires { ⌜ (n ≤ 16) × (countersRoomy n counters ≡ true) × (length (now out) ≡ imageLength n) ⌝ }
-    ensures { λ _. ⌜ now (out .exit) ≡ putRuns (now (out .entry)) (penaltiesAt n) (counterRuns n counters) ⌝ }
-{
-    let penalty = counters.penalty;
-    let reward = counters.reward;
-    save_counter(13, n, penalty, out, penalties_at(n));
-    save_counter(14, n, reward, out, rewards_at(n));
-    let returns = counters.returns;
-    save_counter(15, n, returns, out, returns_at(n));
 }
 
 // Whether every counter has room in its word, and nothing stands in the entries from n on.

@@ -4,8 +4,7 @@ use crate::layout::earlier_at;
 use crate::layout::latest_at;
 use crate::layout::own_at;
 use crate::word::VECTOR;
-use crate::word::own_number_ok;
-use crate::word::own_ok;
+use crate::word::own_right;
 use crate::word::syndrome_ok;
 use setup::layout::MODULES_AT;
 use setup::layout::PLACE;
@@ -17,7 +16,7 @@ ghost use Prim.Native.Nat.{_+_, _*_, _≤_, _<_};
 ghost use lib.ListN.{length};
 ghost use Rattle.words.specs.Word.{wordAt};
 ghost use Rattle.setup.specs.Layout.{modulesAt};
-ghost use Rattle.setup.specs.Setup.{limitIn, criticalityIn};
+ghost use Rattle.setup.specs.Setup.{limitIn, placeIn, criticalityIn};
 ghost use Rattle.image.specs.Layout.{ownAt, latestAt, earlierAt, imageLength};
 ghost use Rattle.image.specs.Words.{ownIn, viewIn, syndromeIn};
 ghost use Rattle.image.specs.Check.{wordsRight};
@@ -36,6 +35,14 @@ pub fn criticality_in(s: &[u8], j: usize) -> u32
     ensures { λ r. ⌜ r ≡ criticalityIn (wordAt (now (s .entry)) (modulesAt + j)) ⌝ }
 {
     word_at(s, MODULES_AT + j) % PLACE
+}
+
+// The read place of module j + 1.
+pub fn place_in(s: &[u8], j: usize) -> u32
+    requires { ⌜ (j < 16) × ((modulesAt + j) * 4 + 4 ≤ length (now s)) ⌝ }
+    ensures { λ r. ⌜ r ≡ placeIn (wordAt (now (s .entry)) (modulesAt + j)) ⌝ }
+{
+    field(word_at(s, MODULES_AT + j), 17, 5)
 }
 
 // The own number.
@@ -82,9 +89,8 @@ pub fn load_words(s: &[u8], n: usize) -> WordsPart
     let own = word_at(s, own_at(n));
     let latest = word_at(s, latest_at(n));
     let earlier = word_at(s, earlier_at(n));
-    let number = own_number_ok(n, own) & own_ok(n, own);
     WordsPart {
-        good: number & (syndrome_ok(n, latest) & syndrome_ok(n, earlier)),
+        good: own_right(n, own) & (syndrome_ok(n, latest) & syndrome_ok(n, earlier)),
         own: field(own, 16, 5) as usize,
         view: own % VECTOR,
         latest: latest % KIND,

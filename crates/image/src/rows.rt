@@ -11,6 +11,7 @@ use words::bits::power;
 use words::bits::with_bit;
 use words::word::KIND;
 use words::word::NUMBER;
+use words::word::gap;
 use words::word::put_word;
 use words::word::word_at;
 ghost use mathlib.Core.Path.{_≡_};
@@ -18,28 +19,22 @@ ghost use Prim.Native.Nat.{ℕ, _+_, _*_, _^_, _≤_, _<_};
 ghost use lib.ListN.{length, getD};
 ghost use Rattle.words.specs.Word.{wordAt};
 ghost use Rattle.words.specs.Bits.{bit};
+ghost use Rattle.words.specs.Array.{array};
 ghost use Rattle.words.specs.Count.{all};
 ghost use Rattle.words.specs.Runs.{putRun};
 ghost use Rattle.image.specs.Layout.{imageLength};
-ghost use Rattle.image.specs.Rows.{rowWord, rowFits, rowOk, rowTest, readingIn, rowsRoomy};
+ghost use Rattle.image.specs.Rows.{rowWord, rowOk, rowTest, readingIn, rowsRoomy};
 
 // 2^22: the bit that says whether the sender was heard, and the row below it.
 const HEARD: u32 = 4194304;
 
-// No bit at n or above, and no row where the module was not heard.
-fn row_fits(n: usize, heard: bool, row: u32) -> bool
-    requires { ⌜ n ≤ 16 ⌝ }
-    ensures { λ r. ⌜ r ≡ rowFits n heard row ⌝ }
-{
-    row < pick(heard, power(n), 1)
-}
-
-// Kind 11, the number j + 1, a row that fits.
+// Kind 11, the number j + 1, a row that fits, by one comparison: a word with the bit of who is heard is above the first of its number by that bit and
+// a row of n bits, one without it by nothing.
 fn row_ok(n: usize, j: usize, w: u32) -> bool
     requires { ⌜ (n ≤ 16) × (j < 16) ⌝ }
     ensures { λ r. ⌜ r ≡ rowOk n j w ⌝ }
 {
-    (w / NUMBER == 11 * 32 + (j as u32 + 1)) & row_fits(n, bit_at(w, 22), w % HEARD)
+    gap(11, j, w) < pick(bit_at(w, 22), HEARD + power(n), 1)
 }
 
 // Whether the row of module j + 1 is right.
@@ -50,25 +45,22 @@ pub fn row_right(s: &[u8], n: usize, j: usize) -> bool
     row_ok(n, j, word_at(s, rows_at(n) + j))
 }
 
-// The previous read, and whether its words are right.
-pub fn load_rows(s: &[u8], n: usize) -> RowsPart
-    requires { ⌜ (n ≤ 16) × (length (now s) ≡ imageLength n) ⌝ }
-    ensures { λ r. ⌜ (r .good ≡ all n (rowTest (wordAt (now (s .entry))) n)) × (r .previous ≡ readingIn (now (s .entry)) n) ⌝ }
+// The previous read, its rows in a lent array, and whether its words are right.
+pub fn load_rows(s: &[u8], n: usize, rows: &mut [u32; 16]) -> RowsPart
+    requires { ⌜ (n ≤ 16) × (length (now s) ≡ imageLength n) × (now rows ≡ array 0 (λ _. 0)) ⌝ }
+    ensures { λ r. ⌜ (r .good ≡ all n (rowTest (wordAt (now (s .entry))) n)) × (r .heard ≡ readingIn (now (s .entry)) n .heard)
+        × (now (rows .exit) ≡ readingIn (now (s .entry)) n .rows) ⌝ }
 {
     let i = rows_at(n);
     let mut good = true;
     let mut heard: u32 = 0;
-    let mut rows = [0u32; 16];
     for j in 0..n {
         let w = word_at(s, i + j);
         good = good & row_ok(n, j, w);
         heard = with_bit(heard, j, bit_at(w, 22));
         rows[j] = w % HEARD;
     }
-    RowsPart {
-        good,
-        previous: Reading { heard, rows },
-    }
+    RowsPart { good, heard }
 }
 
 // The word of the row of module j + 1.
@@ -80,9 +72,9 @@ fn row_word(j: usize, heard: bool, row: u32) -> u32
 }
 
 // Writes the rows of the previous read.
-pub fn save_rows(n: usize, heard: u32, rows: [u32; 16], out: &mut [u8], at: usize)
-    requires { ⌜ (n ≤ 16) × ((j : ℕ) → j < n → getD rows j 0 < 2 ^ 16) × (at < 2 ^ 16) × ((at + n) * 4 ≤ length (now out)) ⌝ }
-    ensures { λ _. ⌜ now (out .exit) ≡ putRun (now (out .entry)) at n (λ j. rowWord j (bit heard j) (getD rows j 0)) ⌝ }
+pub fn save_rows(n: usize, heard: u32, rows: &[u32; 16], out: &mut [u8], at: usize)
+    requires { ⌜ (n ≤ 16) × ((j : ℕ) → j < n → getD (now rows) j 0 < 2 ^ 16) × (at < 2 ^ 16) × ((at + n) * 4 ≤ length (now out)) ⌝ }
+    ensures { λ _. ⌜ now (out .exit) ≡ putRun (now (out .entry)) at n (λ j. rowWord j (bit heard j) (getD (now (rows .entry)) j 0)) ⌝ }
 {
     for j in 0..n {
         let w = row_word(j, bit_at(heard, j), rows[j]);

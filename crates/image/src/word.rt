@@ -4,6 +4,7 @@ use words::word::KIND;
 use words::word::field;
 use words::word::put_word;
 ghost use mathlib.Core.Path.{_≡_};
+ghost use mathlib.Core.Bool.{_&&_};
 ghost use Prim.Native.Nat.{_+_, _*_, _^_, _≤_, _<_};
 ghost use lib.ListN.{length};
 ghost use Rattle.words.specs.Runs.{putRun};
@@ -28,6 +29,15 @@ pub fn own_ok(n: usize, w: u32) -> bool
     ensures { λ r. ⌜ r ≡ ownOk n w ⌝ }
 {
     (w / SPARE == 10 * 128) & (w % VECTOR < power(n))
+}
+
+// Both: where the word passes the second test its kind is 10, and is not tested again.
+pub fn own_right(n: usize, w: u32) -> bool
+    requires { ⌜ n ≤ 16 ⌝ }
+    ensures { λ r. ⌜ r ≡ ownNumberOk n w && ownOk n w ⌝ }
+{
+    let own = field(w, 16, 5);
+    own_ok(n, w) & ((1 <= own) & (own as usize <= n))
 }
 
 // Kind 12, no bit at n or above.

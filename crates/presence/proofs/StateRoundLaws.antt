@@ -27,7 +27,7 @@ use Rattle.rules.specs.declared.Counters.{Counters}
 use Rattle.rules.specs.declared.Judgement.{Judgement}
 use Rattle.image.specs.Counters.{zeroCounters}
 use Rattle.image.proofs.PenaltyLaws.{accounts-fit}
-use Rattle.image.proofs.ReturnLaws.{returns-small}
+use Rattle.image.proofs.ReturnLaws.{returns-below}
 use Rattle.presence.specs.Valid.{stateVerdict, Valid}
 use Rattle.presence.specs.Opening.{fresh, blank, checkOpening, openOf}
 use Rattle.presence.specs.Step.{skewOf, placeOf, ownSyndrome, alignedFor, judgementFor, outgoingFor, afterRound, refusedStep, acceptedStep, readStep, stepOf}
@@ -72,10 +72,10 @@ after-made st this {j} {c} e h =
 
 -- the accounts of a valid state are small enough to add to
 pub in-range : (st : State) → StateFits st → (j : ℕ) → j < st .setup .n
-    → InRange (getD (st .setup .criticality) j 0) (accountAt (st .counters) j)
+    → InRange (st .setup .p) (st .setup .q) (getD (st .setup .criticality) j 0) (accountAt (st .counters) j)
 in-range st f j h =
-    fits-in-range (st .setup .p) (st .setup .r) _ _ (f .setup .p-most) (f .setup .r-most) (f .setup .each j h .most)
-    (returns-small (st .setup) (st .counters) (f .setup .q-most) (f .counters) j h) (accounts-fit (st .setup) (st .counters) (f .counters) j h)
+    fits-in-range (st .setup .p) (st .setup .r) (st .setup .q) _ _ (f .setup .p-most) (f .setup .r-most) (f .setup .q-most) (f .setup .each j h .most)
+    (returns-below (st .setup) (st .counters) (f .counters) j h) (accounts-fit (st .setup) (st .counters) (f .counters) j h)
 
 -- ---- the round
 

@@ -1,18 +1,19 @@
 -- The image of a state: the words that it is written as, and the state that words hold. (document 01, "What runs", kinds 10 to 14)
 use mathlib.Core.Bool.{Bool, cond}
-use mathlib.Core.List.{List, _∷_, _++_}
+use mathlib.Core.List.{List, _++_}
 use Prim.Native.Nat.{ℕ}
 use lib.ListN.{length}
 use lib.Dec.{eqb}
 use Rattle.words.specs.Word.{wordAt}
 use Rattle.words.specs.Verdict.{isAccepted}
-use Rattle.words.specs.Runs.{Run, one, runsOf}
+use Rattle.words.specs.Runs.{Run, runsOf}
 use Rattle.setup.specs.Layout.{headAt}
 use Rattle.setup.specs.Setup.{sizeIn, setupOf, setupRuns}
 use Rattle.image.specs.Layout.{ownAt, latestAt, earlierAt, imageLength}
-use Rattle.image.specs.Words.{ownWord, ownIn, syndromeWord, syndromeIn}
-use Rattle.image.specs.Rows.{readingIn, rowRun}
-use Rattle.image.specs.Counters.{countersIn, counterRuns}
+use Rattle.image.specs.Words.{ownIn, syndromeIn}
+use Rattle.image.specs.Rows.{readingIn}
+use Rattle.image.specs.Counters.{countersIn}
+use Rattle.image.specs.Sections.{sectionRuns}
 use Rattle.image.specs.Check.{checkImage}
 use Rattle.presence.specs.Opening.{blank}
 use Rattle.presence.specs.declared.State.{State}
@@ -22,12 +23,7 @@ use Rattle.presence.specs.declared.Opened.{Opened}
 
 -- the words after the setup's, section by section
 abbrev pub stateRuns : State → List Run
-stateRuns st =
-    one (ownWord (st .own) (st .counters .view))
-    ∷ rowRun (st .setup .n) (st .previous)
-    ∷ one (syndromeWord (st .latest))
-    ∷ one (syndromeWord (st .earlier))
-    ∷ counterRuns (st .setup .n) (st .counters)
+stateRuns st = sectionRuns (st .setup .n) (st .own) (st .counters) (st .previous) (st .latest) (st .earlier)
 
 -- all words: those of its setup, then the others
 abbrev pub imageRuns : State → List Run

@@ -6,44 +6,73 @@ use image::check::image_size;
 use image::load_counters;
 use image::load_rows;
 use image::load_words;
+use rules::Counters;
+use rules::Reading;
 use setup::read::load_setup;
 ghost use mathlib.Core.Path.{_≡_};
+ghost use mathlib.Core.Bool.{true};
 ghost use Prim.Native.Nat.{_≤_};
 ghost use lib.ListN.{length};
 ghost use Rattle.words.specs.Word.{wordAt};
 ghost use Rattle.words.specs.Verdict.{allRight};
-ghost use Rattle.setup.specs.Setup.{sizeIn};
+ghost use Rattle.setup.specs.Limits.{mostReturnLimit};
+ghost use Rattle.setup.specs.Setup.{sizeIn, returnLimitIn};
 ghost use Rattle.image.specs.Layout.{imageLength};
 ghost use Rattle.image.specs.Check.{imageTests, checkImage};
 ghost use Rattle.presence.specs.Opening.{blank as blankState};
 ghost use Rattle.presence.specs.Image.{stateOf, loadOf};
 
-// The state of an image, and whether all its words are right.
-pub struct Loaded {
-    pub good: bool,
-    pub state: State,
+// Whether all words of an image are right, and then its state.
+struct Loaded {
+    good: bool,
+    state: State,
 }
 
-// The state, whatever the words are, and whether all of them are right, in an image whose head and length are.
-pub fn load(s: &[u8], n: usize) -> Loaded
-    requires { ⌜ (n ≤ 16) × (length (now s) ≡ imageLength n) × (n ≡ sizeIn (wordAt (now s) 0)) ⌝ }
-    ensures { λ r. ⌜ (r .good ≡ allRight (imageTests (now (s .entry)) n)) × (r .state ≡ stateOf (now (s .entry))) ⌝ }
+// Whether all words are right, and then the state, in an image whose head and length are.
+fn load(s: &[u8], n: usize) -> Loaded
+    requires { ⌜ (n ≤ 16) × (length (now s) ≡ imageLength n) × (n ≡ sizeIn (wordAt (now s) 0)) × (returnLimitIn (wordAt (now s) 0) ≤ mostReturnLimit) ⌝ }
+    ensures { λ r. ⌜ (r .good ≡ allRight (imageTests (now (s .entry)) n)) × (r .good ≡ true → r .state ≡ stateOf (now (s .entry))) ⌝ }
 {
     let first = load_setup(s, n);
+    if !first.good {
+        let state = State::blank();
+        return Loaded { good: false, state };
+    }
     let setup = first.setup;
-    let alone = load_words(s, n);
-    let read = load_rows(s, n);
-    let previous = read.previous;
     let criticality = setup.criticality;
-    let last = load_counters(s, n, setup.q, setup.p, setup.r, criticality, alone.view);
-    let counters = last.counters;
+    let alone = load_words(s, n);
+    let mut rows = [0u32; 16];
+    let mut penalty = [0u32; 16];
+    let mut reward = [0u32; 16];
+    let mut returns = [0u32; 16];
+    let read = load_rows(s, n, &mut rows);
+    let right = load_counters(
+        s,
+        n,
+        setup.q,
+        setup.p,
+        setup.r,
+        &criticality,
+        alone.view,
+        &mut penalty,
+        &mut reward,
+        &mut returns,
+    );
     Loaded {
-        good: first.good & (alone.good & (read.good & last.good)),
+        good: alone.good & (read.good & right),
         state: State {
             setup,
             own: alone.own,
-            counters,
-            previous,
+            counters: Counters {
+                view: alone.view,
+                penalty,
+                reward,
+                returns,
+            },
+            previous: Reading {
+                heard: read.heard,
+                rows,
+            },
             latest: alone.latest,
             earlier: alone.earlier,
         },

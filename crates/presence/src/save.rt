@@ -1,15 +1,7 @@
 // Writing a state as words.
 use crate::State;
-use image::earlier_at;
 use image::image_length;
-use image::latest_at;
-use image::own_at;
-use image::own_word;
-use image::rows_at;
-use image::save_counters;
-use image::save_rows;
-use image::save_word;
-use image::syndrome_word;
+use image::save_sections;
 use setup::layout::setup_length;
 use setup::write::write_words;
 use words::Verdict;
@@ -17,29 +9,11 @@ use words::check::accept;
 use words::check::refusal;
 ghost use mathlib.Core.Path.{_≡_};
 ghost use mathlib.Core.Bool.{true};
-ghost use Prim.Native.Nat.{_≤_};
 ghost use lib.ListN.{length};
-ghost use Rattle.words.specs.Runs.{putRuns};
 ghost use Rattle.setup.specs.Check.{setupVerdict};
-ghost use Rattle.image.specs.Layout.{ownAt, imageLength};
-ghost use Rattle.presence.specs.Image.{stateRuns, imageOf};
+ghost use Rattle.image.specs.Layout.{imageLength};
+ghost use Rattle.presence.specs.Image.{imageOf};
 ghost use Rattle.presence.specs.Valid.{roomy, saveVerdict, savedOut};
-
-// Writes the words after the setup's, section by section.
-fn save_sections(state: State, out: &mut [u8])
-    requires { ⌜ (state .setup .n ≤ 16) × (roomy state ≡ true) × (length (now out) ≡ imageLength (state .setup .n)) ⌝ }
-    ensures { λ _. ⌜ now (out .exit) ≡ putRuns (now (out .entry)) (ownAt (state .setup .n)) (stateRuns state) ⌝ }
-{
-    let n = state.setup.n;
-    let previous = state.previous;
-    let counters = state.counters;
-    let rows = previous.rows;
-    save_word(own_word(state.own, counters.view), out, own_at(n));
-    save_rows(n, previous.heard, rows, out, rows_at(n));
-    save_word(syndrome_word(state.latest), out, latest_at(n));
-    save_word(syndrome_word(state.earlier), out, earlier_at(n));
-    save_counters(n, counters, out);
-}
 
 // Writes all words of a state.
 pub fn save_words(state: State, out: &mut [u8])
@@ -48,8 +22,26 @@ pub fn save_words(state: State, out: &mut [u8])
 {
     let setup = state.setup;
     let k = setup_length(setup.n);
+    let previous = state.previous;
+    let counters = state.counters;
+    let rows = previous.rows;
+    let penalty = counters.penalty;
+    let reward = counters.reward;
+    let returns = counters.returns;
     write_words(setup, &mut out[..k]);
-    save_sections(state, out);
+    save_sections(
+        setup.n,
+        state.own,
+        counters.view,
+        previous.heard,
+        &rows,
+        state.latest,
+        state.earlier,
+        &penalty,
+        &reward,
+        &returns,
+        out,
+    );
 }
 
 impl State {

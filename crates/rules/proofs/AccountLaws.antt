@@ -1,11 +1,11 @@
 -- Rule 8 keeps every account within the limits of the setup.
-use mathlib.Core.Path.{_≡_, refl, ap₂, _∙_, sym}
+use mathlib.Core.Path.{_≡_, refl, ap, _∙_, sym}
 use mathlib.Core.Bool.{Bool, true, false, cond, not, _&&_, _||_}
 use Prim.Native.Nat.{ℕ, _+_, _-_, _<_, _≤_}
 use native.Mathlib.Omega.{arith}
 use lib.ListN.{getD}
 use lib.Dec.{eqb, leb, ltb}
-use borrow.Author.Tests.{leb-true, leb-false, eqb-false, le-leb}
+use borrow.Author.Tests.{leb-true, leb-false, eqb-true, eqb-false, ltb-true, ltb-false, le-leb, lt-ltb, lt-leb}
 use Rattle.words.specs.Bits.{bit, b2n}
 use Rattle.words.proofs.Truth.{clash, cond-both}
 use Rattle.words.proofs.BitLaws.{bit-pack}
@@ -129,73 +129,62 @@ counts-fit s health c small j h =
 abbrev made : Bool → ℕ → ℕ → ℕ → Account
 made b x y z = record { present = b; penalty = x; reward = y; returns = z }
 
-module _ (p r k : ℕ) (h : Bool) (a : Account) where
-  abbrev owed : Bool
-  owed = h && not (eqb (a .penalty) 0)
+-- what the picks choose by, for a module that is in the view or not (b), with this health (h), that owes nothing or something (o)
+abbrev rewards : Bool → Bool → Bool → Bool
+rewards b h o = (b && h) && not o
 
-  -- f is what the reward grows by, x, y and z what the picks give
-  pub inside-by : {f x y z : ℕ} → f ≡ b2n owed → x ≡ cond (owed && leb r (a .reward + f)) 0 (a .penalty) → y ≡ cond h x (a .penalty + k)
-      → z ≡ cond (not h || (owed && leb r (a .reward + f))) 0 (a .reward + f)
-      → made ((h && a .present) || (not h && leb (a .penalty + k) p)) y z 0 ≡ cond h (rewarded r a) (charged p k a)
-  unfolding rewarded charged
-  inside-by ef ex ey ez = rw (ez, ey, ex, ef) (go h (eqb (a .penalty) 0))
-    where
-      no-more : a .reward + 0 ≡ a .reward
-      no-more = omega arith
+abbrev clears : Bool → Bool → Bool → ℕ → ℕ → Bool
+clears b h o r more = rewards b h o && leb r more
 
-      either : (b : Bool) → b || false ≡ b
-      either true = refl
-      either false = refl
-
-      cleared : (l : Bool) → made (a .present || false) (cond l 0 (a .penalty)) (cond l 0 (a .reward + 1)) 0
-          ≡ cond l (uncounted (a .present) 0 0) (uncounted (a .present) (a .penalty) (a .reward + 1))
-      cleared true = λ i. made (either (a .present) i) 0 0 0
-      cleared false = λ i. made (either (a .present) i) (a .penalty) (a .reward + 1) 0
-
-      -- o: nothing is owed
-      go : (h o : Bool) → (let e = h && not o in let l = e && leb r (a .reward + b2n e) in
-          made ((h && a .present) || (not h && leb (a .penalty + k) p)) (cond h (cond l 0 (a .penalty)) (a .penalty + k))
-          (cond (not h || l) 0 (a .reward + b2n e)) 0)
-          ≡ cond h (cond o (uncounted (a .present) (a .penalty) (a .reward))
-          (cond (leb r (a .reward + 1)) (uncounted (a .present) 0 0) (uncounted (a .present) (a .penalty) (a .reward + 1))))
-          (uncounted (leb (a .penalty + k) p) (a .penalty + k) 0)
-      go false o = refl
-      go true true = λ i. made (either (a .present) i) (a .penalty) (no-more i) 0
-      go true false = cleared (leb r (a .reward + 1))
-
-module _ (p q : ℕ) (h : Bool) (a : Account) where
-  abbrev counted : Bool
-  counted = h && ltb 0 q
-
-  abbrev back : Bool
-  back = counted && leb q (a .returns + 1)
-
-  -- x, y and z are what the picks give
-  pub outside-by : {x y z : ℕ} → x ≡ cond back p (a .penalty) → y ≡ cond back 0 (a .reward) → z ≡ cond (counted && not back) (a .returns + 1) 0
-      → made back x y z ≡ awaited p q h a
-  unfolding awaited
-  outside-by ex ey ez = rw (ez, ey, ex) (go counted (leb q (a .returns + 1)))
-    where
-      go : (c t : Bool) → made (c && t) (cond (c && t) p (a .penalty)) (cond (c && t) 0 (a .reward)) (cond (c && not (c && t)) (a .returns + 1) 0)
-          ≡ cond c (cond t (uncounted true p 0) (made false (a .penalty) (a .reward) (a .returns + 1))) (uncounted false (a .penalty) (a .reward))
-      go true true = refl
-      go true false = refl
-      go false t = refl
-
--- the account inside the view or the one outside it, field by field
-pub account-by : {inside outside : Account} {x y z : ℕ} (p r q k : ℕ) (h : Bool) (a : Account)
-    → inside ≡ cond h (rewarded r a) (charged p k a) → outside ≡ awaited p q h a → x ≡ cond (a .present) (inside .penalty) (outside .penalty)
-    → y ≡ cond (a .present) (inside .reward) (outside .reward) → z ≡ cond (a .present) (inside .returns) (outside .returns)
-    → made ((a .present && inside .present) || (not (a .present) && outside .present)) x y z ≡ accounted p r q k h a
-unfolding accounted
-account-by {inside} {outside} p r q k h a i o ex ey ez =
-    rw (ez, ey, ex) (go (a .present)) ∙ ap₂ (λ (x y : Account). cond (a .present) x y) i o
+-- e is what the reward grows by, k what the penalty grows by, w, x, y and z what the picks give
+pub account-by : {e k w x y z : ℕ} (p r q criticality : ℕ) (h : Bool) (a : Account) → a .present ≡ leb (a .penalty) p → a .returns ≤ q - 1
+    → e ≡ b2n (rewards (a .present) h (eqb (a .penalty) 0)) → k ≡ cond (a .present && not h) criticality 0
+    → w ≡ cond (clears (a .present) h (eqb (a .penalty) 0) r (a .reward + e)) 0 (a .penalty + k)
+    → x ≡ cond ((not (a .present) && h) && eqb (a .returns + 1) q) p w
+    → y ≡ cond ((clears (a .present) h (eqb (a .penalty) 0) r (a .reward + e) || (a .present && not h)) || ((not (a .present) && h) && eqb (a .returns + 1) q)) 0 (a .reward + e)
+    → z ≡ cond ((not (a .present) && h) && ltb (a .returns + 1) q) (a .returns + 1) 0
+    → made (leb x p) x y z ≡ accounted p r q criticality h a
+unfolding accounted charged rewarded awaited
+account-by p r q criticality h a view below ee ek ew ex ey ez = rw (ez, ey, ex, ew, ek, ee) (go (a .present) h (eqb (a .penalty) 0) refl)
   where
-    either : (b : Bool) → b || false ≡ b
-    either true = refl
-    either false = refl
+    no-more : (v : ℕ) → v + 0 ≡ v
+    no-more v = omega arith
 
-    go : (b : Bool) → made ((b && inside .present) || (not b && outside .present)) (cond b (inside .penalty) (outside .penalty))
-        (cond b (inside .reward) (outside .reward)) (cond b (inside .returns) (outside .returns)) ≡ cond b inside outside
-    go true = λ i. made (either (inside .present) i) (inside .penalty) (inside .reward) (inside .returns)
-    go false = refl
+    kept : leb (a .penalty + 0) p ≡ a .present
+    kept = ap (λ v. leb v p) (no-more (a .penalty)) ∙ sym view
+
+    -- l: at the limit; t: the last round before the return; s: a round before it
+    cleared : (l : Bool) → a .present ≡ true
+        → made (leb (cond l 0 (a .penalty + 0)) p) (cond l 0 (a .penalty + 0)) (cond ((l || false) || false) 0 (a .reward + 1)) 0
+        ≡ cond l (uncounted (a .present) 0 0) (uncounted (a .present) (a .penalty) (a .reward + 1))
+    cleared true e = λ i. made ((le-leb 0 p (omega arith) ∙ sym e) i) 0 0 0
+    cleared false e = λ i. made (kept i) (no-more (a .penalty) i) (a .reward + 1) 0
+
+    waited : (t s : Bool) → a .present ≡ false → eqb (a .returns + 1) q ≡ t → ltb (a .returns + 1) q ≡ s
+        → made (leb (cond t p (a .penalty + 0)) p) (cond t p (a .penalty + 0)) (cond t 0 (a .reward + 0)) (cond s (a .returns + 1) 0)
+        ≡ cond (ltb 0 q) (cond (leb q (a .returns + 1)) (uncounted true p 0) (made false (a .penalty) (a .reward) (a .returns + 1)))
+        (uncounted false (a .penalty) (a .reward))
+    waited true true e f g = absurd (omega (arith, eqb-true (a .returns + 1) q f, ltb-true (a .returns + 1) q g))
+    waited true false e f g =
+        let d = eqb-true (a .returns + 1) q f in
+        rw (lt-ltb 0 q (omega arith), le-leb q (a .returns + 1) (omega arith)) (λ i. made (le-leb p p (omega arith) i) p 0 0)
+    waited false true e f g =
+        let d = ltb-true (a .returns + 1) q g in
+        rw (lt-ltb 0 q (omega arith), lt-leb q (a .returns + 1) (omega arith)) (λ i. made ((kept ∙ e) i) (no-more (a .penalty) i) (no-more (a .reward) i) (a .returns + 1))
+    waited false false e f g =
+        let none : q ≡ 0 = omega (arith, eqb-false (a .returns + 1) q f, ltb-false (a .returns + 1) q g) in
+        rw none (λ i. made ((kept ∙ e) i) (no-more (a .penalty) i) (no-more (a .reward) i) 0)
+
+    go : (b h o : Bool) → a .present ≡ b → (let e = b2n (rewards b h o) in let l = clears b h o r (a .reward + e) in
+        let back = (not b && h) && eqb (a .returns + 1) q in let x = cond back p (cond l 0 (a .penalty + cond (b && not h) criticality 0)) in
+        made (leb x p) x (cond ((l || (b && not h)) || back) 0 (a .reward + e)) (cond ((not b && h) && ltb (a .returns + 1) q) (a .returns + 1) 0))
+        ≡ cond b (cond h (cond o (uncounted (a .present) (a .penalty) (a .reward))
+        (cond (leb r (a .reward + 1)) (uncounted (a .present) 0 0) (uncounted (a .present) (a .penalty) (a .reward + 1))))
+        (uncounted (leb (a .penalty + criticality) p) (a .penalty + criticality) 0))
+        (cond (h && ltb 0 q) (cond (leb q (a .returns + 1)) (uncounted true p 0) (made false (a .penalty) (a .reward) (a .returns + 1)))
+        (uncounted false (a .penalty) (a .reward)))
+    go true false o e = refl
+    go true true true e = λ i. made (kept i) (no-more (a .penalty) i) (no-more (a .reward) i) 0
+    go true true false e = cleared (leb r (a .reward + 1)) e
+    go false true o e = waited (eqb (a .returns + 1) q) (ltb (a .returns + 1) q) e refl refl
+    go false false o e = λ i. made ((kept ∙ e) i) (no-more (a .penalty) i) (no-more (a .reward) i) 0

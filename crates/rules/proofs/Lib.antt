@@ -10,3 +10,4 @@ pub mod StruckOff
 pub mod AccountLaws
 pub mod TakenBack
 pub mod RangeLaws
+pub mod CountedLaws

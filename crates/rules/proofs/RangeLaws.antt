@@ -1,8 +1,8 @@
 -- The accounts of one module: read field by field they are in range, and rule 8 gives the account of the definition.
-use mathlib.Core.Path.{_≡_}
+use mathlib.Core.Path.{_≡_, _∙_}
 use mathlib.Core.Bool.{Bool}
 use mathlib.Core.List.{List}
-use Prim.Native.Nat.{ℕ, _≤_, _<_}
+use Prim.Native.Nat.{ℕ, _-_, _≤_}
 use native.Mathlib.Omega.{arith}
 use lib.ListN.{getD}
 use Rattle.words.specs.Bits.{bit, pack}
@@ -15,13 +15,16 @@ use Rattle.rules.specs.Range.{InRange}
 use Rattle.rules.proofs.AccountLaws.{AccountFits}
 
 -- an account as rounds from opening on leave it is in range, by the limits of an accepted setup
-pub fits-in-range : (p r k : ℕ) (a : Account) → p ≤ 1000000 → r ≤ 8000000 → k ≤ 100000 → a .returns < 1000000 → AccountFits p r k a → InRange k a
-fits-in-range p r k a hp hr hk hq f =
+pub fits-in-range : (p r q k : ℕ) (a : Account) → p ≤ 1000000 → r ≤ 8000000 → q ≤ 1000000 → k ≤ 100000 → a .returns ≤ q - 1 → AccountFits p r k a
+    → InRange p q k a
+fits-in-range p r q k a hp hr hq hk below f =
     record {
       penalty = omega (arith, f .penalty);
       charge = hk;
       reward = omega (arith, f .reward);
-      returns = hq;
+      returns = omega arith;
+      present = f .view;
+      below = below;
     }
 
 -- the account of module j, with a bit of the view that is already read
@@ -29,9 +32,9 @@ module _ (c : Counters) (j : ℕ) (b : Bool) where
   abbrev readAt : Account
   readAt = record { present = b; penalty = getD (c .penalty) j 0; reward = getD (c .reward) j 0; returns = getD (c .returns) j 0 }
 
-  pub range-by : {k : ℕ} → InRange k (accountAt c j) → InRange k readAt
+  pub range-by : {p q k : ℕ} → b ≡ bit (c .view) j → InRange p q k (accountAt c j) → InRange p q k readAt
   unfolding accountAt
-  range-by f = record { penalty = f .penalty; charge = f .charge; reward = f .reward; returns = f .returns }
+  range-by e f = record { penalty = f .penalty; charge = f .charge; reward = f .reward; returns = f .returns; present = e ∙ f .present; below = f .below }
 
   pub accounted-by : {h : Bool} {x : Account} (s : Setup) (health : ℕ) → b ≡ bit (c .view) j → h ≡ bit health j
       → x ≡ accounted (s .p) (s .r) (s .q) (getD (s .criticality) j 0) h readAt → x ≡ accountedAt s health c j

@@ -10,10 +10,10 @@ use lib.Pow.{pow-mono}
 use borrow.Author.Tests.{eqb-true, eqb-false, ltb-true, ltb-false, eq-eqb, ne-eqb, lt-ltb, le-ltb}
 use Rattle.words.specs.Word.{wordAt}
 use Rattle.words.specs.Bits.{bit, pack}
-use Rattle.words.specs.Array.{array}
+use Rattle.words.specs.Array.{array, replaced, Filled}
 use Rattle.words.proofs.Truth.{cond-true, cond-false}
 use Rattle.words.proofs.BitLaws.{bit-pack, bit-mod}
-use Rattle.words.proofs.ArrayLaws.{array-at}
+use Rattle.words.proofs.ArrayLaws.{array-at, array-ext, replaced-ahead, replaced-array}
 use Rattle.rules.specs.Hearing.{busWord, receptionOf, isHeard, heardRow, wordHeard, entryOf, readingOf}
 use Rattle.rules.specs.declared.Reception.{Reception}
 use Rattle.rules.specs.declared.Reception.the-variants.{Heard, ControllerLoss, WrongKind, StrayBits}
@@ -114,6 +114,40 @@ pub reading-by : {heard : ℕ} {rows : List ℕ} (j n : ℕ) (read : List ℕ) (
     → record { heard = heard; rows = rows } ≡ readingOf n read controller
 unfolding readingOf
 reading-by j n read controller e h r = rw (h, r, e)
+
+-- the same in parts, where the rows are lent
+module _ (j n : ℕ) (read : List ℕ) (controller : ℕ) (e : j ≡ n) where
+  pub heard-by : {heard : ℕ} → heard ≡ pack j (λ k. entryOf n (bit controller k) (wordAt read k) .heard) → heard ≡ readingOf n read controller .heard
+  unfolding readingOf
+  heard-by h = rw (h, e)
+
+  pub rows-by : {rows : List ℕ} → rows ≡ array j (λ k. entryOf n (bit controller k) (wordAt read k) .row) → rows ≡ readingOf n read controller .rows
+  unfolding readingOf
+  rows-by r = rw (r, e)
+
+  -- and where the rows of the previous read are replaced by those of this one, but below `split`
+  pub rows-aligned : {rows : List ℕ} (split : ℕ) (a : List ℕ) → n ≤ 16 → Filled n a
+      → rows ≡ replaced j (λ k. cond (ltb k split) (getD a k 0) (entryOf n (bit controller k) (wordAt read k) .row)) a
+      → rows ≡ array n (λ k. cond (ltb k split) (getD a k 0) (getD (readingOf n read controller .rows) k 0))
+  unfolding readingOf
+  rows-aligned split a small f r =
+      replaced-array n n _ a (omega arith) small f (λ i s t. absurd (omega arith)) (rw e at r)
+      ∙ array-ext n _ _ (λ k l. ap (λ (v : ℕ). cond (ltb k split) (getD a k 0) v) (sym (array-at n _ k l small)))
+
+-- an entry by the answer that reading its word gave
+module _ (n : ℕ) (on : Bool) (w : ℕ) {r : Reception} (e : r ≡ receptionOf n on w) where
+  pub heard-of : {b : Bool} → b ≡ isHeard r → b ≡ entryOf n on w .heard
+  unfolding entryOf
+  heard-of h = h ∙ ap isHeard e
+
+  pub row-of : {v : ℕ} → v ≡ heardRow r → v ≡ entryOf n on w .row
+  unfolding entryOf
+  row-of h = h ∙ ap heardRow e
+
+-- the row that a turn replaces
+pub kept-row : {l : List ℕ} {u v : ℕ} (b : Bool) (a : List ℕ) (j : ℕ) (f : ℕ → ℕ) (w : ℕ) → l ≡ replaced j f a → v ≡ w
+    → u ≡ cond b (getD l j 0) v → u ≡ cond b (getD a j 0) w
+kept-row b a j f w e q r = rw (e, replaced-ahead j f a j (omega arith), q) at r
 
 module _ (n : ℕ) (read : List ℕ) (controller j : ℕ) (h : j < n) where
   pub reading-heard : bit (readingOf n read controller .heard) j ≡ entryOf n (bit controller j) (wordAt read j) .heard

@@ -1,6 +1,7 @@
 -- Rule 8: penalties, rewards, return counts and the view. (document 01, "One step", rule 8; document 02, E6)
 use Prim.Native.Nat.{ℕ, _+_}
 use mathlib.Core.Bool.{Bool, true, false, cond, _&&_}
+use mathlib.Core.List.{List}
 use lib.ListN.{getD}
 use lib.Dec.{eqb, leb, ltb}
 use Rattle.words.specs.Bits.{bit, pack}
@@ -43,6 +44,20 @@ accountAt c j = record { present = bit (c .view) j; penalty = getD (c .penalty) 
 -- the account of module j + 1 after a round with this health vector
 unfoldable pub accountedAt : Setup → ℕ → Counters → ℕ → Account
 accountedAt s health c j = accounted (s .p) (s .r) (s .q) (getD (s .criticality) j 0) (bit health j) (accountAt c j)
+
+-- the account of module j + 1 by its counters alone: it is in the view where its penalty is not over P, as in every accepted state
+unfoldable pub accountIn : ℕ → List ℕ → List ℕ → List ℕ → ℕ → Account
+accountIn p penalty reward returns j = record {
+  present = leb (getD penalty j 0) p;
+  penalty = getD penalty j 0;
+  reward = getD reward j 0;
+  returns = getD returns j 0;
+}
+
+-- the same after a round with this health vector
+unfoldable pub countedAt : ℕ → ℕ → ℕ → ℕ → List ℕ → List ℕ → List ℕ → List ℕ → ℕ → Account
+countedAt p r q health criticality penalty reward returns j =
+    accounted p r q (getD criticality j 0) (bit health j) (accountIn p penalty reward returns j)
 
 -- all modules: the view and the counters after a round with this health vector
 unfoldable pub countersOf : Setup → ℕ → Counters → Counters

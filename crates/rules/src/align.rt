@@ -1,25 +1,14 @@
 // Rule 3: read alignment.
 use crate::Reading;
+use crate::splice::aligned_heard;
 use words::bits::pick;
-use words::bits::power;
 ghost use mathlib.Core.Path.{_≡_};
 ghost use mathlib.Core.Bool.{cond};
 ghost use Prim.Native.Nat.{_≤_, _<_};
 ghost use lib.Dec.{ltb};
 ghost use lib.ListN.{getD};
-ghost use Rattle.words.specs.Bits.{bit, pack};
 ghost use Rattle.words.specs.Array.{array};
 ghost use Rattle.rules.specs.Alignment.{alignedOf};
-
-// Who is heard: the low `split` bits by the previous read, the others by this one.
-fn aligned_heard(n: usize, split: u32, previous: u32, this: u32) -> u32
-    requires { ⌜ (n ≤ 16) × (split < 31) ⌝ }
-    ensures { λ r. ⌜ r ≡ pack n (λ j. cond (ltb j split) (bit previous j) (bit this j)) ⌝ }
-{
-    let size = power(n);
-    let low = power(split as usize);
-    (previous % low + this % size / low * low) % size
-}
 
 // The rows, from the same reads.
 fn aligned_rows(n: usize, split: u32, previous: [u32; 16], this: [u32; 16]) -> [u32; 16]

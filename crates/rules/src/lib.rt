@@ -7,6 +7,7 @@ pub mod align;
 pub mod hearing;
 pub mod judge;
 pub mod lag;
+mod splice;
 
 // What reading a bus word answers: it is heard, with its row, or it is not, and why, the first cause that applies.
 pub enum Reception {
@@ -32,6 +33,13 @@ pub struct Reading {
 pub struct Judgement {
     pub health: u32,
     pub accusations: [u32; 16],
+    pub syndrome: u32,
+}
+
+// What a module makes of a read, where the rows are lent: who is heard in it, the health vector, and the syndrome.
+pub struct Judged {
+    pub heard: u32,
+    pub health: u32,
     pub syndrome: u32,
 }
 

@@ -4,5 +4,6 @@ pub mod SetupWords
 pub mod SetupLaws
 pub mod SetupAnswerLaws
 pub mod SetupReadLaws
+pub mod ModuleLaws
 pub mod SetupRoundTrip
 pub mod FrontLaws

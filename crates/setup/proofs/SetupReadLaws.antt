@@ -15,6 +15,7 @@ use Rattle.words.proofs.CountLaws.{all-both}
 use Rattle.setup.specs.Limits.{mostPenaltyLimit, mostRewardLimit}
 use Rattle.setup.specs.Setup.{returnLimitIn, sizeIn, limitIn, markIn, placeIn, criticalityIn, setupOf}
 use Rattle.setup.specs.Check.{limitOk, moduleOk, markOk, moduleTest, wordTests}
+use Rattle.setup.specs.Modules.{limitsRight, moduleRight}
 
 -- the marks, places and criticalities of the first j modules
 abbrev pub ModulesRead : List ℕ → ℕ → ℕ → List ℕ → List ℕ → Type 0
@@ -52,3 +53,8 @@ words-good {p} {r} {good} s n ep er eg =
     regroup true true false d = refl
     regroup true true true false = refl
     regroup true true true true = refl
+
+-- the same, of the limits and of the modules by themselves
+pub parts-good : {limits good : Bool} (s : List ℕ) (n : ℕ) → limits ≡ limitsRight s → good ≡ all n (λ j. moduleRight n j (wordAt s (3 + j)))
+    → limits && good ≡ allRight (wordTests s n)
+parts-good {limits} {good} s n e g = ap (λ (x : Bool). x && good) e ∙ words-good s n refl refl g

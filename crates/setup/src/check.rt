@@ -23,6 +23,7 @@ ghost use Rattle.words.specs.Verdict.{andThen, outcome};
 ghost use Rattle.setup.specs.Layout.{setupLength};
 ghost use Rattle.setup.specs.Setup.{sizeIn};
 ghost use Rattle.setup.specs.Check.{moduleTest, moduleTests, checkHead, checkWords, checkSetup, checkFront};
+ghost use Rattle.setup.specs.Modules.{limitsRight};
 
 // The N of the head word.
 pub fn size_at(s: &[u8]) -> usize
@@ -30,6 +31,15 @@ pub fn size_at(s: &[u8]) -> usize
     ensures { λ r. ⌜ r ≡ sizeIn (wordAt (now (s .entry)) 0) ⌝ }
 {
     (word_at(s, 0) % 32) as usize
+}
+
+// Whether the words of both limits are right.
+pub fn limits_right(s: &[u8]) -> bool
+    requires { ⌜ 12 ≤ length (now s) ⌝ }
+    ensures { λ r. ⌜ r ≡ limitsRight (now (s .entry)) ⌝ }
+{
+    limit_ok(2, MOST_PENALTY_LIMIT, word_at(s, PENALTY_LIMIT_AT))
+        & limit_ok(3, MOST_REWARD_LIMIT, word_at(s, REWARD_LIMIT_AT))
 }
 
 // Whether the word of module j + 1 is right by number 5 or by number 6.

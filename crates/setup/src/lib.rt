@@ -25,9 +25,16 @@ pub struct SetupPart {
     pub setup: Setup,
 }
 
+// What the words of the modules say together: whether they are right, and, where they are, whether some read place is not n.
+pub struct ModulesPart {
+    pub good: bool,
+    pub skew: bool,
+}
+
 pub mod check;
 pub mod fields;
 pub mod layout;
+pub mod modules;
 pub mod part;
 pub mod read;
 mod word;

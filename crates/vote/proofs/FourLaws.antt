@@ -106,34 +106,28 @@ four-packed f ea eb ec ed ew ex ey ez = pack-step 3 f (pack-step 2 f (pack-step 
 
 -- ---- the counts of n rows, for sixteen modules
 
-module _ (n voters : ℕ) (rows : List ℕ) (small : n ≤ 16) (t : Tally) (w : t ≡ tallyOf n voters rows) where
-  abbrev known : ℕ
-  known = voters % 2 ^ n
+module _ (n voters : ℕ) (rows : List ℕ) (small : n ≤ 16) (known : voters < 2 ^ n) (t : Tally) (w : t ≡ tallyOf n voters rows) where
+  below : (j : ℕ) → j < n → Countable (t .present) (t .ones) voters j
+  below j h = (own-counted n voters rows small t w j h, votes-fit n voters rows small t w j h, ones-fit n voters rows small t w j h)
 
-  below : (j : ℕ) → j < n → Countable (t .present) (t .ones) known j
-  below j h =
-      rw (bit-mod n voters j h)
-      (own-counted n voters rows small t w j h, votes-fit n voters rows small t w j h, ones-fit n voters rows small t w j h)
-
-  above : (j : ℕ) → n ≤ j → j < 16 → Countable (t .present) (t .ones) known j
+  above : (j : ℕ) → n ≤ j → j < 16 → Countable (t .present) (t .ones) voters j
   above j h k =
-      let z = bit-high known n j (mod-lt voters (pow-pos n)) h in
+      let z = bit-high voters n j known h in
       let p = present-by n voters rows small t w in
       let q = count-le n (bit voters) in
       let o = ones-by n voters rows small t w j k in
       let m = count-mono n (λ l. not (eqb l j) && bit voters l) (bit voters) (λ l g e. and-r (not (eqb l j)) (bit voters l) e) in
       rw z (omega arith, omega (arith, p, q), omega (arith, o, m, p, ones-le n voters rows small j))
 
-  pub countable : (j : ℕ) → j < 16 → Countable (t .present) (t .ones) known j
+  pub countable : (j : ℕ) → j < 16 → Countable (t .present) (t .ones) voters j
   countable j h =
       ⊎-elim (λ (y : ltb j n ≡ true). below j (ltb-true j n y)) (λ (f : ltb j n ≡ false). above j (ltb-false j n f) h) (which (ltb j n))
 
   -- the votes below n, by the counts, are the health vector
-  pub health-cut : (own m : ℕ) → n ≤ m → pack m (decidedBy (t .present) (t .ones) known own) % 2 ^ n ≡ healthOf n voters rows own
+  pub health-cut : (own m : ℕ) → n ≤ m → pack m (decidedBy (t .present) (t .ones) voters own) % 2 ^ n ≡ healthOf n voters rows own
   unfolding decidedBy
   health-cut own m h =
       let e : m ≡ n + (m - n) = omega arith in
-      ap (λ (x : ℕ). pack x (decidedBy (t .present) (t .ones) known own) % 2 ^ n) e
-      ∙ pack-low n (m - n) (decidedBy (t .present) (t .ones) known own)
-      ∙ pack-ext n _ _ (λ j g. ap (λ (b : Bool). decision (t .present - b2n b) (columnOf (t .ones) j) (bit own j)) (bit-mod n voters j g))
+      ap (λ (x : ℕ). pack x (decidedBy (t .present) (t .ones) voters own) % 2 ^ n) e
+      ∙ pack-low n (m - n) (decidedBy (t .present) (t .ones) voters own)
       ∙ health-by n voters rows small t w own

@@ -31,9 +31,9 @@ fn lane(row: u32, k: u32) -> u32
 }
 
 // Counts the votes on all modules.
-pub fn counted(n: usize, voters: u32, rows: [u32; 16]) -> Tally
+pub fn counted(n: usize, voters: u32, rows: &[u32; 16]) -> Tally
     requires { ⌜ n ≤ 16 ⌝ }
-    ensures { λ r. ⌜ r ≡ tallyOf n voters rows ⌝ }
+    ensures { λ r. ⌜ r ≡ tallyOf n voters (now (rows .entry)) ⌝ }
 {
     let mut a: u32 = 0;
     let mut b: u32 = 0;

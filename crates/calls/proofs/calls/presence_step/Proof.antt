@@ -1,126 +1,98 @@
--- An image that passes is read, its round made, and the state that it leaves written.
-use mathlib.Core.Path.{refl, ap, _∙_, sym}
-use Prim.Native.Nat.{ℕ}
-use Rattle.image.specs.Layout.{imageLength}
-use Rattle.image.proofs.ImageAnswers.{size-refused, size-fits}
-use Rattle.presence.proofs.SmallLaws.{valid-setup, valid-roomy}
-use Rattle.presence.proofs.StateRoundLaws.{step-of}
-use Rattle.calls.specs.declared.Answer.{Answer}
-use Rattle.calls.specs.Calls.{called}
-use Rattle.calls.proofs.ModuleCallLaws.{words-wrong, words-right, state-size, step-bad, room-is, room-not, read-valid, stepped-valid, stepped-setup, step-no-room, step-refused-call, step-wrote}
+-- An image that passes is read into lent arrays, its round made, and the next image written.
+use native.Mathlib.Omega.{arith}
+use mathlib.Core.Path.{refl, _∙_, sym}
+use borrow.Author.Tests.{not-false}
+use Rattle.words.proofs.ArrayLaws.{array-none}
+use Rattle.image.proofs.ImageAnswers.{size-refused, size-fits, size-return}
+use Rattle.calls.proofs.ModuleCallLaws.{words-wrong, words-right, state-size, step-bad}
+use Rattle.calls.proofs.ImageStepLaws.{part-held, both-lengths, step-nine, step-ten, step-made}
 use borrow.Author.Needs.{needs}
 use Rattle.calls.proofs.calls.presence_step.Statement.{statement}
 use Rattle.calls.proofs.calls.presence_step.Tie as tie
-
-image-size-requires : tie.Need-image-size-requires
-image-size-requires c κs = search needs
-
-refuse-image-requires : tie.Need-refuse-image-requires
-refuse-image-requires c κs = search needs
 
 returns : tie.Need-returns
 returns c =
     let a = c .before .before .before .before .before .before .args in
     step-bad _ _ _ (a .out .now) (c .refuse-image .ensures) (size-refused _ (sym (c .before .before .image-size .ensures) ∙ c .before .if1 .taken))
 
-load-requires : tie.Need-load-requires
-load-requires c κs = size-fits _ (c .before .image-size .ensures) (c .if1 .left)
-
-refuse-image-requires-2 : tie.Need-refuse-image-requires-2
-refuse-image-requires-2 c κs = search needs
+load-image-requires : tie.Need-load-image-requires
+load-image-requires c κs =
+    let e = c .before .before .before .before .before .before .image-size .ensures in
+    let f = size-fits _ e (c .before .before .before .before .before .if1 .left) in (
+      (f .0, f .1, f .2, size-return _ e (c .before .before .before .before .before .if1 .left)),
+      (array-none _, array-none _, array-none _, array-none _, array-none _),
+    )
 
 returns-2 : tie.Need-returns-2
 returns-2 c =
-    let a = c .before .before .before .before .before .before .before .before .before .args in
+    let a = c .before .before .before .before .before .before .before .before .before .before .before .before .before .before .args in
     step-bad _ _ _ (a .out .now) (c .refuse-image2 .ensures)
-    (words-wrong _ (c .before .before .before .before .before .image-size .ensures) (c .before .before .before .before .if1 .left) (c .before .before .before .load .ensures .0) (c .before .if2 .taken))
+    (words-wrong _ (c .before .before .before .before .before .before .before .before .before .before .image-size .ensures) (c .before .before .before .before .before .before .before .before .before .if1 .left) (c .before .before .before .load-image .ensures .0) (c .before .if2 .taken))
 
 image-length-requires : tie.Need-image-length-requires
-image-length-requires c κs =
-    size-fits _ (c .before .before .before .before .before .image-size .ensures) (c .before .before .before .before .if1 .left) .0
-
-refuse-requires : tie.Need-refuse-requires
-refuse-requires c κs = search needs
+image-length-requires c κs = size-fits _ (c .before .before .before .before .before .before .before .before .before .image-size .ensures) (c .before .before .before .before .before .before .before .before .if1 .left) .0
 
 returns-3 : tie.Need-returns-3
 returns-3 c =
-    let s = c .before .before .before .before .before .before .before .before .image-size .ensures in
-    let f = c .before .before .before .before .before .before .before .if1 .left in
-    let g = c .before .before .before .before .before .before .load .ensures in
-    let h = g .1 in
-    let o = words-right _ s f (g .0) (c .before .before .before .before .if2 .left) in
-    let l = c .before .before .image-length .ensures in
-    let a = c .before .before .before .before .before .before .before .before .before .before .before .before .args in
-    ap (λ (x : Answer). called x (a .out .now)) (c .refuse .ensures)
-    ∙ step-no-room _ (a .out .now) refl _ _ o (room-not _ (a .out .now) (state-size _ s f refl) (rw l at (c .before .if3 .taken)))
+    let a = c .before .before .before .before .before .before .before .before .before .before .before .before .before .before .before .before .args in
+    let s = c .before .before .before .before .before .before .before .before .before .before .before .before .image-size .ensures in
+    let f = c .before .before .before .before .before .before .before .before .before .before .before .if1 .left in
+    let o = words-right _ s f (c .before .before .before .before .before .load-image .ensures .0) (c .before .before .before .if2 .left) in
+    step-nine _ o _ _ (a .out .now) (state-size _ s f refl) (rw (c .before .before .image-length .ensures) at (c .before .if3 .taken)) (c .refuse .ensures)
 
-stepped-requires : tie.Need-stepped-requires
-stepped-requires c κs =
-    let s = c .before .before .before .before .before .before .before .image-size .ensures in
-    let f = c .before .before .before .before .before .before .if1 .left in
-    let g = c .before .before .before .before .before .load .ensures in
-    let h = g .1 in
-    let o = words-right _ s f (g .0) (c .before .before .before .if2 .left) in
-    read-valid _ h o
-
-refuse-requires-2 : tie.Need-refuse-requires-2
-refuse-requires-2 c κs = search needs
+power-requires : tie.Need-power-requires
+power-requires c κs = omega (arith, size-fits _ (c .before .before .before .before .before .before .before .before .before .before .before .image-size .ensures) (c .before .before .before .before .before .before .before .before .before .before .if1 .left) .0)
 
 returns-4 : tie.Need-returns-4
 returns-4 c =
-    let s = c .before .before .before .before .before .before .before .before .before .before .before .image-size .ensures in
-    let f = c .before .before .before .before .before .before .before .before .before .before .if1 .left in
-    let g = c .before .before .before .before .before .before .before .before .before .load .ensures in
-    let h = g .1 in
-    let o = words-right _ s f (g .0) (c .before .before .before .before .before .before .before .if2 .left) in
-    let a = c .before .before .before .before .before .before .before .before .before .before .before .before .before .before .before .args in
-    ap (λ (x : Answer). called x (a .out .now)) (c .refuse2 .ensures)
-    ∙ step-refused-call _ (a .out .now) refl _ _ o (room-is _ (a .out .now) (state-size _ s f refl) (c .before .before .before .before .if3 .left ∙ c .before .before .before .before .before .image-length .ensures))
-    (step-of _ _ _ h (read-valid _ h o) (c .before .before .before .stepped .ensures)) (c .before .if4 .taken)
+    let a = c .before .before .before .before .before .before .before .before .before .before .before .before .before .before .before .before .before .before .args in
+    let s = c .before .before .before .before .before .before .before .before .before .before .before .before .before .before .image-size .ensures in
+    let f = c .before .before .before .before .before .before .before .before .before .before .before .before .before .if1 .left in
+    let o = words-right _ s f (c .before .before .before .before .before .before .before .load-image .ensures .0) (c .before .before .before .before .before .if2 .left) in
+    let l = both-lengths _ _ _ _ (c .before .before .before .if3 .left) in
+    step-ten _ o _ _ (a .out .now) (state-size _ s f refl) (l .0 ∙ c .before .before .before .before .image-length .ensures) (l .1)
+    (rw (c .before .before .power .ensures) at (c .before .if4 .taken)) (c .refuse2 .ensures)
 
-save-words-requires : tie.Need-save-words-requires
-save-words-requires c κs =
-    let s = c .before .before .before .before .before .before .before .before .before .before .before .before .image-size .ensures in
-    let f = c .before .before .before .before .before .before .before .before .before .before .before .if1 .left in
-    let g = c .before .before .before .before .before .before .before .before .before .before .load .ensures in
-    let h = g .1 in
-    let o = words-right _ s f (g .0) (c .before .before .before .before .before .before .before .before .if2 .left) in
-    let t = c .before .before .before .before .stepped .ensures in
-    let n = c .before .before .if4 .left in
-    let v = read-valid _ h o in
-    let x = stepped-valid _ _ _ v t n in
-    (valid-setup _ x, valid-roomy _ x, c .before .before .before .before .before .if3 .left ∙ c .before .before .before .before .before .before .image-length .ensures ∙ ap imageLength (sym (stepped-setup _ _ _ v t n ∙ state-size _ s f h)))
-
-same-length : tie.Need-same-length
-same-length c = search needs
+played-requires : tie.Need-played-requires
+played-requires c κs =
+    let s = c .before .before .before .before .before .before .before .before .before .before .before .before .before .before .before .before .before .before .before .image-size .ensures in
+    let f = c .before .before .before .before .before .before .before .before .before .before .before .before .before .before .before .before .before .before .if1 .left in
+    let r = c .before .before .before .before .before .before .before .before .before .before .before .before .load-image .ensures in
+    let good = c .before .before .before .before .before .before .before .before .before .before .if2 .left in
+    let z = size-fits _ s f in
+    let l = both-lengths _ _ _ _ (c .before .before .before .before .before .before .before .before .if3 .left) in (
+      (words-right _ s f (r .0) good, sym (state-size _ s f refl), part-held _ (z .2) (z .0) (r .1 (not-false _ good))),
+      (l .1, rw (c .before .before .before .before .before .before .before .power .ensures) at (c .before .before .before .before .before .before .if4 .left), l .0 ∙ c .before .before .before .before .before .before .before .before .before .image-length .ensures),
+    )
 
 returns-5 : tie.Need-returns-5
 returns-5 c =
-    let s = c .before .before .before .before .before .before .before .before .before .before .before .before .before .before .before .image-size .ensures in
-    let f = c .before .before .before .before .before .before .before .before .before .before .before .before .before .before .if1 .left in
-    let g = c .before .before .before .before .before .before .before .before .before .before .before .before .before .load .ensures in
-    let h = g .1 in
-    let o = words-right _ s f (g .0) (c .before .before .before .before .before .before .before .before .before .before .before .if2 .left) in
-    let a = c .before .before .before .before .before .before .before .before .before .before .before .before .before .before .before .before .before .before .before .args in
-    step-wrote _ (a .out .now) refl _ _ o (room-is _ (a .out .now) (state-size _ s f refl) (c .before .before .before .before .before .before .before .before .if3 .left ∙ c .before .before .before .before .before .before .before .before .before .image-length .ensures))
-    (step-of _ _ _ h (read-valid _ h o) (c .before .before .before .before .before .before .before .stepped .ensures)) (c .before .before .before .before .before .if4 .left) (c .before .before .save-words .ensures)
+    let a = c .before .before .before .before .before .before .before .before .before .before .before .before .before .before .before .before .before .before .before .before .before .before .before .before .before .before .args in
+    let s = c .before .before .before .before .before .before .before .before .before .before .before .before .before .before .before .before .before .before .before .before .before .before .image-size .ensures in
+    let f = c .before .before .before .before .before .before .before .before .before .before .before .before .before .before .before .before .before .before .before .before .before .if1 .left in
+    let o = words-right _ s f (c .before .before .before .before .before .before .before .before .before .before .before .before .before .before .before .load-image .ensures .0) (c .before .before .before .before .before .before .before .before .before .before .before .before .before .if2 .left) in
+    let l = both-lengths _ _ _ _ (c .before .before .before .before .before .before .before .before .before .before .before .if3 .left) in
+    let p = c .before .before .played .ensures in
+    step-made _ o _ _ (a .out .now) (state-size _ s f refl) (l .0 ∙ c .before .before .before .before .before .before .before .before .before .before .before .before .image-length .ensures) (l .1)
+    (rw (c .before .before .before .before .before .before .before .before .before .before .power .ensures) at (c .before .before .before .before .before .before .before .before .before .if4 .left)) (p .0) (p .1)
 
 pub presence-step-spec : {M : Type 1} → statement M
 presence-step-spec =
     tie.close
     (tie.spec
-    image-size-requires
-    refuse-image-requires
+    (λ c κs. search needs)
+    (λ c κs. search needs)
     returns
-    load-requires
-    refuse-image-requires-2
+    load-image-requires
+    (λ c κs. search needs)
     returns-2
     image-length-requires
-    refuse-requires
+    (λ c. search needs)
+    (λ c κs. search needs)
     returns-3
-    stepped-requires
-    refuse-requires-2
+    power-requires
+    (λ c κs. search needs)
     returns-4
-    save-words-requires
-    same-length
+    played-requires
+    (λ c. search needs)
     returns-5)

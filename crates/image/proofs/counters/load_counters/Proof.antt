@@ -1,94 +1,160 @@
--- After j turns the counters are those of the first j words of each section, and `good` says whether these are right.
+-- After j turns the arrays hold how far the first j words of each section are above their first, and `good` says whether these words are right; so
+-- where all are, the arrays hold the counters.
 use native.Mathlib.Omega.{arith}
-use Prim.Native.Nat.{_-_, _≤_}
-use mathlib.Core.Path.{_≡_, refl, ap₂, _∙_, sym}
-use mathlib.Core.Bool.{_&&_}
-use Rattle.words.specs.Word.{wordAt}
+use Prim.Native.Nat.{ℕ, _-_, _≤_}
+use mathlib.Core.Path.{_≡_, refl, ap, _∙_, sym}
+use Rattle.words.specs.Word.{wordAt, gapOf}
+use Rattle.words.specs.Bits.{bit}
+use Rattle.words.specs.Array.{array}
 use Rattle.words.specs.Count.{all}
-use Rattle.words.proofs.CountLaws.{all-step}
-use Rattle.words.proofs.VerdictLaws.{and-end}
+use Rattle.words.proofs.ArrayLaws.{array-step, array-end}
+use Rattle.words.proofs.CountLaws.{all-step, all-end}
+use Rattle.image.specs.CounterSection.{counterIn}
 use Rattle.image.specs.Returns.{returnCounts}
-use Rattle.image.specs.Counters.{penalties, rewards, countersIn}
-use Rattle.image.proofs.CounterSectionLaws.{testsAt}
-use Rattle.image.proofs.ReadLaws.{array-read, Given, Held, held-none, held-word, held-step, held-test, held-end, right-end, given-basis}
+use Rattle.image.specs.Counters.{penalties, rewards}
+use Rattle.image.proofs.CounterSectionLaws.{first, later, testsAt, counters-right}
+use Rattle.image.proofs.ReadLaws.{array-read, word-by, basis-by}
+use Rattle.image.proofs.GapLaws.{gaps-test, gapsTo, gap-values}
 use borrow.Author.Needs.{needs}
 use Rattle.image.proofs.counters.load_counters.Statement.{statement}
 use Rattle.image.proofs.counters.load_counters.Tie as tie
 
 abbrev Inv-loop : tie.InvT-loop
-Inv-loop s n q p limit view criticality i k l good₀ penalty₀ reward₀ returns₀ j₀ good penalty reward returns j =
-    Given s n q p limit view criticality
-    × (j ≤ n)
+Inv-loop s n q p limit criticality view penalty₀ reward₀ returns₀ i k l good₀ j₀ penalty reward returns good j =
+    (j ≤ n)
     × (good ≡ all j (testsAt (wordAt s) n))
-    × Held s n j i penalty penalties
-    × Held s n j k reward rewards
-    × Held s n j l returns returnCounts
+    × (penalty ≡ gapsTo (wordAt s) n j penalties)
+    × (reward ≡ gapsTo (wordAt s) n j rewards)
+    × (returns ≡ gapsTo (wordAt s) n j returnCounts)
 
 abbrev μ-loop : tie.MeasureT-loop
-μ-loop s n q p limit view criticality i k l good₀ penalty₀ reward₀ returns₀ j₀ good penalty reward returns j = n - j
+μ-loop s n q p limit criticality view penalty₀ reward₀ returns₀ i k l good₀ j₀ penalty reward returns good j =
+    n - j
+
+penalties-at-requires : tie.Need-penalties-at-requires Inv-loop μ-loop
+penalties-at-requires c κs = search needs
+
+rewards-at-requires : tie.Need-rewards-at-requires Inv-loop μ-loop
+rewards-at-requires c κs = search needs
+
+returns-at-requires : tie.Need-returns-at-requires Inv-loop μ-loop
+returns-at-requires c κs = search needs
 
 loop-holds : tie.Need-loop-holds Inv-loop μ-loop
-unfolding all
+unfolding all array
 loop-holds c =
-    let b = c .before in
-    let a = b .before in
-    let r = a .before .before .pre in (
-      record {
-        most = r .0 .0;
-        size = r .0 .1;
-        p-there = r .1 .0;
-        r-there = r .1 .1;
-        q-there = r .1 .4;
-        view-there = r .1 .2;
-        criticality-there = r .1 .3;
-      },
-      omega arith,
-      refl,
-      held-none (a .penalties-at .ensures),
-      held-none (b .rewards-at .ensures),
-      held-none (c .returns-at .ensures),
-    )
+    let z = c .before .before .before .before .pre .1 .1 .1 in
+    (omega arith, refl, z .0, z .1, z .2)
+
+add-word-at : tie.Need-add-word-at Inv-loop μ-loop
+add-word-at c = omega arith
+
+word-at-requires : tie.Need-word-at-requires Inv-loop μ-loop
+word-at-requires c κs = omega (arith, c .before .before .before .before .penalties-at .ensures)
+
+gap-requires : tie.Need-gap-requires Inv-loop μ-loop
+gap-requires c κs = omega arith
+
+add-word-at-2 : tie.Need-add-word-at-2 Inv-loop μ-loop
+add-word-at-2 c = omega arith
+
+word-at-requires-2 : tie.Need-word-at-requires-2 Inv-loop μ-loop
+word-at-requires-2 c κs = omega (arith, c .before .before .before .before .before .rewards-at .ensures)
+
+gap-requires-2 : tie.Need-gap-requires-2 Inv-loop μ-loop
+gap-requires-2 c κs = omega arith
+
+add-word-at-3 : tie.Need-add-word-at-3 Inv-loop μ-loop
+add-word-at-3 c = omega arith
+
+word-at-requires-3 : tie.Need-word-at-requires-3 Inv-loop μ-loop
+word-at-requires-3 c κs = omega (arith, c .before .before .before .before .before .before .returns-at .ensures)
+
+gap-requires-3 : tie.Need-gap-requires-3 Inv-loop μ-loop
+gap-requires-3 c κs = omega arith
+
+bit-at-requires : tie.Need-bit-at-requires Inv-loop μ-loop
+bit-at-requires c κs = omega arith
+
+mul-penalty-fits : tie.Need-mul-penalty-fits Inv-loop μ-loop
+mul-penalty-fits c = omega arith
+
+element-copy-out-penalty-fits : tie.Need-element-copy-out-penalty-fits Inv-loop μ-loop
+element-copy-out-penalty-fits c = omega arith
 
 penalty-fits-requires : tie.Need-penalty-fits-requires Inv-loop μ-loop
 penalty-fits-requires c κs =
-    let l = c .before .before .before .before .before .before .loop in
-    let g = l .inv .0 in
-    let k = array-read _ _ (g .criticality-there) (l .j) (omega arith) (g .most) in
+    let l = c .before .before .before .before .before .before .before .before .before .loop in
+    let a = c .before .before .before .before .before .before .before .before .before .before .before .before .before .before in
+    let k = array-read _ _ (a .pre .1 .0 .3) (l .j) (omega arith) (a .pre .0 .0) in
+    let p = a .pre .1 .0 .0 in
     (omega arith, omega arith)
+
+reward-fits-requires : tie.Need-reward-fits-requires Inv-loop μ-loop
+reward-fits-requires c κs = search needs
+
+return-fits-requires : tie.Need-return-fits-requires Inv-loop μ-loop
+return-fits-requires c κs = search needs
+
+mul-penalty : tie.Need-mul-penalty Inv-loop μ-loop
+mul-penalty c = omega arith
+
+element-write-penalty : tie.Need-element-write-penalty Inv-loop μ-loop
+element-write-penalty c = omega arith
+
+mul-reward : tie.Need-mul-reward Inv-loop μ-loop
+mul-reward c = omega arith
+
+element-write-reward : tie.Need-element-write-reward Inv-loop μ-loop
+element-write-reward c = omega arith
+
+mul-returns : tie.Need-mul-returns Inv-loop μ-loop
+mul-returns c = omega arith
+
+element-write-returns : tie.Need-element-write-returns Inv-loop μ-loop
+element-write-returns c = omega arith
+
+add-j : tie.Need-add-j Inv-loop μ-loop
+add-j c = omega arith
+
+loop-less : tie.Need-loop-less Inv-loop μ-loop
+loop-less c = omega arith
 
 loop-again : tie.Need-loop-again Inv-loop μ-loop
 loop-again c =
-    let b = c .before .before in
-    let a = b .before .before in
-    let v = a .before .before in
-    let y = v .before in
-    let x = y .before in
-    let w = x .before in
-    let h = w .before .loop-test .taken in
-    let i = w .before .before .loop .inv in
-    let basis = given-basis (i .0) h (v .bit-at .ensures) (held-word (i .3) (w .word-at .ensures)) in (
-      i .0,
+    let l = c .before .before .before .before .before .before .before .before .before .before .before .before .loop in
+    let s = c .before .before .before .before .before .before .before .before .before .before .before .before .before .before .before .before .before in
+    let f = s .pre in
+    let r = f .1 .0 in
+    let h = c .before .before .before .before .before .before .before .before .before .before .before .loop-test .taken in
+    let w = wordAt (s .args .s .now) in
+    let n = s .args .n in
+    let k = array-read _ _ (r .3) (l .j) h (f .0 .0) in
+    let e = word-by _ (l .j) (c .before .before .before .before .before .before .before .before .before .before .before .before .before .before .before .penalties-at .ensures) (c .before .before .before .before .before .before .before .before .before .before .word-at .ensures) in
+    let g = word-by _ (l .j) (c .before .before .before .before .before .before .before .before .before .before .before .before .before .before .rewards-at .ensures) (c .before .before .before .before .before .before .before .before .word-at2 .ensures) in
+    let t = word-by _ (l .j) (c .before .before .before .before .before .before .before .before .before .before .before .before .before .returns-at .ensures) (c .before .before .before .before .before .before .word-at3 .ensures) in
+    let basis = basis-by w n (l .j) (r .0) (r .1) (r .4) k (c .before .before .before .before .bit-at .ensures ∙ ap (λ (v : ℕ). bit v (l .j)) (r .2)) (ap counterIn e) in (
       omega (arith, h),
-      all-step _ _ (i .2)
-          (ap₂ _&&_ (held-test (i .3) (w .word-at .ensures) basis (a .before .counter-of .ensures) (a .penalty-fits .ensures))
-          (ap₂ _&&_ (held-test (i .4) (x .word-at2 .ensures) basis (b .before .counter-of2 .ensures) (b .reward-fits .ensures))
-          (held-test (i .5) (y .word-at3 .ensures) basis (c .before .counter-of3 .ensures) (c .return-fits .ensures) ∙ sym (and-end _)))),
-      held-step (i .3) (w .word-at .ensures),
-      held-step (i .4) (x .word-at2 .ensures),
-      held-step (i .5) (y .word-at3 .ensures),
+      all-step _ _ (l .inv .1)
+          (gaps-test w n (l .j) (omega arith) basis (omega arith) (f .1 .1 .0 .0) (f .1 .1 .0 .1) (f .1 .1 .0 .2) e g t (omega arith) (omega arith) (omega arith)
+          (c .before .before .before .before .before .before .before .before .before .gap .ensures) (c .before .before .before .before .before .before .before .gap2 .ensures) (c .before .before .before .before .before .gap3 .ensures) (c .before .before .penalty-fits .ensures) (c .before .reward-fits .ensures) (c .return-fits .ensures)),
+      array-step _ _ (l .inv .2) (c .before .before .before .before .before .before .before .before .before .gap .ensures ∙ ap (gapOf 13 (l .j)) e),
+      array-step _ _ (l .inv .3) (c .before .before .before .before .before .before .before .gap2 .ensures ∙ ap (gapOf 14 (l .j)) g),
+      array-step _ _ (l .inv .4) (c .before .before .before .before .before .gap3 .ensures ∙ ap (gapOf 15 (l .j)) t),
     )
 
 returns : tie.Need-returns Inv-loop μ-loop
-unfolding countersIn
 returns c =
-    let i = c .before .loop .inv in (
-      right-end (i .0) (i .2) (omega arith),
-      λ k. record {
-        view = i .0 .view-there k;
-        penalty = held-end (i .3) (omega arith) k;
-        reward = held-end (i .4) (omega arith) k;
-        returns = held-end (i .5) (omega arith) k;
-      },
+    let i = c .before .loop .inv in
+    let a = c .before .before .before .before .before .before in
+    let e : c .before .loop .j ≡ a .args .n = omega arith in
+    let g = all-end _ e (i .1) in (
+      g ∙ counters-right (wordAt (a .args .s .now)) _,
+      λ t. (
+        gap-values _ _ penalties first (omega arith) (a .pre .0 .0) (sym g ∙ t) (array-end _ e (i .2)),
+        gap-values _ _ rewards (later first) (omega arith) (a .pre .0 .0) (sym g ∙ t) (array-end _ e (i .3)),
+        gap-values _ _ returnCounts (later (later first)) (omega arith) (a .pre .0 .0) (sym g ∙ t) (array-end _ e (i .4)),
+      ),
     )
 
 pub load-counters-spec : {M : Type 1} → statement M
@@ -97,32 +163,32 @@ load-counters-spec =
     (tie.spec
     Inv-loop
     μ-loop
-    (λ c κs. search needs)
-    (λ c κs. search needs)
-    (λ c κs. search needs)
+    penalties-at-requires
+    rewards-at-requires
+    returns-at-requires
     loop-holds
-    (λ c. omega arith)
-    (λ c κs. omega arith)
-    (λ c. omega arith)
-    (λ c κs. omega arith)
-    (λ c. omega arith)
-    (λ c κs. omega arith)
-    (λ c κs. omega arith)
-    (λ c κs. omega arith)
-    (λ c. omega arith)
-    (λ c. omega arith)
+    add-word-at
+    word-at-requires
+    gap-requires
+    add-word-at-2
+    word-at-requires-2
+    gap-requires-2
+    add-word-at-3
+    word-at-requires-3
+    gap-requires-3
+    bit-at-requires
+    mul-penalty-fits
+    element-copy-out-penalty-fits
     penalty-fits-requires
-    (λ c κs. omega arith)
-    (λ c κs. search needs)
-    (λ c κs. omega arith)
-    (λ c κs. search needs)
-    (λ c. omega arith)
-    (λ c. omega arith)
-    (λ c. omega arith)
-    (λ c. omega arith)
-    (λ c. omega arith)
-    (λ c. omega arith)
-    (λ c. omega arith)
-    (λ c. omega arith)
+    reward-fits-requires
+    return-fits-requires
+    mul-penalty
+    element-write-penalty
+    mul-reward
+    element-write-reward
+    mul-returns
+    element-write-returns
+    add-j
+    loop-less
     loop-again
     returns)

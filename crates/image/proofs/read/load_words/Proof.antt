@@ -1,5 +1,6 @@
 -- Each word at its place, its tests and its fields.
 use mathlib.Core.Path.{ap, ap₂, _∙_}
+use Prim.Native.Nat.{ℕ}
 use mathlib.Core.Bool.{_&&_}
 use Rattle.words.specs.Word.{wordAt}
 use Rattle.image.specs.Words.{ownIn, viewIn, syndromeIn, ownNumberOk, ownOk, syndromeOk}
@@ -25,11 +26,8 @@ earlier-at-requires c κs = search needs
 word-at-requires-3 : tie.Need-word-at-requires-3
 word-at-requires-3 c κs = search needs
 
-own-number-ok-requires : tie.Need-own-number-ok-requires
-own-number-ok-requires c κs = search needs
-
-own-ok-requires : tie.Need-own-ok-requires
-own-ok-requires c κs = search needs
+own-right-requires : tie.Need-own-right-requires
+own-right-requires c κs = search needs
 
 syndrome-ok-requires : tie.Need-syndrome-ok-requires
 syndrome-ok-requires c κs = search needs
@@ -40,15 +38,16 @@ syndrome-ok-requires-2 c κs = search needs
 field-requires : tie.Need-field-requires
 field-requires c κs = search needs
 
-cast-t7 : tie.Need-cast-t7
-cast-t7 c = search needs
+cast-t6 : tie.Need-cast-t6
+cast-t6 c = search needs
 
 returns : tie.Need-returns
 returns c =
-    let own = c .before .before .before .before .before .before .before .before .before .word-at .ensures ∙ ap (wordAt _) (c .before .before .before .before .before .before .before .before .before .before .own-at .ensures) in
-    let latest = c .before .before .before .before .before .before .before .word-at2 .ensures ∙ ap (wordAt _) (c .before .before .before .before .before .before .before .before .latest-at .ensures) in
-    let earlier = c .before .before .before .before .before .word-at3 .ensures ∙ ap (wordAt _) (c .before .before .before .before .before .before .earlier-at .ensures) in (
-      ap₂ _&&_ (ap₂ _&&_ (c .before .before .before .before .own-number-ok .ensures ∙ ap (ownNumberOk _) own) (c .before .before .before .own-ok .ensures ∙ ap (ownOk _) own))
+    let n = c .before .before .before .before .before .before .before .before .before .before .before .args .n in
+    let own = c .before .before .before .before .before .before .before .before .word-at .ensures ∙ ap (wordAt _) (c .before .before .before .before .before .before .before .before .before .own-at .ensures) in
+    let latest = c .before .before .before .before .before .before .word-at2 .ensures ∙ ap (wordAt _) (c .before .before .before .before .before .before .before .latest-at .ensures) in
+    let earlier = c .before .before .before .before .word-at3 .ensures ∙ ap (wordAt _) (c .before .before .before .before .before .earlier-at .ensures) in (
+      ap₂ _&&_ (c .before .before .before .own-right .ensures ∙ ap (λ (w : ℕ). ownNumberOk n w && ownOk n w) own)
           (ap₂ _&&_ (c .before .before .syndrome-ok .ensures ∙ ap (syndromeOk _) latest) (c .before .syndrome-ok2 .ensures ∙ ap (syndromeOk _) earlier)),
       c .field .ensures ∙ ap ownIn own,
       ap viewIn own,
@@ -66,10 +65,9 @@ load-words-spec =
     word-at-requires-2
     earlier-at-requires
     word-at-requires-3
-    own-number-ok-requires
-    own-ok-requires
+    own-right-requires
     syndrome-ok-requires
     syndrome-ok-requires-2
     field-requires
-    cast-t7
+    cast-t6
     returns)

@@ -17,21 +17,21 @@ use Rattle.image.proofs.rows.load_rows.Statement.{statement}
 use Rattle.image.proofs.rows.load_rows.Tie as tie
 
 abbrev Inv-loop : tie.InvT-loop
-Inv-loop s n i good₀ heard₀ rows₀ j₀ good heard rows j =
+Inv-loop s n rows₀ i good₀ heard₀ j₀ rows good heard j =
     (j ≤ n)
     × (good ≡ all j (rowTest (wordAt s) n))
     × (heard ≡ pack j (λ k. heardIn (wordAt s (rowsAt n + k))))
     × (rows ≡ array j (λ k. rowIn (wordAt s (rowsAt n + k))))
 
 abbrev μ-loop : tie.MeasureT-loop
-μ-loop s n i good₀ heard₀ rows₀ j₀ good heard rows j = n - j
+μ-loop s n rows₀ i good₀ heard₀ j₀ rows good heard j = n - j
 
 rows-at-requires : tie.Need-rows-at-requires Inv-loop μ-loop
 rows-at-requires c κs = search needs
 
 loop-holds : tie.Need-loop-holds Inv-loop μ-loop
 unfolding all pack array
-loop-holds c = (omega arith, refl, refl, refl)
+loop-holds c = (omega arith, refl, refl, c .before .before .pre .2)
 
 add-word-at : tie.Need-add-word-at Inv-loop μ-loop
 add-word-at c = omega arith
@@ -53,8 +53,8 @@ with-bit-requires c κs = (packed-lt _ _ (c .before .before .before .before .loo
 mul-rows : tie.Need-mul-rows Inv-loop μ-loop
 mul-rows c = omega arith
 
-array-write-rows : tie.Need-array-write-rows Inv-loop μ-loop
-array-write-rows c = omega arith
+element-write-rows : tie.Need-element-write-rows Inv-loop μ-loop
+element-write-rows c = omega arith
 
 add-j : tie.Need-add-j Inv-loop μ-loop
 add-j c = omega arith
@@ -77,7 +77,7 @@ unfolding readingIn
 returns c =
     let i = c .before .loop .inv in
     let e : c .before .loop .j ≡ c .before .before .before .before .args .n = omega arith in
-    (all-end _ e (i .1), λ k. record { heard = pack-end _ e (i .2) k; rows = array-end _ e (i .3) k })
+    (all-end _ e (i .1), pack-end _ e (i .2), array-end _ e (i .3))
 
 pub load-rows-spec : {M : Type 1} → statement M
 load-rows-spec =
@@ -93,7 +93,7 @@ load-rows-spec =
     bit-at-requires
     with-bit-requires
     mul-rows
-    array-write-rows
+    element-write-rows
     add-j
     loop-less
     loop-again

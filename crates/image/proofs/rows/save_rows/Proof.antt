@@ -12,11 +12,11 @@ use Rattle.image.proofs.rows.save_rows.Statement.{statement}
 use Rattle.image.proofs.rows.save_rows.Tie as tie
 
 abbrev Inv-loop : tie.InvT-loop
-Inv-loop n heard out₀ at rows j₀ out j =
+Inv-loop n heard rows out₀ at j₀ out j =
     (j ≤ n) × (length out ≡ length out₀) × (out ≡ putRun out₀ at j (λ k. rowWord k (bit heard k) (getD rows k 0)))
 
 abbrev μ-loop : tie.MeasureT-loop
-μ-loop n heard out₀ at rows j₀ out j = n - j
+μ-loop n heard rows out₀ at j₀ out j = n - j
 
 loop-holds : tie.Need-loop-holds Inv-loop μ-loop
 unfolding putRun
@@ -28,11 +28,11 @@ bit-at-requires c κs = omega arith
 mul-row-word : tie.Need-mul-row-word Inv-loop μ-loop
 mul-row-word c = omega arith
 
-array-read-row-word : tie.Need-array-read-row-word Inv-loop μ-loop
-array-read-row-word c = omega arith
+element-copy-out-row-word : tie.Need-element-copy-out-row-word Inv-loop μ-loop
+element-copy-out-row-word c = omega arith
 
 row-word-requires : tie.Need-row-word-requires Inv-loop μ-loop
-row-word-requires c κs = (omega arith, c .before .before .before .before .pre .1 _ (c .before .loop-test .taken))
+row-word-requires c κs = (omega arith, c .before .before .before .before .before .pre .1 _ (c .before .before .loop-test .taken))
 
 add-put-word : tie.Need-add-put-word Inv-loop μ-loop
 add-put-word c = omega arith
@@ -48,10 +48,10 @@ loop-less c = omega arith
 
 loop-again : tie.Need-loop-again Inv-loop μ-loop
 loop-again c =
-    let l = c .before .before .before .before .before .before .before .loop in
+    let l = c .before .before .before .before .before .before .before .before .loop in
     let put = c .before .before .put-word in
-    let e = rw (c .before .before .before .before .before .bit-at .ensures) at (c .before .before .before .before .row-word .ensures) in
-    let o = c .before .before .before .before .before .before .before .before .before .args .out .now in
+    let e = rw (c .before .before .before .before .before .before .bit-at .ensures) at (c .before .before .before .before .row-word .ensures) in
+    let o = c .before .before .before .before .before .before .before .before .before .before .args .out .now in
     (omega arith, put .kept .0 ∙ l .inv .1, put-step o _ (l .j) _ (l .inv .2) (put .ensures) e)
 
 same-length : tie.Need-same-length Inv-loop μ-loop
@@ -71,7 +71,7 @@ save-rows-spec =
     loop-holds
     bit-at-requires
     mul-row-word
-    array-read-row-word
+    element-copy-out-row-word
     row-word-requires
     add-put-word
     put-word-requires

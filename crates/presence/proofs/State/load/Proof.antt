@@ -1,7 +1,7 @@
 -- An accepted image gives its state, and another the answer of the check.
 use mathlib.Core.Path.{_∙_, sym}
 use borrow.Author.Tests.{not-true, not-false}
-use Rattle.image.proofs.ImageAnswers.{size-refused, size-fits, by-words}
+use Rattle.image.proofs.ImageAnswers.{size-refused, size-fits, size-return, by-words}
 use Rattle.presence.proofs.StateAnswers.{load-refused, load-accepted}
 use borrow.Author.Needs.{needs}
 use Rattle.presence.proofs.State.load.Statement.{statement}
@@ -18,7 +18,9 @@ returns c =
     load-refused _ (c .refused .ensures) (size-refused _ (sym (c .before .before .image-size .ensures) ∙ c .before .if1 .taken))
 
 load-requires : tie.Need-load-requires
-load-requires c κs = size-fits _ (c .before .image-size .ensures) (c .if1 .left)
+load-requires c κs =
+    let f = size-fits _ (c .before .image-size .ensures) (c .if1 .left) in
+    (f .0, f .1, f .2, size-return _ (c .before .image-size .ensures) (c .if1 .left))
 
 refused-requires-2 : tie.Need-refused-requires-2
 refused-requires-2 c κs = search needs
@@ -31,7 +33,7 @@ returns-2 c =
 returns-3 : tie.Need-returns-3
 returns-3 c =
     let e = by-words _ (c .before .before .before .before .before .image-size .ensures) (c .before .before .before .before .if1 .left) (c .before .before .before .load .ensures .0) in
-    load-accepted _ (c .before .before .before .load .ensures .1) (sym e ∙ not-false _ (c .before .if2 .left))
+    load-accepted _ (c .before .before .before .load .ensures .1 (not-false _ (c .before .if2 .left))) (sym e ∙ not-false _ (c .before .if2 .left))
 
 pub load-spec : {M : Type 1} → statement M
 load-spec =

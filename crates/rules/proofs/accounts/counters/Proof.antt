@@ -61,7 +61,7 @@ accounted-requires c κs =
     let g = c .before .before .before .before .before .before .before in
     let a = g .before in
     let l : g .loop .j < a .args .t1 .n = omega arith in
-    range-by (a .args .t3) (g .loop .j) (c .before .before .before .before .before .bit-at .result) (a .pre .1 (g .loop .j) l)
+    range-by (a .args .t3) (g .loop .j) (c .before .before .before .before .before .bit-at .result) (c .before .before .before .before .before .bit-at .ensures) (a .pre .1 (g .loop .j) l)
 
 with-bit-requires : tie.Need-with-bit-requires Inv-loop μ-loop
 with-bit-requires c κs = (packed-lt _ _ (c .before .before .before .before .before .before .before .before .loop .inv .2), omega arith)

@@ -13,11 +13,11 @@ use Rattle.rules.proofs.judge.syndrome.Statement.{statement}
 use Rattle.rules.proofs.judge.syndrome.Tie as tie
 
 abbrev Inv-loop : tie.InvT-loop
-Inv-loop n voters health heard rows acc₀ j₀ acc j =
+Inv-loop n voters heard rows health acc₀ j₀ acc j =
     (j ≤ n) × (acc ≡ pack j (λ k. bit heard k && not (bit voters k && any n (differsAt (getD rows k 0) health k))))
 
 abbrev μ-loop : tie.MeasureT-loop
-μ-loop n voters health heard rows acc₀ j₀ acc j = n - j
+μ-loop n voters heard rows health acc₀ j₀ acc j = n - j
 
 loop-holds : tie.Need-loop-holds Inv-loop μ-loop
 unfolding pack
@@ -29,14 +29,14 @@ bit-at-requires c κs = omega arith
 mul-clean : tie.Need-mul-clean Inv-loop μ-loop
 mul-clean c = omega arith
 
-array-read-clean : tie.Need-array-read-clean Inv-loop μ-loop
-array-read-clean c = omega arith
+element-copy-out-clean : tie.Need-element-copy-out-clean Inv-loop μ-loop
+element-copy-out-clean c = omega arith
 
 clean-requires : tie.Need-clean-requires Inv-loop μ-loop
 clean-requires c κs = omega arith
 
 with-bit-requires : tie.Need-with-bit-requires Inv-loop μ-loop
-with-bit-requires c κs = (packed-lt _ _ (c .before .before .before .loop .inv .1), omega arith)
+with-bit-requires c κs = (packed-lt _ _ (c .before .before .before .before .loop .inv .1), omega arith)
 
 add-j : tie.Need-add-j Inv-loop μ-loop
 add-j c = omega arith
@@ -46,14 +46,14 @@ loop-less c = omega arith
 
 loop-again : tie.Need-loop-again Inv-loop μ-loop
 loop-again c =
-    let g = c .before .before .before .before in
-    (omega arith, pack-step _ _ (g .loop .inv .1) (ap₂ (λ (a b : Bool). a && b) (c .before .before .bit-at .ensures) (c .before .clean .ensures)) (c .with-bit .ensures))
+    let g = c .before .before .before .before .before in
+    (omega arith, pack-step _ _ (g .loop .inv .1) (ap₂ (λ (a b : Bool). a && b) (c .before .before .before .bit-at .ensures) (c .before .clean .ensures)) (c .with-bit .ensures))
 
 returns : tie.Need-returns Inv-loop μ-loop
 returns c =
-    let a = c .before .before .before .args in
+    let a = c .before .before .args in
     let e : c .before .loop .j ≡ a .n = omega arith in
-    (rw e at (c .before .loop .inv .1)) ∙ syndrome-by (a .n) (a .voters) (a .aligned) (a .health) (omega arith)
+    (rw e at (c .before .loop .inv .1)) ∙ syndrome-by (a .n) (a .voters) (a .heard) (a .rows .now) (a .health) (omega arith)
 
 pub syndrome-spec : {M : Type 1} → statement M
 syndrome-spec =
@@ -64,7 +64,7 @@ syndrome-spec =
     loop-holds
     bit-at-requires
     mul-clean
-    array-read-clean
+    element-copy-out-clean
     clean-requires
     with-bit-requires
     add-j

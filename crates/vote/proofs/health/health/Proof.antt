@@ -11,7 +11,7 @@ slice-aggregate-health-by c = search needs
 
 health-by-requires : tie.Need-health-by-requires
 unfolding voteTable table updated tableEntry
-health-by-requires c κs = (refl, c .before .pre)
+health-by-requires c κs = (refl, c .before .pre .0, c .before .pre .1)
 
 returns : tie.Need-returns
 returns c = search needs

@@ -11,19 +11,13 @@ use Rattle.vote.proofs.health.health_by.Statement.{statement}
 use Rattle.vote.proofs.health.health_by.Tie as tie
 
 abbrev Inv-loop : tie.InvT-loop
-Inv-loop table n voters own present lanes known acc₀ q₀ q-end acc q = (q * 4 < n + 4) × (acc ≡ pack (q * 4) (decidedBy present lanes known own))
+Inv-loop table n voters rows own present lanes acc₀ q₀ q-end acc q = (q * 4 < n + 4) × (acc ≡ pack (q * 4) (decidedBy present lanes voters own))
 
 abbrev μ-loop : tie.MeasureT-loop
-μ-loop table n voters own present lanes known acc₀ q₀ q-end acc q = (n + 3) / 4 - q
+μ-loop table n voters rows own present lanes acc₀ q₀ q-end acc q = (n + 3) / 4 - q
 
 counted-requires : tie.Need-counted-requires Inv-loop μ-loop
 counted-requires c κs = omega arith
-
-power-requires : tie.Need-power-requires Inv-loop μ-loop
-power-requires c κs = omega arith
-
-rem-known : tie.Need-rem-known Inv-loop μ-loop
-rem-known c = omega (arith, c .power .ensures, pow-pos (c .before .before .before .before .args .n))
 
 add-q-end : tie.Need-add-q-end Inv-loop μ-loop
 add-q-end c = omega arith
@@ -37,13 +31,13 @@ mul-four-from c = omega arith
 
 four-from-requires : tie.Need-four-from-requires Inv-loop μ-loop
 four-from-requires c κs =
-    let s = c .before .before .before .before .before .before in
-    let w = c .before .before .before .before .counted in
+    let s = c .before .before .before .before .before in
+    let w = c .before .before .before .counted in
     let q = c .before .loop .q in (
       s .pre .0,
       omega arith,
       omega arith,
-      λ j h. rw (c .before .before .power .ensures) (countable _ _ _ (s .pre .1) (w .result) (w .ensures) (q * 4 + j) (omega arith)),
+      λ j h. countable _ _ _ (s .pre .1) (s .pre .2) (w .result) (w .ensures) (q * 4 + j) (omega arith),
     )
 
 mul-with-four : tie.Need-mul-with-four Inv-loop μ-loop
@@ -63,9 +57,9 @@ loop-again : tie.Need-loop-again Inv-loop μ-loop
 loop-again c =
     let l = c .before .before .before .loop in
     let q = l .q in
-    let s = c .before .before .before .before .before .before .before .before .args in
-    let t = c .before .before .before .before .before .before .counted .result in
-    let f = decidedBy (t .present) (t .ones) (s .voters % c .before .before .before .before .power .result) (s .own) in
+    let s = c .before .before .before .before .before .before .before .args in
+    let t = c .before .before .before .before .before .counted .result in
+    let f = decidedBy (t .present) (t .ones) (s .voters) (s .own) in
     let e : q * 4 + 4 ≡ (q + 1) * 4 = omega arith in (
       omega arith,
       c .with-four .ensures
@@ -74,20 +68,19 @@ loop-again c =
           ∙ ap (λ (m : ℕ). pack m f) e,
     )
 
-power-requires-2 : tie.Need-power-requires-2 Inv-loop μ-loop
-power-requires-2 c κs = omega arith
+power-requires : tie.Need-power-requires Inv-loop μ-loop
+power-requires c κs = omega arith
 
 rem-result : tie.Need-rem-result Inv-loop μ-loop
-rem-result c = omega (arith, c .power2 .ensures, pow-pos (c .before .before .before .before .before .before .before .args .n))
+rem-result c = omega (arith, c .power .ensures, pow-pos (c .before .before .before .before .before .before .args .n))
 
 returns : tie.Need-returns Inv-loop μ-loop
 returns c =
-    let s = c .before .before .before .before .before .before .before in
-    let w = c .before .before .before .before .before .counted in
+    let s = c .before .before .before .before .before .before in
+    let w = c .before .before .before .before .counted in
     let l = c .before .before .loop in
-    let f : ℕ → ℕ = λ p. pack (l .q * 4) (decidedBy (w .result .present) (w .result .ones) (s .args .voters % p) (s .args .own)) in
-    ap₂ (λ (x y : ℕ). x % y) (l .inv .1 ∙ ap f (c .before .before .before .power .ensures)) (c .power2 .ensures)
-    ∙ health-cut _ _ _ (s .pre .1) (w .result) (w .ensures) (s .args .own) (l .q * 4) (omega arith)
+    ap₂ (λ (x y : ℕ). x % y) (l .inv .1) (c .power .ensures)
+    ∙ health-cut _ _ _ (s .pre .1) (s .pre .2) (w .result) (w .ensures) (s .args .own) (l .q * 4) (omega arith)
 
 pub health-by-spec : {M : Type 1} → statement M
 health-by-spec =
@@ -96,8 +89,6 @@ health-by-spec =
     Inv-loop
     μ-loop
     counted-requires
-    power-requires
-    rem-known
     add-q-end
     loop-holds
     mul-four-from
@@ -107,6 +98,6 @@ health-by-spec =
     add-q
     loop-less
     loop-again
-    power-requires-2
+    power-requires
     rem-result
     returns)

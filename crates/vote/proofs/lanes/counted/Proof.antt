@@ -27,8 +27,8 @@ loop-holds c = (omega arith, omega arith, omega arith, omega arith, omega arith,
 mul-ballot : tie.Need-mul-ballot Inv-loop μ-loop
 mul-ballot c = omega arith
 
-array-read-ballot : tie.Need-array-read-ballot Inv-loop μ-loop
-array-read-ballot c = omega arith
+element-copy-out-ballot : tie.Need-element-copy-out-ballot Inv-loop μ-loop
+element-copy-out-ballot c = omega arith
 
 ballot-requires : tie.Need-ballot-requires Inv-loop μ-loop
 ballot-requires c κs = omega arith
@@ -74,11 +74,11 @@ loop-less c = omega arith
 
 loop-again : tie.Need-loop-again Inv-loop μ-loop
 loop-again c =
-    let g = c .before .before .before .before .before .before .before .before in
+    let g = c .before .before .before .before .before .before .before .before .before in
     let i = g .loop .inv in
     let l = g .loop .l in
     let voters = g .before .args .voters in
-    let rows = g .before .args .t3 in
+    let rows = g .before .args .rows .now in
     let b = c .before .before .before .before .before .before .ballot .ensures in (
       omega arith,
       omega arith,
@@ -106,7 +106,7 @@ counted-spec =
     μ-loop
     loop-holds
     mul-ballot
-    array-read-ballot
+    element-copy-out-ballot
     ballot-requires
     lane-requires
     add-a

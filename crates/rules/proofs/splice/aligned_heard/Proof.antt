@@ -3,8 +3,8 @@ use native.Mathlib.Omega.{arith}
 use lib.Pow.{pow-pos}
 use borrow.Author.Needs.{needs}
 use Rattle.rules.proofs.SpliceLaws.{splice-bits, splice-fits}
-use Rattle.rules.proofs.align.aligned_heard.Statement.{statement}
-use Rattle.rules.proofs.align.aligned_heard.Tie as tie
+use Rattle.rules.proofs.splice.aligned_heard.Statement.{statement}
+use Rattle.rules.proofs.splice.aligned_heard.Tie as tie
 
 power-requires : tie.Need-power-requires
 power-requires c κs = search needs
