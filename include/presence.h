@@ -29,22 +29,22 @@
  * A module's state is its image, a block of bytes that the caller keeps.
  * Nothing is kept between calls: the result of a call and the bytes it writes
  * follow from its arguments alone.  The functions use no heap, no static
- * variables and no C library calls.  presence_step takes 2,304 bytes of stack
- * (measured, for every N), presence_page_step 2,736; no other call takes more
- * than 1,728.
+ * variables and no C library calls.  presence_step takes 976 bytes of stack
+ * (measured, for every N), presence_page_step 1,168; no other call takes more
+ * than 1,056.
  *
  * Instructions of an accepted presence_step and presence_page_step (page),
  * the most that were counted in quiet and loud rounds and in rounds in which
  * modules outside the view count or return, with every l at N and with others.
  * They do not grow steadily with N: 3 modules take more than 4, 5 to 7 more
- * than 8, 10 and 11 more than 12, 11 and 13 to 15 more than 16.
+ * than 8, 11 more than 12, 13 to 15 more than 16.
  *
  *    N   step   page        N   step   page        N   step   page
- *    2  1,551  1,745        7  2,828  3,092       12  2,845  3,086
- *    3  1,891  2,114        8  2,018  2,222       13  3,309  3,576
- *    4  1,684  1,864        9  2,511  2,738       14  3,649  3,945
- *    5  2,148  2,354       10  2,851  3,107       15  3,989  4,314
- *    6  2,488  2,723       11  3,191  3,476       16  3,091  3,355
+ *    2  1,048  1,216        7  1,945  2,172       12  2,060  2,284
+ *    3  1,255  1,444        8  1,441  1,630       13  2,420  2,665
+ *    4  1,155  1,319        9  1,834  2,044       14  2,639  2,905
+ *    5  1,517  1,702       10  2,043  2,274       15  2,846  3,133
+ *    6  1,738  1,944       11  2,250  2,502       16  2,303  2,551
  *
  *
  * CALLS AT THE SAME TIME
