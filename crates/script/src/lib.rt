@@ -8,7 +8,7 @@ mod play;
 pub use layout::MOST_ROUNDS;
 
 // How far a run script has been checked: whether the next word is a told word, whether an event waits for a play, and the rounds so far.
-struct Scan {
+pub struct Scan {
     pub told: bool,
     pub pending: bool,
     pub rounds: u32,

@@ -1,0 +1,258 @@
+-- The check of a renumbered script goes as that of the script: no word is refused, and the plays have as many rounds.
+use Prim.Native.Nat.{ℕ, zero, suc, _+_, _-_, _/_, _≤_, _<_}
+use mathlib.Core.Path.{_≡_, refl, sym, ap, ap₂, _∙_, subst}
+use mathlib.Core.Bool.{true, false}
+use mathlib.Core.Logic.{_⊎_, inl, inr, ⊎-elim}
+use mathlib.Core.List.{List, [], _∷_}
+use native.Mathlib.Omega.{arith}
+use lib.Dec.{eqb, leb, ltb}
+use lib.ListN.{length}
+use borrow.Author.Tests.{lt-ltb, le-leb}
+use Rattle.words.specs.Word.{wordAt}
+use Rattle.words.specs.Verdict.{verdict, accepted, single, andThen, outcome}
+use Rattle.words.specs.declared.Verdict.{Verdict}
+use Rattle.words.proofs.Truth.{which, cond-true, cond-false}
+use Rattle.words.proofs.VerdictLaws.{Passed, and-then-next, single-ok, tests-ok}
+use Rattle.setup.specs.Layout.{setupLength}
+use Rattle.setup.specs.Setup.{sizeIn, placeIn}
+use Rattle.setup.specs.Check.{checkWords, checkFront}
+use Rattle.setup.proofs.SetupCheckLaws.{WordsFit, head-ok, words-ok}
+use Rattle.script.specs.Words.{castAt, eventsAt, mostBytes, kindOf, castIn, castOk, eventOk}
+use Rattle.script.specs.Check.{eventRefusal, wordRefusal, scanned, scan, unscanned, checkCast, checkPlay, checkScript}
+use Rattle.script.specs.Told.{castOf}
+use Rattle.script.specs.Rounds.{lastScan, roundsOf}
+use Rattle.script.specs.Effect.{toldAt}
+use Rattle.script.specs.declared.Scan.{Scan}
+use Rattle.script.proofs.ScanLaws.{scan-step}
+use Rattle.script.proofs.AheadLaws.{Ahead, ahead-next, ahead-ends, scanned-told, scanned-event, refusal-play, refusal-event}
+use Rattle.script.proofs.EffectLaws.{Linked, linked-next, play-kind, told-first, rounds-first}
+use Rattle.renumbering.specs.Renumbering.{Renumbering, vectorFor, wordFor}
+use Rattle.renumbering.specs.Scripts.{eventWordFor, playWordFor, scriptFor}
+use Rattle.renumbering.proofs.ScriptWordLaws.{cast-vector, cast-ok, event-kind, taken-ok, event-taken}
+use Rattle.renumbering.proofs.ScriptForLaws.{fits, few, cast-within, length′, count′, word-cast, word-after, size′, head′, words′}
+
+module _ (s : List ℕ) (ok : checkScript s .number ≡ 0) (π : Renumbering (sizeIn (wordAt s 0))) where
+  abbrev n : ℕ
+  n = sizeIn (wordAt s 0)
+
+  abbrev count : ℕ
+  count = length s / 4
+
+  abbrev s′ : List ℕ
+  s′ = scriptFor n π s
+
+  abbrev cast′ : ℕ
+  cast′ = vectorFor n π (castOf s)
+
+  -- all that comes after the cast
+  abbrev Rest : ℕ → Scan → Type 0
+  Rest at sc = Ahead s n (castOf s) count (roundsOf s) at sc
+
+  first : Rest (eventsAt n) unscanned
+  unfolding roundsOf
+  first = record { within = cast-within s ok π; taken = fits s ok π .words; last = refl }
+
+  first-linked : Linked s (eventsAt n) unscanned
+  first-linked = record { after = omega arith; told = sym (told-first s); rounds = sym (rounds-first s (eventsAt n) (omega arith)) }
+
+  -- ---- one word
+
+  -- a told word
+  pub record ToldWord (at : ℕ) : Type 0 where
+    pub told : toldAt s at ≡ true
+    pub is : wordAt s′ at ≡ wordFor n π (wordAt s at)
+
+  -- a play
+  pub record PlayWord (at : ℕ) : Type 0 where
+    pub plain : toldAt s at ≡ false
+    pub kind : eqb (kindOf (wordAt s at)) 9 ≡ true
+    pub is : wordAt s′ at ≡ wordAt s at
+
+  -- a loss or a lie
+  pub record EventWord (at : ℕ) : Type 0 where
+    pub plain : toldAt s at ≡ false
+    pub kind : eqb (kindOf (wordAt s at)) 9 ≡ false
+    pub taken : eventRefusal n (castOf s) (wordAt s at) ≡ 0
+    pub fits : eventOk n (wordAt s at) ≡ true
+    pub is : wordAt s′ at ≡ eventWordFor n π (wordAt s at)
+    pub same-kind : kindOf (wordAt s′ at) ≡ kindOf (wordAt s at)
+
+  abbrev pub Sort : ℕ → Type 0
+  Sort at = ToldWord at ⊎ (PlayWord at ⊎ EventWord at)
+
+  module _ (at : ℕ) (sc : Scan) (h : at < count) (l : Linked s at sc) (a : Rest at sc) where
+    abbrev w : ℕ
+    w = wordAt s at
+
+    abbrev w′ : ℕ
+    w′ = wordAt s′ at
+
+    taken-here : wordRefusal n (castOf s) sc w ≡ 0
+    taken-here = ahead-next s n (castOf s) count (roundsOf s) at sc h a .0
+
+    event-here : sc .told ≡ false → eqb (kindOf w) 9 ≡ false → EventWord at
+    unfolding playWordFor
+    event-here f p =
+        let z = sym (refusal-event sc w n (castOf s) f p) ∙ taken-here in
+        let o = taken-ok n π (few s ok π) (castOf s) w z in
+        let q : w′ ≡ eventWordFor n π w
+        = word-after s ok π at (l .after) h ∙ cond-false _ _ (sym (l .told) ∙ f) ∙ cond-false _ _ (play-kind s at sc l f ∙ p) in
+        record { plain = sym (l .told) ∙ f; kind = p; taken = z; fits = o; is = q; same-kind = ap kindOf q ∙ event-kind n π (few s ok π) w o }
+
+    sort : Sort at
+    unfolding playWordFor
+    sort =
+        ⊎-elim
+        (λ (t : sc .told ≡ true).
+        inl (record { told = sym (l .told) ∙ t; is = word-after s ok π at (l .after) h ∙ cond-true _ _ (sym (l .told) ∙ t) }))
+        (λ (f : sc .told ≡ false).
+        inr (⊎-elim
+        (λ (p : eqb (kindOf w) 9 ≡ true).
+        inl (record {
+          plain = sym (l .told) ∙ f;
+          kind = p;
+          is = word-after s ok π at (l .after) h ∙ cond-false _ _ (sym (l .told) ∙ f) ∙ cond-true _ _ (play-kind s at sc l f ∙ p);
+        }))
+        (λ (p : eqb (kindOf w) 9 ≡ false). inr (event-here f p))
+        (which (eqb (kindOf w) 9))))
+        (which (sc .told))
+
+    -- the scan goes on as before
+    scanned-same : Sort at → scanned sc w′ ≡ scanned sc w
+    scanned-same (inl q) =
+        let t = l .told ∙ q .told in
+        scanned-told sc w′ t ∙ sym (scanned-told sc w t)
+    scanned-same (inr (inl q)) = ap (scanned sc) (q .is)
+    scanned-same (inr (inr q)) =
+        let f = l .told ∙ q .plain in
+        let e = q .same-kind in
+        scanned-event sc w′ f (ap (λ (x : ℕ). eqb x 9) e ∙ q .kind)
+        ∙ ap (λ (x : ℕ). record { told = eqb x 8; pending = true; rounds = sc .rounds }) e ∙ sym (scanned-event sc w f (q .kind))
+
+    -- and refuses nothing
+    taken-same : Sort at → wordRefusal n cast′ sc w′ ≡ 0
+    unfolding wordRefusal
+    taken-same (inl q) = cond-true _ _ (l .told ∙ q .told)
+    taken-same (inr (inl q)) =
+        let f = l .told ∙ q .plain in
+        ap (wordRefusal n cast′ sc) (q .is) ∙ refusal-play sc w n cast′ f (q .kind) ∙ sym (refusal-play sc w n (castOf s) f (q .kind)) ∙ taken-here
+    taken-same (inr (inr q)) =
+        let f = l .told ∙ q .plain in
+        refusal-event sc w′ n cast′ f (ap (λ (x : ℕ). eqb x 9) (q .same-kind) ∙ q .kind)
+        ∙ ap (eventRefusal n cast′) (q .is) ∙ event-taken n π (few s ok π) (castOf s) w (q .taken)
+
+  -- ---- all words
+
+  -- what the check of the script knew before word `at`
+  record Known (at : ℕ) : Type 0 where
+    scan : Scan
+    linked : Linked s at scan
+    rest : Rest at scan
+
+  known : (m : ℕ) → eventsAt n + m ≤ count → Known (eventsAt n + m)
+  known zero h =
+      let e : eventsAt n + 0 ≡ eventsAt n = omega arith in
+      rw e (record { scan = unscanned; linked = first-linked; rest = first })
+  known (suc m) h =
+      let at = eventsAt n + m in
+      let e : eventsAt n + suc m ≡ at + 1 = omega arith in
+      let k = known m (omega arith) in
+      rw e
+      (record {
+        scan = scanned (k .scan) (wordAt s at);
+        linked = linked-next s at (k .scan) (k .linked);
+        rest = ahead-next s n (castOf s) count (roundsOf s) at (k .scan) (omega arith) (k .rest) .1;
+      })
+
+  known-at : (at : ℕ) → eventsAt n ≤ at → at ≤ count → Known at
+  known-at at l h =
+      let e : eventsAt n + (at - eventsAt n) ≡ at = omega arith in
+      subst Known e (known (at - eventsAt n) (omega arith))
+
+  sort-known : (at : ℕ) → at < count → Known at → Sort at
+  sort-known at h k = sort at (k .scan) h (k .linked) (k .rest)
+
+  pub sort-at : (at : ℕ) → eventsAt n ≤ at → at < count → Sort at
+  sort-at at l h = sort-known at h (known-at at l (omega arith))
+
+  -- no told word is missing at the end
+  end-known : Known count → toldAt s count ≡ false
+  end-known k = sym (k .linked .told) ∙ ahead-ends s n (castOf s) count (roundsOf s) (k .scan) (k .rest) .0
+
+  pub told-end : toldAt s count ≡ false
+  told-end = end-known (known-at count (cast-within s ok π) (omega arith))
+
+  scan-for : (words at : ℕ) (sc : Scan) → at + words ≡ count → Linked s at sc → Rest at sc
+      → (scan s′ n cast′ (count - at) at sc .number ≡ 0) × (lastScan s′ words at sc ≡ lastScan s words at sc)
+  unfolding scan lastScan
+  scan-for zero at sc e l a =
+      let z : count - at ≡ 0 = omega arith in
+      (rw z (rw z at (a .taken)), refl)
+  scan-for (suc words) at sc e l a =
+      let h : at < count = omega arith in
+      let q = sort at sc h l a in
+      let b = ahead-next s n (castOf s) count (roundsOf s) at sc h a .1 in
+      let same = scanned-same at sc h l a q in
+      let (x, y) = scan-for words (at + 1) (scanned sc (wordAt s at)) (omega arith) (linked-next s at sc l) b in (
+        ap (λ (v : Verdict). v .number)
+            (scan-step s′ n cast′ count at sc h
+            ∙ and-then-next (verdict _ at) _ (taken-same at sc h l a q)
+            ∙ ap (scan s′ n cast′ (count - (at + 1)) (at + 1)) same)
+            ∙ x,
+        ap (lastScan s′ words (at + 1)) same ∙ y,
+      )
+
+  whole-scan : (scan s′ n cast′ (count - eventsAt n) (eventsAt n) unscanned .number ≡ 0)
+      × (lastScan s′ (count - eventsAt n) (eventsAt n) unscanned ≡ lastScan s (count - eventsAt n) (eventsAt n) unscanned)
+  whole-scan =
+      let c = cast-within s ok π in
+      scan-for (count - eventsAt n) (eventsAt n) unscanned (omega arith) first-linked first
+
+  pub rounds′ : roundsOf s′ ≡ roundsOf s
+  unfolding roundsOf
+  rounds′ =
+      ap₂ (λ (m c : ℕ). lastScan s′ (c - eventsAt m) (eventsAt m) unscanned .rounds) (size′ s ok π) (count′ s ok π)
+      ∙ ap (λ (x : Scan). x .rounds) (whole-scan .1)
+
+  cast-checked : checkCast s′ n ≡ accepted
+  unfolding checkCast Passed
+  cast-checked =
+      let c = cast-within s ok π in
+      let k = count′ s ok π in
+      tests-ok (single (ltb (castAt n) (length s′ / 4)) 14 (length s′ / 4) ∷ single (castOk n (wordAt s′ (castAt n))) 12 (castAt n) ∷ []) (
+        λ _ _. lt-ltb (castAt n) (length s′ / 4) (omega arith),
+        (λ _ _. ap (castOk n) (word-cast s ok π) ∙ cast-ok n π (few s ok π) (wordAt s (castAt n)) (fits s ok π .cast-ok), tt),
+      )
+
+  play-checked : checkPlay s′ n .number ≡ 0
+  unfolding checkPlay
+  play-checked =
+      ap (λ (v : Verdict). v .number)
+      (ap (λ (v : Verdict). andThen v (scan s′ n (castIn (wordAt s′ (castAt n))) (length s′ / 4 - eventsAt n) (eventsAt n) unscanned)) cast-checked
+      ∙ and-then-next accepted _ refl
+      ∙ ap₂ (λ (c m : ℕ). scan s′ n c (m - eventsAt n) (eventsAt n) unscanned)
+      (ap castIn (word-cast s ok π) ∙ cast-vector n π (few s ok π) (wordAt s (castAt n))) (count′ s ok π))
+      ∙ whole-scan .0
+
+  front-checked : ((j : ℕ) → j < n → placeIn (wordAt s (3 + j)) ≡ n) → checkFront s′ ≡ accepted
+  unfolding checkFront
+  front-checked straight =
+      let m = sizeIn (wordAt s′ 0) in
+      ap (λ (v : Verdict). andThen v (checkWords s′ m))
+      (head-ok s′ _ (head′ s ok π)
+      (ap₂ (λ (x y : ℕ). leb (setupLength x) y) (size′ s ok π) (length′ s ok π) ∙ le-leb _ _ (fits s ok π .front .room)))
+      ∙ and-then-next accepted _ refl
+      ∙ words-ok s′ m (subst (WordsFit s′) (sym (size′ s ok π)) (words′ s ok π straight))
+
+  pub accepted′ : ((j : ℕ) → j < n → placeIn (wordAt s (3 + j)) ≡ n) → checkScript s′ .number ≡ 0
+  unfolding checkScript
+  accepted′ straight =
+      let l = length′ s ok π in
+      ap (λ (v : Verdict). v .number)
+      (and-then-next (outcome (single (leb (length s′) mostBytes) 16 0)) _
+      (ap (λ (v : Verdict). v .number)
+      (single-ok (leb (length s′) mostBytes) 16 0 (ap (λ (m : ℕ). leb m mostBytes) l ∙ le-leb (length s) mostBytes (fits s ok π .bytes))))
+      ∙ ap (λ (v : Verdict). andThen v (checkPlay s′ (sizeIn (wordAt s′ 0)))) (front-checked straight)
+      ∙ and-then-next accepted _ refl
+      ∙ ap (checkPlay s′) (size′ s ok π))
+      ∙ play-checked

@@ -1,0 +1,204 @@
+-- A session renumbered, round by round: reads, states, health vectors and words.
+use Prim.Native.Nat.{ℕ, zero, suc, _+_, _-_, _^_, _≤_, _<_}
+use mathlib.Core.Path.{_≡_, refl, sym, ap, ap₂, _∙_, subst}
+use mathlib.Core.Bool.{Bool, false}
+use native.Mathlib.Omega.{arith}
+use lib.ListN.{getD}
+use borrow.Author.Tests.{lt-ltb}
+use Rattle.words.specs.Word.{wordAt}
+use Rattle.words.specs.Bits.{bit, pack, full}
+use Rattle.words.proofs.Truth.{cond-false}
+use Rattle.words.proofs.BitLaws.{bit-pack, pack-ext, full-lt}
+use Rattle.words.proofs.ByteLaws.{word-of}
+use Rattle.setup.specs.declared.Setup.{Setup}
+use Rattle.rules.specs.Hearing.{busWord, entryOf, readingOf, causesOf}
+use Rattle.rules.specs.Causes.{causeOf}
+use Rattle.rules.specs.declared.Entry.{Entry}
+use Rattle.rules.specs.declared.Reading.{Reading}
+use Rattle.presence.specs.Opening.{fresh}
+use Rattle.presence.specs.Step.{judgementFor, afterRound}
+use Rattle.presence.specs.declared.State.{State}
+use Rattle.agreement.specs.Session.{Session, Accepted, size, u, bitIn, wordIn, readRound, readBits, readBytes, state, health, handed, sent}
+use Rattle.agreement.proofs.Steps.{small, held, reading, causes, state-zero, state-suc, health-suc}
+use Rattle.agreement.proofs.Aligned.{sent-is}
+use Rattle.renumbering.specs.Renumbering.{Renumbering, vectorFor, arrayFor, rowsFor, wordFor}
+use Rattle.renumbering.specs.States.{setupFor, readingFor, stateFor}
+use Rattle.renumbering.specs.Sessions.{Renumbered}
+use Rattle.renumbering.proofs.VectorForLaws.{vector-full, array-pack, rows-pack, vector-pack, zeros-for}
+use Rattle.renumbering.proofs.WordForLaws.{entryFor, entry-for, cause-for, bus-for}
+use Rattle.renumbering.proofs.StepForLaws.{round-for}
+use Rattle.renumbering.proofs.ZeroLagLaws.{places-full}
+use Rattle.renumbering.proofs.SetupForLaws.{straight, straight′, places′, marks-none, marks-none′, accepted′}
+
+-- ---- a read in which every entry is of this round
+
+module _ (T : Session) (i k j : ℕ) (h : j < size T) (e : getD (T .setup .places) i 0 ≡ size T) where
+  read-now : readRound T i k j ≡ k
+  unfolding readRound
+  read-now = rw (lt-ltb j (getD (T .setup .places) i 0) (omega arith))
+
+  bit-now : bit (readBits T i k) j ≡ bitIn T k i j
+  bit-now = bit-pack (size T) _ j h ∙ ap (λ (m : ℕ). bitIn T m i j) read-now
+
+  word-now : wordAt (readBytes T i k) j ≡ wordIn T k i j
+  word-now = word-of (size T) _ j h ∙ ap (λ (m : ℕ). wordIn T m i j) read-now
+
+-- ---- a session S, and T that is S renumbered but for its setup, which is only equal to the renumbered one
+
+module _ (S : Session) (ok : Accepted S) (zero-u : u S ≡ 0) (π : Renumbering (size S)) (T : Session) (r : Renumbered S π T) where
+  abbrev n : ℕ
+  n = size S
+
+  abbrev pub S′ : Session
+  S′ = record { setup = setupFor n π (S .setup); cast = T .cast; controller = T .controller; word = T .word }
+
+  few : n ≤ 16
+  few = small S ok
+
+  pub ok′ : Accepted S′
+  ok′ = accepted′ (S .setup) π ok zero-u
+
+  -- ---- what arrives
+
+  bit-for : (k i j : ℕ) → i < n → j < n → bitIn S′ k (π .to i) (π .to j) ≡ bitIn S k i j
+  unfolding bitIn
+  bit-for zero i j hi hj = refl
+  bit-for (suc k) i j hi hj = r .controller k i j hi hj
+
+  pub word-for : (k i j : ℕ) → i < n → j < n → wordIn S′ k (π .to i) (π .to j) ≡ wordFor n π (wordIn S k i j)
+  unfolding wordIn
+  word-for zero i j hi hj = sym (bus-for n π few (full n) (full-lt n) ∙ ap busWord (vector-full n π))
+  word-for (suc k) i j hi hj = r .word k i j hi hj
+
+  pub cause-at : (k i j : ℕ) → i < n → j < n
+      → causeOf n (bitIn S′ k (π .to i) (π .to j)) (wordIn S′ k (π .to i) (π .to j)) ≡ causeOf n (bitIn S k i j) (wordIn S k i j)
+  cause-at k i j hi hj = ap₂ (causeOf n) (bit-for k i j hi hj) (word-for k i j hi hj) ∙ cause-for n π few (bitIn S k i j) (wordIn S k i j)
+
+  pub entry-at : (k i j : ℕ) → i < n → j < n
+      → entryOf n (bitIn S′ k (π .to i) (π .to j)) (wordIn S′ k (π .to i) (π .to j)) ≡ entryFor n π (entryOf n (bitIn S k i j) (wordIn S k i j))
+  entry-at k i j hi hj = ap₂ (entryOf n) (bit-for k i j hi hj) (word-for k i j hi hj) ∙ entry-for n π few (bitIn S k i j) (wordIn S k i j)
+
+  module _ (i : ℕ) (below : i < n) where
+    pub below′ : π .to i < n
+    below′ = π .to-below i below
+
+    -- ---- what is read
+
+    module _ (k j : ℕ) (h : j < n) where
+      place : getD (S .setup .places) i 0 ≡ n
+      place = places-full n (S .setup .places) (straight (S .setup) π ok zero-u) i below
+
+      place′ : getD (S′ .setup .places) (π .to i) 0 ≡ n
+      place′ = places′ (S .setup) π ok zero-u (π .to i) below′
+
+      -- what f makes of an entry of the read, and of the entry in the read of S
+      by-entry : {A : Type 0} (f : Bool → ℕ → A)
+          → f (bit (readBits S′ (π .to i) k) j) (wordAt (readBytes S′ (π .to i) k) j)
+          ≡ f (bitIn S′ k (π .to i) (π .to (π .from j))) (wordIn S′ k (π .to i) (π .to (π .from j)))
+      by-entry f =
+          ap₂ f (bit-now S′ (π .to i) k j h place′) (word-now S′ (π .to i) k j h place′)
+          ∙ ap (λ (m : ℕ). f (bitIn S′ k (π .to i) m) (wordIn S′ k (π .to i) m)) (sym (π .to-from j h))
+
+      by-entry₀ : {A : Type 0} (f : Bool → ℕ → A) → f (bit (readBits S i k) (π .from j)) (wordAt (readBytes S i k) (π .from j))
+          ≡ f (bitIn S k i (π .from j)) (wordIn S k i (π .from j))
+      by-entry₀ f =
+          let b = π .from-below j h in
+          ap₂ f (bit-now S i k (π .from j) b place) (word-now S i k (π .from j) b place)
+
+      read-entry : entryOf n (bit (readBits S′ (π .to i) k) j) (wordAt (readBytes S′ (π .to i) k) j)
+          ≡ entryFor n π (entryOf n (bit (readBits S i k) (π .from j)) (wordAt (readBytes S i k) (π .from j)))
+      read-entry =
+          by-entry (entryOf n) ∙ entry-at k i (π .from j) below (π .from-below j h) ∙ ap (entryFor n π) (sym (by-entry₀ (entryOf n)))
+
+      read-cause : causeOf n (bit (readBits S′ (π .to i) k) j) (wordAt (readBytes S′ (π .to i) k) j)
+          ≡ causeOf n (bit (readBits S i k) (π .from j)) (wordAt (readBytes S i k) (π .from j))
+      read-cause = by-entry (causeOf n) ∙ cause-at k i (π .from j) below (π .from-below j h) ∙ sym (by-entry₀ (causeOf n))
+
+    abbrev entryIn : ℕ → ℕ → Entry
+    entryIn k j = entryOf n (bit (readBits S i k) j) (wordAt (readBytes S i k) j)
+
+    reading-for : (k : ℕ) → reading S′ (π .to i) k ≡ readingFor n π (reading S i k)
+    unfolding readingOf
+    reading-for k = λ t. record { heard = hears t; rows = rows t }
+      where
+        hears : pack n (λ j. entryOf n (bit (readBits S′ (π .to i) k) j) (wordAt (readBytes S′ (π .to i) k) j) .heard)
+            ≡ vectorFor n π (pack n (λ j. entryIn k j .heard))
+        hears = pack-ext n _ _ (λ j h. ap (λ (e : Entry). e .heard) (read-entry k j h)) ∙ sym (vector-pack n π (λ j. entryIn k j .heard))
+
+        rows : reading S′ (π .to i) k .rows ≡ rowsFor n π (reading S i k .rows)
+        rows = rows-pack n π few (λ j. entryIn k j .row) _ (λ j h. ap (λ (e : Entry). e .row) (read-entry k j h))
+
+    pub causes-for : (k : ℕ) → causes S′ (π .to i) k ≡ arrayFor n π (causes S i k)
+    unfolding causesOf
+    causes-for k = array-pack n π few _ _ (read-cause k)
+
+    -- ---- what a module makes of it
+
+    -- a state with the setup of the session: the state after a round, and its health vector
+    abbrev SameStep : ℕ → State → Type 0
+    SameStep k st =
+        (afterRound (stateFor n π st) (readingFor n π (reading S i k)) ≡ stateFor n π (afterRound st (reading S i k)))
+        × (judgementFor (stateFor n π st) (readingFor n π (reading S i k)) .health ≡ vectorFor n π (judgementFor st (reading S i k) .health))
+
+    same-step : (k : ℕ) (st : State) → st .setup ≡ S .setup → SameStep k st
+    same-step k st e =
+        subst (λ (s : Setup). SameStep k (with s)) (sym e)
+        (round-for (S .setup) π few (straight (S .setup) π ok zero-u) (straight′ (S .setup) π ok zero-u) (st .own) (st .counters) (st .previous)
+        (st .latest) (st .earlier) (reading S i k))
+      where
+        with : Setup → State
+        with s = record { setup = s; own = st .own; counters = st .counters; previous = st .previous; latest = st .latest; earlier = st .earlier }
+
+    fresh-for : fresh (S′ .setup) (π .to i + 1) ≡ stateFor n π (fresh (S .setup) (i + 1))
+    unfolding fresh
+    fresh-for =
+        let e : i ≡ i + 1 - 1 = omega arith in
+        let f = sym (vector-full n π) in
+        let z = zeros-for n π few in
+        λ t. record {
+          setup = S′ .setup;
+          own = π .to (e t) + 1;
+          counters = record { view = f t; penalty = z t; reward = z t; returns = z t };
+          previous = record { heard = f t; rows = rows-pack n π few (λ j. full n) (λ j. full n) (λ j h. f) t };
+          latest = f t;
+          earlier = f t;
+        }
+
+    pub state-for : (k : ℕ) → state S′ (π .to i) k ≡ stateFor n π (state S i k)
+    state-for zero = state-zero S′ ok′ (π .to i) below′ ∙ fresh-for ∙ ap (stateFor n π) (sym (state-zero S ok i below))
+    state-for (suc k) =
+        state-suc S′ ok′ (π .to i) below′ k
+        ∙ ap₂ afterRound (state-for k) (reading-for (suc k))
+        ∙ same-step (suc k) (state S i k) (held S ok i below k .setup) .0
+        ∙ ap (stateFor n π) (sym (state-suc S ok i below k))
+
+    pub health-for : (k : ℕ) → health S′ (π .to i) k ≡ vectorFor n π (health S i k)
+    unfolding health
+    health-for zero = sym (vector-full n π)
+    health-for (suc k) =
+        health-suc S′ ok′ (π .to i) below′ k
+        ∙ ap₂ (λ (st : State) (r : Reading). judgementFor st r .health) (state-for k) (reading-for (suc k))
+        ∙ same-step (suc k) (state S i k) (held S ok i below k .setup) .1
+        ∙ ap (vectorFor n π) (sym (health-suc S ok i below k))
+
+    -- ---- what it sends
+
+    pub sent-for : (k : ℕ) → sent S′ (π .to i) (suc k) ≡ wordFor n π (sent S i (suc k))
+    sent-for k =
+        let h = held S ok i below k in
+        sent-is S′ ok′ (π .to i) below′ k
+        ∙ ap (λ (st : State). busWord (st .latest)) (state-for k)
+        ∙ sym (bus-for n π few (state S i k .latest) (subst (λ (s : Setup). state S i k .latest < 2 ^ s .n) (h .setup) (h .fits .latest)))
+        ∙ ap (wordFor n π) (sym (sent-is S ok i below k))
+
+    -- without a send mark a word is sent in the round after that in which it is handed out
+    sent-next : (Q : Session) (l k : ℕ) → bit (Q .setup .marks) l ≡ false → sent Q l (suc k) ≡ handed Q l k
+    unfolding sent
+    sent-next Q l k f =
+        let e : suc k - 1 ≡ k = omega arith in
+        cond-false _ _ f ∙ ap (handed Q l) e
+
+    pub handed-for : (k : ℕ) → handed S′ (π .to i) k ≡ wordFor n π (handed S i k)
+    handed-for k =
+        sym (sent-next S′ (π .to i) k (marks-none′ (S .setup) π ok zero-u (π .to i) below′))
+        ∙ sent-for k ∙ ap (wordFor n π) (sent-next S i k (marks-none (S .setup) π ok zero-u i below))

@@ -1,0 +1,93 @@
+-- Words, a setup, a state and a script of four modules renumbered, written out, and what the bench writes for both scripts.
+-- Computed in proofs/Cases.antt.
+use Prim.Native.Nat.{ℕ, _+_, _%_}
+use mathlib.Core.Path.{_≡_}
+use mathlib.Core.List.{List, [], _∷_, _++_}
+use native.Mathlib.Omega.{arith}
+use lib.ListN.{replicate}
+use Rattle.setup.specs.declared.Setup.{Setup}
+use Rattle.presence.specs.declared.State.{State}
+use Rattle.backplane.specs.Output.{outputOf}
+use Rattle.backplane.specs.Sheet.{scriptOf, textOf}
+use Rattle.renumbering.specs.Renumbering.{Renumbering, wordFor}
+use Rattle.renumbering.specs.States.{stateFor}
+use Rattle.renumbering.specs.Scripts.{scriptFor}
+
+-- module 1 becomes module 2, 2 becomes 3, 3 becomes 4, and 4 becomes 1
+abbrev pub turned : Renumbering 4
+turned = record {
+  to = λ j. (j + 1) % 4;
+  from = λ j. (j + 3) % 4;
+  to-below = λ j h. omega arith;
+  from-below = λ j h. omega arith;
+  from-to = λ j h. omega arith;
+  to-from = λ j h. omega arith;
+}
+
+-- ---- words
+
+-- words renumbered, one after the other
+abbrev pub wordsFor : List ℕ → List ℕ
+wordsFor [] = []
+wordsFor (w ∷ ws) = wordFor 4 turned w ∷ wordsFor ws
+
+-- ---- a setup and a state
+
+-- an array of 16 whose first entries are these four
+abbrev pub four : ℕ → ℕ → ℕ → ℕ → List ℕ
+four a b c d = (a ∷ b ∷ c ∷ d ∷ []) ++ replicate 12 0
+
+-- a setup with this number's send mark, and these read places and criticalities
+abbrev pub setupWith : ℕ → List ℕ → List ℕ → Setup
+setupWith marks places criticality = record { n = 4; q = 5; p = 6; r = 7; marks = marks; places = places; criticality = criticality }
+
+-- the state of module 3, which heard modules 1, 2 and 4
+abbrev pub before : State
+before = record {
+  setup = setupWith 4 (four 4 1 2 3) (four 10 20 30 40);
+  own = 3;
+  counters = record { view = 13; penalty = four 0 8 1 0; reward = four 0 0 2 0; returns = four 0 4 0 0 };
+  previous = record { heard = 11; rows = four 15 1 0 6 };
+  latest = 3;
+  earlier = 8;
+}
+
+-- it became the state of module 4, which heard modules 1, 2 and 3
+abbrev pub after : State
+after = record {
+  setup = setupWith 8 (four 3 4 1 2) (four 40 10 20 30);
+  own = 4;
+  counters = record { view = 11; penalty = four 0 0 8 1; reward = four 0 0 0 2; returns = four 0 0 4 0 };
+  previous = record { heard = 7; rows = four 12 15 2 0 };
+  latest = 6;
+  earlier = 1;
+}
+
+-- ---- a script
+
+-- Module 2 lies in round 1 to modules 1, 2 and 4. In round 2 module 1 does not hear itself, and is told a word by module 2 that looks like a play.
+abbrev pub scriptWords : List ℕ
+scriptWords =
+    0x1000_0504 ∷ 0x2000_0001 ∷ 0x3000_0003 ∷ 0x4088_0001 ∷ 0x4108_0002 ∷ 0x4188_0003 ∷ 0x4208_0004
+    ∷ 0x6000_0002 ∷ 0x8100_000B ∷ 0x5000_000A ∷ 0x9000_0001 ∷ 0x7080_0001 ∷ 0x8100_0001 ∷ 0x9000_000A ∷ 0x9000_0001 ∷ []
+
+-- its words renumbered
+abbrev pub turnedWords : List ℕ
+turnedWords =
+    0x1000_0504 ∷ 0x2000_0001 ∷ 0x3000_0003 ∷ 0x4088_0004 ∷ 0x4108_0001 ∷ 0x4188_0002 ∷ 0x4208_0003
+    ∷ 0x6000_0004 ∷ 0x8180_0007 ∷ 0x5000_0005 ∷ 0x9000_0001 ∷ 0x7100_0002 ∷ 0x8180_0002 ∷ 0x9000_0005 ∷ 0x9000_0001 ∷ []
+
+-- what is claimed
+pub record CasesRight : Type 0 where
+  -- a row; stray bits, wrong kinds and a word without a low bit set: the bits at 4 and above are as they were
+  pub words : wordsFor (0x5000_0001 ∷ 0x5000_000A ∷ 0x5000_0018 ∷ 0x9000_0003 ∷ 0xFFFF_FFF7 ∷ 0x1234_5670 ∷ [])
+      ≡ 0x5000_0002 ∷ 0x5000_0005 ∷ 0x5000_0011 ∷ 0x9000_0006 ∷ 0xFFFF_FFFE ∷ 0x1234_5670 ∷ []
+  pub state : stateFor 4 turned before ≡ after
+  pub script : scriptFor 4 turned (scriptOf scriptWords) ≡ scriptOf turnedWords
+  -- in round 2 module 1 alone does not strike module 2 off; renumbered, module 2 alone does not strike module 3 off
+  pub lines : outputOf (scriptOf scriptWords)
+      ≡ textOf ("1 1 1111 1111 in" ∷ "1 2 1111 1111 in" ∷ "1 3 1111 1111 in" ∷ "1 4 1111 1111 in"
+      ∷ "2 1 1111 1111 out" ∷ "2 2 1011 1011 out" ∷ "2 3 1011 1011 out" ∷ "2 4 1011 1011 out" ∷ [])
+  pub turned-lines : outputOf (scriptOf turnedWords)
+      ≡ textOf ("1 1 1111 1111 in" ∷ "1 2 1111 1111 in" ∷ "1 3 1111 1111 in" ∷ "1 4 1111 1111 in"
+      ∷ "2 1 1101 1101 out" ∷ "2 2 1111 1111 out" ∷ "2 3 1101 1101 out" ∷ "2 4 1101 1101 out" ∷ [])

@@ -1,0 +1,9 @@
+pub mod Renumbering
+pub mod States
+pub mod Sessions
+pub mod SameSession
+pub mod SameImages
+pub mod Scripts
+pub mod SameRun
+pub mod ZeroLag
+pub mod Cases

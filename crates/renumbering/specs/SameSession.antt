@@ -1,0 +1,40 @@
+-- Where u is 0, renumbering the modules renumbers every health vector, counter and view in every round. (document 02, E8)
+-- The numbers that accusations name are left out. Proved in proofs/SameSession.antt.
+use Prim.Native.Nat.{ℕ, suc, _≤_, _<_}
+use mathlib.Core.Path.{_≡_}
+use Rattle.words.specs.Count.{all}
+use Rattle.rules.specs.Causes.{causeOf}
+use Rattle.presence.specs.declared.State.{State}
+use Rattle.agreement.specs.Session.{Session, Accepted, size, u, bitIn, wordIn, answerAt, handed, sent, Bound, keptBy, kept}
+use Rattle.agreement.specs.Life.{Life}
+use Rattle.renumbering.specs.Renumbering.{Renumbering, vectorFor, arrayFor, wordFor}
+use Rattle.renumbering.specs.States.{stateFor}
+use Rattle.renumbering.specs.Sessions.{Renumbered, sessionFor}
+
+-- Of a session S and its renumbered one S′, whatever arrives in it, within the fault limit and outside it. "The module" is `to i`, which was i.
+pub record SameSession (S : Session) (π : Renumbering (size S)) (S′ : Session) : Type 0 where
+  -- the renumbered setup is accepted and its u is 0, and S′ is bound as far as S is
+  pub accepted : Accepted S′
+  pub lag : u S′ ≡ 0
+  pub bound : (last : ℕ) → Bound S last → Bound S′ last
+  -- After every round the module holds its state renumbered (view, penalties, rewards, return counts, the previous read and both syndromes), and
+  -- last answered its health vector renumbered, whatever refused calls lay between in either session.
+  pub same : (i k h h′ : ℕ) (st st′ : State) → i < size S → Life S i k st h → Life S′ (π .to i) k st′ h′
+      → (st′ ≡ stateFor (size S) π st) × (h′ ≡ vectorFor (size S) π h)
+  -- a word is heard as before, or is not heard for the same cause, and the causes that a step answers move with their modules
+  pub cause : (k i j : ℕ) → i < size S → j < size S
+      → causeOf (size S) (bitIn S′ k (π .to i) (π .to j)) (wordIn S′ k (π .to i) (π .to j)) ≡ causeOf (size S) (bitIn S k i j) (wordIn S k i j)
+  pub causes : (i k h h′ : ℕ) (st st′ : State) → i < size S → Life S i k st h → Life S′ (π .to i) k st′ h′
+      → answerAt S′ (π .to i) (suc k) st′ .causes ≡ arrayFor (size S) π (answerAt S i (suc k) st .causes)
+  -- every word that is handed out or sent is renumbered
+  pub handed : (i k : ℕ) → i < size S → handed S′ (π .to i) k ≡ wordFor (size S) π (handed S i k)
+  pub sent : (i k : ℕ) → i < size S → sent S′ (π .to i) (suc k) ≡ wordFor (size S) π (sent S i (suc k))
+  -- the fault limit of a round is kept or not as before, by the module's view; and so is that of all rounds to k
+  pub limit : (i ρ : ℕ) → i < size S → keptBy S′ (π .to i) ρ ≡ keptBy S i ρ
+  pub in-out : (last : ℕ) → Bound S last → (k : ℕ) → k ≤ last → all k (λ ρ. kept S′ (suc ρ)) ≡ all k (λ ρ. kept S (suc ρ))
+
+-- every renumbering of every session with an accepted setup whose u is 0
+pub record RenumbersSessions : Type 0 where
+  pub same : (S : Session) → Accepted S → u S ≡ 0 → (π : Renumbering (size S)) (S′ : Session) → Renumbered S π S′ → SameSession S π S′
+  -- and there is such a session for each
+  pub has : (S : Session) (π : Renumbering (size S)) → Renumbered S π (sessionFor S π)

@@ -1,0 +1,44 @@
+-- A setup and a state of n modules renumbered: what belongs to a module moves with it. (document 02, E8)
+use Prim.Native.Nat.{ℕ, _+_, _-_}
+use Rattle.setup.specs.declared.Setup.{Setup}
+use Rattle.rules.specs.declared.Reading.{Reading}
+use Rattle.rules.specs.declared.Counters.{Counters}
+use Rattle.presence.specs.declared.State.{State}
+use Rattle.renumbering.specs.Renumbering.{Renumbering, vectorFor, arrayFor, rowsFor}
+
+module _ (n : ℕ) (π : Renumbering n) where
+  -- send marks, read places and criticalities move; N, Q, P and R stay
+  abbrev pub setupFor : Setup → Setup
+  setupFor s = record {
+    n = s .n;
+    q = s .q;
+    p = s .p;
+    r = s .r;
+    marks = vectorFor n π (s .marks);
+    places = arrayFor n π (s .places);
+    criticality = arrayFor n π (s .criticality);
+  }
+
+  -- who was heard, and the rows
+  abbrev pub readingFor : Reading → Reading
+  readingFor r = record { heard = vectorFor n π (r .heard); rows = rowsFor n π (r .rows) }
+
+  -- the view, penalties, rewards and return counts
+  abbrev pub countersFor : Counters → Counters
+  countersFor c = record {
+    view = vectorFor n π (c .view);
+    penalty = arrayFor n π (c .penalty);
+    reward = arrayFor n π (c .reward);
+    returns = arrayFor n π (c .returns);
+  }
+
+  -- a whole state; the module's own number is its new one
+  abbrev pub stateFor : State → State
+  stateFor st = record {
+    setup = setupFor (st .setup);
+    own = π .to (st .own - 1) + 1;
+    counters = countersFor (st .counters);
+    previous = readingFor (st .previous);
+    latest = vectorFor n π (st .latest);
+    earlier = vectorFor n π (st .earlier);
+  }
