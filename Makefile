@@ -2,7 +2,8 @@
 # make test     the gate: proves everything from nothing, tries every wrong program that must be refused, then runs the harness
 # make harness  the harness alone: Rust implementations of the documents and a C program against the proved library and the bench
 # make tools-test   the tests of the tools for run scripts and what the bench prints, alone; harness runs them too
-# make soak     the harness on a hundred million calls, a million histories of the scan lock and a hundred thousand run scripts
+# make soak     the harness on a hundred million calls, a million histories of the scan lock, a hundred thousand run scripts and twenty thousand
+#               renumbered racks
 # make measure  instructions of a step beside plain C, stack of every call, code size, and a step's time beside the Rust implementation
 # make time     time of the bench beside the Rust player: 100,000 rounds of 16 modules
 .PHONY: run test harness harness-model harness-calls harness-scripts harness-tools harness-c tools-test soak measure time library bench rust clean
@@ -57,9 +58,10 @@ harness-calls:
 
 harness-scripts:
 	tools/hex2bin examples/sheet.hex | cmp - harness/data/vectors/001-star-sheet.bin
-	for d in vectors e04 e06 own-scripts; do $(RUST)/scripts --dir harness/data/$$d $(BENCH) || exit 1; done
+	for d in vectors e04 e06 e08 own-scripts; do $(RUST)/scripts --dir harness/data/$$d $(BENCH) || exit 1; done
 	$(RUST)/scripts --long $(BENCH)
 	$(RUST)/scripts 1000 $(SEED) $(BENCH)
+	$(RUST)/renumber 500 $(SEED) $(BENCH)
 
 harness-tools:
 	$(TOOLS_TEST)
@@ -74,6 +76,7 @@ soak: rust bench
 	$(RUST)/differential 2800000 $(SEED)
 	$(RUST)/locks --random 1000000 $(SEED)
 	$(RUST)/scripts 100000 $(SEED) $(BENCH)
+	$(RUST)/renumber 20000 $(SEED) $(BENCH)
 
 measure: rust
 	$(C) measure

@@ -8,4 +8,5 @@ pub mod hex;
 pub mod lock;
 pub mod model;
 pub mod random;
+pub mod renumber;
 pub mod script;

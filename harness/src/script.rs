@@ -2,8 +2,10 @@
 
 pub mod backplane;
 pub mod check;
+pub mod images;
 pub mod limit;
 pub mod print;
+pub mod program;
 
 pub use check::{check, Item, Script};
 pub use print::run;

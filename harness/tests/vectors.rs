@@ -100,6 +100,7 @@ fn scripts() {
     assert_eq!(outputs("vectors").len(), 42);
     assert_eq!(outputs("e04").len(), 17);
     assert_eq!(outputs("e06").len(), 17);
+    assert_eq!(outputs("e08").len(), 12);
 }
 
 /// Own scripts hold every number that a run can be refused by, and runs that end in and out of the limit.

@@ -6,12 +6,12 @@
 use harness::random::reached::Reached;
 use harness::random::scripts::{long_runs, script_bytes, WAYS};
 use harness::random::Random;
+use harness::script::program::output_of;
 use harness::script::run;
 use std::env;
 use std::fs;
-use std::io::Write;
 use std::path::PathBuf;
-use std::process::{Command, ExitCode, Stdio};
+use std::process::ExitCode;
 use std::thread;
 
 fn main() -> ExitCode {
@@ -95,7 +95,7 @@ fn run_folder(folder: &str, bench: &str) -> Result<(), String> {
         let read = |path: PathBuf| fs::read(&path).map_err(|error| format!("{}: {error}", path.display()));
         let bytes = read(path.clone())?;
         let wanted = read(path.with_extension("out"))?;
-        for (name, found) in [("model", by_model(&bytes)), ("bench", by_bench(bench, &bytes)?)] {
+        for (name, found) in [("model", by_model(&bytes)), ("bench", output_of(bench, &bytes)?)] {
             if found != wanted {
                 println!("{}: {name} differs\n{}", path.display(), first_difference(&wanted, &found));
                 differences += 1;
@@ -120,29 +120,9 @@ fn by_model(bytes: &[u8]) -> Vec<u8> {
 fn by_both(bench: &str, bytes: &[u8]) -> Result<(Vec<u8>, Vec<u8>), String> {
     thread::scope(|scope| {
         let model = scope.spawn(|| by_model(bytes));
-        let found = by_bench(bench, bytes)?;
+        let found = output_of(bench, bytes)?;
         Ok((model.join().expect("the model ends"), found))
     })
-}
-
-/// Standard input to standard output of the program; it may stop reading early.
-fn by_bench(bench: &str, bytes: &[u8]) -> Result<Vec<u8>, String> {
-    let mut child = Command::new(bench)
-        .stdin(Stdio::piped())
-        .stdout(Stdio::piped())
-        .spawn()
-        .map_err(|error| format!("{bench}: {error}"))?;
-    let mut input = child.stdin.take().expect("standard input is piped");
-    let bytes = bytes.to_vec();
-    let writer = thread::spawn(move || {
-        let _ = input.write_all(&bytes);
-    });
-    let output = child.wait_with_output().map_err(|error| format!("{bench}: {error}"))?;
-    writer.join().expect("the writer ends");
-    if !output.status.success() {
-        return Err(format!("{bench}: {}", output.status));
-    }
-    Ok(output.stdout)
 }
 
 /// The first line in which two outputs differ.

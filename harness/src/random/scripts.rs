@@ -170,6 +170,21 @@ pub fn returning_script(random: &mut Random) -> Script {
     Script { setup, cast, items }
 }
 
+/// An accepted script in which every read place is N, so that u is 0.
+pub fn script_with_u_0(random: &mut Random) -> Script {
+    let mut script = match random.below(3) {
+        0 => script(random),
+        1 => careful_script(random),
+        _ => returning_script(random),
+    };
+    let n = script.setup.n;
+    for module in &mut script.setup.modules[..n] {
+        module.place = n as u32;
+        module.send_mark = false;
+    }
+    script
+}
+
 /// A rule-breaker that is heard by all with the same word, or by nobody.
 fn break_alike(random: &mut Random, n: usize, sender: usize, items: &mut Vec<Item>) {
     match random.below(4) {

@@ -28,6 +28,14 @@ pub fn play_rounds(
     mut after_round: impl FnMut(&Backplane) -> io::Result<()>,
 ) -> io::Result<()> {
     let mut backplane = Backplane::new(&script.setup, script.cast);
+    each_round(script, |events| {
+        backplane.play_round(events);
+        after_round(&backplane)
+    })
+}
+
+/// Calls `play_round` for each round in turn, with its events. Events count for the next round played and for no other.
+pub fn each_round<E>(script: &Script, mut play_round: impl FnMut(&Events) -> Result<(), E>) -> Result<(), E> {
     let mut events: Events = NO_EVENTS;
     for item in &script.items {
         match *item {
@@ -36,13 +44,10 @@ pub fn play_rounds(
                 add_event(&mut events, sender, receivers, Event::Lie { told })
             }
             Item::Play { rounds } => {
-                // Events count for the next round played and for no other.
-                backplane.play_round(&events);
-                after_round(&backplane)?;
+                play_round(&events)?;
                 events = NO_EVENTS;
                 for _ in 1..rounds {
-                    backplane.play_round(&NO_EVENTS);
-                    after_round(&backplane)?;
+                    play_round(&NO_EVENTS)?;
                 }
             }
         }

@@ -3,10 +3,8 @@
 
 use harness::model::setup::{read_setup, Holds, Setup};
 use harness::model::words::bytes_of;
+use harness::script::program::output_of;
 use harness::script::run;
-use std::io::Write;
-use std::process::{Command, Stdio};
-use std::thread;
 
 /// N = 4, P = 1, R = 3, criticality 1, all l = 4.
 pub const SHEET: [u32; 7] =
@@ -45,20 +43,7 @@ pub fn by_model(bytes: &[u8]) -> String {
 }
 
 pub fn by_player(bytes: &[u8]) -> String {
-    let mut child = Command::new(env!("CARGO_BIN_EXE_player"))
-        .stdin(Stdio::piped())
-        .stdout(Stdio::piped())
-        .spawn()
-        .unwrap();
-    let mut input = child.stdin.take().unwrap();
-    let bytes = bytes.to_vec();
-    let writer = thread::spawn(move || {
-        let _ = input.write_all(&bytes);
-    });
-    let output = child.wait_with_output().unwrap();
-    writer.join().unwrap();
-    assert!(output.status.success());
-    String::from_utf8(output.stdout).unwrap()
+    String::from_utf8(output_of(env!("CARGO_BIN_EXE_player"), bytes).unwrap()).unwrap()
 }
 
 /// The output of model and player, which must be the same.

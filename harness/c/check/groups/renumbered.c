@@ -1,0 +1,145 @@
+/* renumbered.c - the same modules in other slots, u = 0: E8 of document 02. */
+#include "check/groups/groups.h"
+
+#include <string.h>
+
+#include "check/expect.h"
+#include "check/inputs.h"
+#include "check/random.h"
+#include "check/report.h"
+#include "check/sizes.h"
+#include "check/words.h"
+
+/* Module j gets the number number[j - 1]. */
+struct renumbering {
+    uint32_t n;
+    uint32_t number[MAX_N];
+};
+
+/* Modules seen to leave the view and to come back. */
+static unsigned long left, returned;
+
+static void any_numbers(struct renumbering *r, uint32_t n)
+{
+    uint32_t i, j, taken;
+
+    r->n = n;
+    for (i = 0; i < n; i++)
+        r->number[i] = i + 1;
+    for (i = n - 1; i > 0; i--) {
+        j = below(i + 1);
+        taken = r->number[i];
+        r->number[i] = r->number[j];
+        r->number[j] = taken;
+    }
+}
+
+/* A vector, or a word with one in its N low bits; the other bits stay. */
+static uint32_t moved(const struct renumbering *r, uint32_t word)
+{
+    uint32_t result = word & ~ones(r->n), j;
+
+    for (j = 1; j <= r->n; j++)
+        if (word >> (j - 1) & 1)
+            result |= 1u << (r->number[j - 1] - 1);
+    return result;
+}
+
+/* A word with the number of a module in bits 27..23. */
+static uint32_t numbered(uint32_t word, uint32_t number)
+{
+    return (word & ~(31u << 23)) | number << 23;
+}
+
+static void move_read(uint8_t *to, const struct renumbering *r,
+                      const uint8_t *from)
+{
+    uint32_t j;
+
+    for (j = 1; j <= r->n; j++)
+        put(to, r->number[j - 1] - 1, moved(r, get(from, j - 1)));
+}
+
+/* The setup stands in front of the image and goes with it. */
+static void move_image(uint8_t *to, const struct renumbering *r,
+                       const uint8_t *from)
+{
+    uint32_t n = r->n, own = get(from, own_at(n)), j, i;
+
+    memcpy(to, from, 12); /* head and limits */
+    put(to, own_at(n), own_word(r->number[(own >> 16 & 31) - 1],
+                                moved(r, own & 0xFFFF)));
+    put(to, latest_at(n), moved(r, get(from, latest_at(n))));
+    put(to, before_at(n), moved(r, get(from, before_at(n))));
+    for (j = 1; j <= n; j++) {
+        i = r->number[j - 1];
+        put(to, 2 + i, numbered(get(from, 2 + j), i));
+        put(to, previous_at(n, i),
+            numbered(moved(r, get(from, previous_at(n, j))), i));
+        put(to, penalty_at(n, i), numbered(get(from, penalty_at(n, j)), i));
+        put(to, reward_at(n, i), numbered(get(from, reward_at(n, j)), i));
+        put(to, returns_at(n, i), numbered(get(from, returns_at(n, j)), i));
+    }
+}
+
+static void image_is(const struct renumbering *r, const uint8_t *image,
+                     const uint8_t *rebuilt)
+{
+    uint8_t wanted[IMAGE_MAX];
+    uint32_t at;
+
+    move_image(wanted, r, image);
+    for (at = 0; at < image_words(r->n); at++)
+        same("word of a renumbered image", get(rebuilt, at), get(wanted, at));
+    same("word handed out, renumbered",
+         outgoing(rebuilt, PRESENCE_IMAGE_BYTES(r->n), 0, 0),
+         moved(r, outgoing(image, PRESENCE_IMAGE_BYTES(r->n), 0, 0)));
+}
+
+/* Makes the same steps of a module and of the module that it became. */
+static void two_lives(uint32_t n, uint32_t p, uint32_t steps)
+{
+    uint8_t setup[PRESENCE_MAX_SETUP_BYTES];
+    uint8_t read[PRESENCE_MAX_READ_BYTES], read_then[PRESENCE_MAX_READ_BYTES];
+    uint8_t image[IMAGE_MAX], rebuilt[IMAGE_MAX];
+    size_t len = PRESENCE_IMAGE_BYTES(n);
+    uint32_t own = 1 + below(n), faults = 0, k, controller, health, view;
+    struct renumbering r;
+
+    any_numbers(&r, n);
+    random_setup(setup, n, 0, p, 1 + below(5));
+    open_module(setup, PRESENCE_SETUP_BYTES(n), own, len, 0, 0, image);
+    move_image(rebuilt, &r, image);
+    open_module(rebuilt, PRESENCE_SETUP_BYTES(n), r.number[own - 1], len, 0, 0,
+                rebuilt);
+    image_is(&r, image, rebuilt);
+    for (k = 0; k < steps; k++) {
+        if (k % 16 == 0)
+            faults = below(9);
+        controller = random_read(read, n, faults);
+        move_read(read_then, &r, read);
+        view = PRESENCE_VIEW(image, n);
+        health = step(image, len, read, 4 * n, controller, len, 0, 0, image);
+        same("health, renumbered",
+             step(rebuilt, len, read_then, 4 * n, moved(&r, controller), len, 0,
+                  0, rebuilt),
+             moved(&r, health));
+        image_is(&r, image, rebuilt);
+        left += (view & ~PRESENCE_VIEW(image, n)) != 0;
+        returned += (~view & PRESENCE_VIEW(image, n)) != 0;
+    }
+}
+
+void group_renumbered(void)
+{
+    static const uint32_t p_of[] = {1, 20, 3000, 100000};
+    uint32_t n, i;
+
+    begin_group("renumbered racks");
+    for (n = 2; n <= MAX_N; n++)
+        for (i = 0; i < 8; i++)
+            two_lives(n, p_of[i % 4], 100);
+    if (left < 100 || returned < 100)
+        differ("modules that left and came back", left, returned);
+    end_group();
+}
