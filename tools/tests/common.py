@@ -30,7 +30,7 @@ play 2  # rounds 1 to 2
 
 def stored(*folders):
     """Name, bytes and bench output of every stored script."""
-    for folder in folders or ("vectors", "e04", "e06", "own-scripts"):
+    for folder in folders or ("vectors", "e04", "e06", "e08", "own-scripts"):
         path = os.path.join(ROOT, "harness", "data", folder)
         for name in sorted(os.listdir(path)):
             if name.endswith(".bin"):

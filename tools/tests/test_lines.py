@@ -40,7 +40,7 @@ class Reading(unittest.TestCase):
         self.assertIn("round 2 is 'in' after an 'out'", str(caught.exception))
 
     def test_stored_outputs_are_read(self):
-        for name, _, output in stored("vectors", "e04", "e06"):
+        for name, _, output in stored("vectors", "e04", "e06", "e08"):
             with self.subTest(name):
                 if output.startswith("refused"):
                     self.assertRaises(NotBenchOutput, read_run, output.splitlines(True))
