@@ -5,11 +5,10 @@ use mathlib.Core.List.{List, [], _++_}
 use Prim.Native.Nat.{ℕ, _+_, _-_, _*_, _^_, _<_, _≤_}
 use native.Mathlib.Omega.{arith}
 use lib.ListN.{getD, length, drop}
-use lib.Dec.{eqb, leb}
+use lib.Dec.{eqb}
 use Rattle.words.specs.Word.{wordAt, bytesOf}
 use Rattle.words.specs.Bits.{pack}
 use Rattle.words.specs.Array.{array, Filled}
-use Rattle.words.specs.Count.{any}
 use Rattle.words.specs.Runs.{putRun, putRuns}
 use borrow.Author.Tests.{eqb-true, eqb-false}
 use Rattle.words.proofs.Truth.{not-both, not-neither, or-false-l, or-false-r}
@@ -23,10 +22,9 @@ use Rattle.rules.specs.Lag.{skewed}
 use Rattle.rules.specs.Hearing.{readingOf, causesOf}
 use Rattle.rules.specs.Alignment.{alignedOf}
 use Rattle.rules.specs.Syndrome.{judgementOf}
-use Rattle.rules.specs.Account.{accountAt, accountIn, countedAt, countersOf}
+use Rattle.rules.specs.Account.{accountIn, countedAt, countersOf}
 use Rattle.rules.specs.Range.{InRange}
 use Rattle.rules.specs.declared.Counters.{Counters}
-use Rattle.rules.specs.declared.Judgement.{Judgement}
 use Rattle.rules.specs.declared.Reading.{Reading}
 use Rattle.rules.proofs.CountedLaws.{range-in, counted-counters}
 use Rattle.rules.proofs.SyndromeLaws.{health-lt}

@@ -2,7 +2,7 @@
 use mathlib.Core.Path.{_≡_, refl, ap, ap₂, _∙_, sym, subst}
 use mathlib.Core.Bool.{Bool, true, false, cond, not, _||_}
 use mathlib.Core.List.{List, _++_, append-nil}
-use Prim.Native.Nat.{ℕ, _+_, _-_, _*_, _≤_, _<_}
+use Prim.Native.Nat.{ℕ, _+_, _-_, _≤_, _<_}
 use native.Mathlib.Omega.{arith}
 use lib.Dec.{eqb, ltb}
 use lib.ListN.{length, getD, take, drop}
@@ -19,7 +19,7 @@ use Rattle.words.proofs.Truth.{cond-true, cond-false}
 use Rattle.words.specs.Verdict.{verdict, accepted, isAccepted, between, allRight}
 use Rattle.setup.specs.Setup.{sizeIn, markIn, setupOf, blankSetup}
 use Rattle.words.proofs.VerdictLaws.{between-of}
-use Rattle.setup.specs.Check.{checkHead, checkWords, checkSetup, readSetup}
+use Rattle.setup.specs.Check.{checkSetup, readSetup}
 use Rattle.setup.specs.declared.Setup.{Setup}
 use Rattle.setup.specs.declared.SetupRead.{SetupRead}
 use Rattle.words.specs.declared.Verdict.{Verdict}
@@ -30,7 +30,7 @@ use Rattle.image.proofs.ImageAnswers.{size-fits, by-words}
 use Rattle.image.proofs.TailLaws.{ImageFits, image-pass, image-zero}
 use Rattle.presence.specs.Valid.{Valid}
 use Rattle.presence.specs.Opening.{fresh, openOf}
-use Rattle.presence.specs.Step.{markOf, outgoingFor, afterRound, acceptedStep, readStep, stepOf}
+use Rattle.presence.specs.Step.{markOf, outgoingFor, afterRound, acceptedStep, stepOf}
 use Rattle.presence.specs.Image.{imageOf, stateOf, roomFor}
 use Rattle.calls.specs.Calls.{answer, called, refusedCall, wrote, openCall, stepCall, saveCall, handedOut, outgoingCall, refusedCause, causeCall}
 use Rattle.presence.specs.declared.State.{State}
@@ -39,8 +39,8 @@ use Rattle.calls.specs.declared.WordAnswer.{WordAnswer}
 use Rattle.calls.specs.declared.CauseAnswer.{CauseAnswer}
 use Rattle.presence.specs.declared.Opened.{Opened}
 use Rattle.presence.specs.declared.Stepped.{Stepped}
-use Rattle.presence.proofs.StateStepLaws.{step-accepted, step-valid, open-valid, open-fresh, open-passed}
-use Rattle.presence.proofs.StateRoundLaws.{step-goes, not-between, is-between}
+use Rattle.presence.proofs.StateStepLaws.{open-valid, open-fresh, open-passed}
+use Rattle.presence.proofs.StateRoundLaws.{not-between, is-between}
 use Rattle.presence.proofs.ImageState.{image-state, load-valid}
 use Rattle.presence.proofs.RoundTrip.{written-read}
 
@@ -73,21 +73,6 @@ room-is st out e l = eq-eqb (length out) _ (l ∙ ap imageLength (sym e))
 pub room-not : (st : State) {n : ℕ} (out : List ℕ) → st .setup .n ≡ n → (length out ≡ imageLength n → ⊥) → roomFor st out ≡ false
 unfolding roomFor
 room-not st out e f = ne-eqb (length out) _ (λ l. f (l ∙ ap imageLength e))
-
--- a step of a valid state leaves a valid one
-pub stepped-valid : (k : State) (read : List ℕ) (controller : ℕ) {t : Stepped} → Valid k → t ≡ readStep k read controller → t .number ≡ 0
-    → Valid (t .state)
-stepped-valid k read controller {t} v h z =
-    let e : t ≡ stepOf k read controller = step-goes k read controller refl v h in
-    subst (λ (x : Stepped). Valid (x .state)) (sym e) (step-valid k read controller (ap (λ (x : Stepped). x .number) (sym e) ∙ z))
-
--- of the same setup
-pub stepped-setup : (k : State) (read : List ℕ) (controller : ℕ) {t : Stepped} → Valid k → t ≡ readStep k read controller → t .number ≡ 0
-    → t .state .setup .n ≡ k .setup .n
-unfolding acceptedStep afterRound
-stepped-setup k read controller {t} v h z =
-    let e : t ≡ stepOf k read controller = step-goes k read controller refl v h in
-    ap (λ (x : Stepped). x .state .setup .n) (e ∙ step-accepted k read controller (ap (λ (x : Stepped). x .number) (sym e) ∙ z) .1)
 
 -- ---- the word to put on the bus
 

@@ -14,7 +14,7 @@ use Rattle.words.proofs.Truth.{cond-true, cond-false}
 use Rattle.words.proofs.VerdictLaws.{tests-accept, and-then-stops, and-then-goes, and-then-accepts, and-end}
 use Rattle.setup.specs.Limits.{mostReturnLimit}
 use Rattle.setup.specs.Setup.{sizeIn, returnLimitIn}
-use Rattle.setup.specs.Check.{wordTests, checkHead, checkWords}
+use Rattle.setup.specs.Check.{checkHead, checkWords}
 use Rattle.setup.proofs.WordFields.{head-made}
 use Rattle.setup.proofs.SetupCheckLaws.{head-pass}
 use Rattle.setup.proofs.SetupAnswerLaws.{head-stays, head-short, head-goes}

@@ -1,6 +1,6 @@
 -- The rows of a read: a word is made of its fields, the words that a read is written as pass their test and hold it, and what passes is written
 -- as it was read.
-use mathlib.Core.Path.{_≡_, refl, ap, _∙_, sym, subst}
+use mathlib.Core.Path.{_≡_, refl, ap, _∙_, sym}
 use mathlib.Core.Bool.{Bool, true, false, cond, _&&_}
 use mathlib.Core.Logic.{_≢_, ⊎-elim}
 use mathlib.Core.List.{List}
@@ -11,8 +11,7 @@ use lib.Dec.{eqb, ltb}
 use lib.Pow.{pow-mono}
 use borrow.Author.Tests.{eqb-true, eqb-false, eq-eqb, ltb-true, ltb-false, lt-ltb, le-ltb}
 use Rattle.words.specs.Word.{wordAt, gapOf}
-use Rattle.words.specs.Bits.{b2n, bit, pack}
-use Rattle.words.specs.Array.{array}
+use Rattle.words.specs.Bits.{b2n, bit}
 use Rattle.words.proofs.Truth.{which, and-l, and-r, and-true}
 use Rattle.words.proofs.WordLaws.{gap-right, gap-wrong}
 use Rattle.words.proofs.BitLaws.{b2n-bit, b2n-le, bit-pack, pack-ext, pack-own}

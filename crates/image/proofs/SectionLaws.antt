@@ -2,25 +2,24 @@
 use mathlib.Core.Path.{_≡_, refl, _∙_, sym}
 use mathlib.Core.Bool.{Bool, true, false, not}
 use mathlib.Core.List.{List, [], _∷_, _++_}
-use Prim.Native.Nat.{ℕ, _+_, _*_, _^_, _<_, _≤_}
+use Prim.Native.Nat.{ℕ, _+_}
 use native.Mathlib.Omega.{arith}
 use lib.ListN.{getD}
 use Rattle.words.specs.Bits.{bit}
 use Rattle.words.specs.Verdict.{verdict, accepted, Test, single, each, andThen, outcome, thenTests, firstRefusal}
 use Rattle.words.specs.declared.Verdict.{Verdict}
-use Rattle.words.specs.Runs.{Run, total, putRun, putRuns}
+use Rattle.words.specs.Runs.{putRun, putRuns}
 use Rattle.words.proofs.VerdictLaws.{and-then-next, single-ok, single-refused}
 use Rattle.words.proofs.SearchLaws.{begins-refused, begins-well}
 use Rattle.rules.specs.declared.Counters.{Counters}
 use Rattle.rules.specs.declared.Reading.{Reading}
-use Rattle.image.specs.Layout.{ownAt, rowsAt, latestAt, earlierAt, penaltiesAt, rewardsAt, returnsAt, endAt, imageLength}
+use Rattle.image.specs.Layout.{ownAt, rowsAt, latestAt, earlierAt, penaltiesAt, rewardsAt, returnsAt}
 use Rattle.image.specs.Words.{ownWord, syndromeWord, ownNumberOk, ownOk, syndromeOk}
 use Rattle.image.specs.Rows.{rowWord}
 use Rattle.image.specs.Sections.{sectionRuns}
-use Rattle.image.specs.CounterSection.{counterWord, CounterSection, counterTest, sectionTest, sectionRun}
-use Rattle.image.specs.Counters.{counterSections, counterTests, countersRoomy}
+use Rattle.image.specs.CounterSection.{counterWord, CounterSection, counterTest, sectionTest}
+use Rattle.image.specs.Counters.{counterTests}
 use Rattle.image.specs.Check.{wordTest, checkTail}
-use Rattle.image.proofs.CounterSectionLaws.{Among, roomy-counters}
 
 -- one word after the answer v, of which b is the test
 module _ (v : Verdict) {b ok : Bool} {r : Verdict} (number : ℕ) {at place : ℕ} (z : v .number ≡ 0) (e : b ≡ ok) (p : at ≡ place) where
@@ -60,41 +59,15 @@ unfolding thenTests
 then-last v [] t = refl
 then-last v (u ∷ ts) t = then-last (andThen v (outcome u)) ts t
 
-put-last : (o : List ℕ) (at : ℕ) (rs : List Run) (r : Run) → putRuns o at (rs ++ (r ∷ [])) ≡ putRun (putRuns o at rs) (at + total rs) (r .count) (r .word)
-unfolding putRuns total
-put-last o at [] r =
-    let e : at + 0 ≡ at = omega arith in
-    rw e
-put-last o at (q ∷ rs) r =
-    let e : at + q .count + total rs ≡ at + (q .count + total rs) = omega arith in
-    rw (← e) (put-last (putRun o at (q .count) (q .word)) (at + q .count) rs r)
-
 pub none-tested : (v : Verdict) → v ≡ thenTests v []
 unfolding thenTests
 none-tested v = refl
 
-pub none-written : (o : List ℕ) (at : ℕ) → o ≡ putRuns o at []
-unfolding putRuns
-none-written o at = refl
-
 module _ (n : ℕ) (x : CounterSection) {a : ℕ} (place : a ≡ x .at n) where
-  -- tested
   pub then-tested : {v₁ v₂ : Verdict} (w : ℕ → ℕ) (v : Verdict) (ts : List Test) → v₁ ≡ thenTests v ts
       → v₂ ≡ andThen v₁ (outcome (each n (wordTest w n (x .kind) a) 8 a)) → wordTest w n (x .kind) (x .at n) ≡ counterTest x w n
       → v₂ ≡ thenTests v (ts ++ (sectionTest w n x ∷ []))
   then-tested w v ts e d is = rw (d, e, place, is) (sym (then-last v ts (sectionTest w n x)))
-
-  -- written
-  pub then-written : {o₁ o₂ : List ℕ} (c : Counters) (o : List ℕ) (at : ℕ) (rs : List Run) → o₁ ≡ putRuns o at rs
-      → o₂ ≡ putRun o₁ a n (λ j. counterWord (x .kind) j (getD (x .values c) j 0)) → x .at n ≡ at + total rs
-      → o₂ ≡ putRuns o at (rs ++ (sectionRun n c x ∷ []))
-  then-written c o at rs e d is = rw (d, e, place, is) (sym (put-last o at rs (sectionRun n c x)))
-
--- what the writer of a section asks for
-pub room-there : {n a size : ℕ} (x : CounterSection) (c : Counters) → Among x counterSections → countersRoomy n c ≡ true → a ≡ x .at n
-    → (n ≤ 16) × (size ≡ imageLength n) × (x .kind < 16) × (x .at n + n ≤ endAt n)
-    → (x .kind < 16) × (n ≤ 16) × ((j : ℕ) → j < n → getD (x .values c) j 0 < 2 ^ 23) × (a < 2 ^ 16) × ((a + n) * 4 ≤ size)
-room-there x c i e place (l, there, kind, end) = (kind, l, roomy-counters _ c l e .small x i, omega arith, omega arith)
 
 -- ---- the sections of a state, written one after the other
 

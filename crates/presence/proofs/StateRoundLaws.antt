@@ -16,7 +16,7 @@ use Rattle.setup.specs.Check.{setupVerdict}
 use Rattle.words.specs.declared.Verdict.{Verdict}
 use Rattle.setup.specs.declared.Setup.{Setup}
 use Rattle.words.proofs.VerdictLaws.{between-of, and-then-stops, and-then-goes, single-ok, single-refused}
-use Rattle.rules.specs.Hearing.{wordHeard, readingOf, causesOf}
+use Rattle.rules.specs.Hearing.{readingOf, causesOf}
 use Rattle.rules.specs.Alignment.{alignedOf}
 use Rattle.rules.specs.Syndrome.{judgementOf}
 use Rattle.rules.specs.Account.{accountAt, countersOf}

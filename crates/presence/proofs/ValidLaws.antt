@@ -2,7 +2,7 @@
 use mathlib.Core.Path.{_≡_, ap, _∙_}
 use mathlib.Core.Bool.{true}
 use mathlib.Core.List.{List}
-use Prim.Native.Nat.{ℕ, _+_, _^_, _<_, _≤_}
+use Prim.Native.Nat.{ℕ, _^_, _<_, _≤_}
 use native.Mathlib.Omega.{arith}
 use lib.ListN.{getD}
 use lib.Pow.{pow-mono}
@@ -24,7 +24,7 @@ use Rattle.image.specs.Layout.{ownAt}
 use Rattle.image.specs.Rows.{rowFits}
 use Rattle.image.proofs.TailLaws.{TailFits, tail-pass, tail-ok}
 use Rattle.image.proofs.SingleWords.{own-made, syndrome-made, own-number-right, own-right, syndrome-right}
-use Rattle.image.proofs.RowLaws.{RowsSmall, row-small, rows-ok, rows-pass, reading-fits}
+use Rattle.image.proofs.RowLaws.{row-small, rows-ok, rows-pass, reading-fits}
 use Rattle.image.proofs.CounterSectionLaws.{CountersFit}
 use Rattle.image.proofs.CounterLaws.{counters-small, counters-ok, counters-pass, zero-counters, round-counters}
 use Rattle.presence.specs.Image.{imageRuns}

@@ -1,13 +1,13 @@
 -- Rule 8 on lent arrays: the accounts of modules past n, which are taken along, stay as they are, and the accounts of the others are those of the
 -- definition.
 use mathlib.Core.Path.{_≡_, refl, ap, _∙_, sym}
-use mathlib.Core.Bool.{Bool, true, false, cond, _&&_}
+use mathlib.Core.Bool.{Bool, true}
 use mathlib.Core.List.{List}
 use Prim.Native.Nat.{ℕ, _+_, _-_, _%_, _^_, _<_, _≤_}
 use native.Mathlib.Omega.{arith}
 use native.Mathlib.Decide.{decLt}
 use lib.ListN.{getD}
-use lib.Dec.{eqb, leb, ltb}
+use lib.Dec.{leb}
 use borrow.Author.Tests.{le-leb}
 use Rattle.words.specs.Bits.{bit, pack}
 use Rattle.words.specs.Array.{array, replaced, Filled}

@@ -5,16 +5,16 @@ use mathlib.Core.Bool.{Bool, true, false, not, _&&_}
 use mathlib.Core.List.{List, [], _∷_}
 use mathlib.Core.Logic.{⊎-elim}
 use native.Mathlib.Omega.{arith}
-use native.Mathlib.Nat.{add-mul-mod-self-right, mod-eq-of-lt, mod-lt, div-one, add-mul, mul-assoc, mul-comm, add-assoc}
+use native.Mathlib.Nat.{add-mul-mod-self-right, mod-eq-of-lt, div-one, add-mul, mul-assoc, mul-comm, add-assoc}
 use lib.ListN.{getD}
 use lib.Dec.{eqb, ltb}
-use lib.Pow.{shr-shr, pow-pos, pow-add}
+use lib.Pow.{shr-shr, pow-add}
 use borrow.Author.Tests.{ltb-true, ltb-false}
 use Rattle.words.specs.Bits.{bit, b2n, pack}
 use Rattle.words.proofs.Truth.{which, and-r}
-use Rattle.words.proofs.BitLaws.{pack-lt, pack-ext, pack-step, bit-mod, bit-high}
+use Rattle.words.proofs.BitLaws.{pack-lt, pack-step, bit-high}
 use Rattle.words.proofs.CountLaws.{count-le, count-mono}
-use Rattle.vote.specs.Vote.{decision, healthOf}
+use Rattle.vote.specs.Vote.{healthOf}
 use Rattle.vote.specs.VoteTable.{voteTable}
 use Rattle.vote.specs.Lanes.{columnOf, votesBut, decidedBy, Countable, tallyOf}
 use Rattle.vote.specs.declared.lanes.Tally.{Tally}

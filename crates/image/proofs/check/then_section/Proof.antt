@@ -1,5 +1,4 @@
 -- The answer so far, or what the search through the section found.
-use native.Mathlib.Omega.{arith}
 use mathlib.Core.Path.{refl}
 use Rattle.words.specs.Word.{wordAt}
 use Rattle.words.specs.Verdict.{each}

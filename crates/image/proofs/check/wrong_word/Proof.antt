@@ -7,7 +7,6 @@ use Rattle.words.specs.Word.{wordAt}
 use Rattle.words.specs.Count.{lowest}
 use Rattle.words.proofs.LowestLaws.{lowest-ends, asked-none, asked-found}
 use Rattle.image.specs.Check.{wordTest}
-use borrow.Author.Needs.{needs}
 use Rattle.image.proofs.check.wrong_word.Statement.{statement}
 use Rattle.image.proofs.check.wrong_word.Tie as tie
 

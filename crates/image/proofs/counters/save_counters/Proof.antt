@@ -1,7 +1,7 @@
 -- After j turns the first j words of the three sections are written, and the rest is as it was.
 use native.Mathlib.Omega.{arith}
 use Prim.Native.Nat.{_-_, _≤_}
-use mathlib.Core.Path.{_≡_, refl, ap, _∙_}
+use mathlib.Core.Path.{_≡_, refl, _∙_}
 use lib.ListN.{length, getD}
 use Rattle.words.specs.Runs.{putRun}
 use Rattle.words.proofs.RunLaws.{three-step, three-end}

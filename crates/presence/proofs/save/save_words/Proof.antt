@@ -1,6 +1,6 @@
 -- The setup, then the sections.
 use native.Mathlib.Omega.{arith}
-use mathlib.Core.Path.{refl, sym, _∙_}
+use mathlib.Core.Path.{sym, _∙_}
 use lib.Seq.{length-take-le}
 use Rattle.setup.proofs.SetupLaws.{verdict-fits, verdict-room}
 use Rattle.image.specs.Returns.{returnCounts}
