@@ -6,10 +6,10 @@ use native.Mathlib.Omega.{arith}
 use lib.ListN.{getD-replicate}
 use Rattle.words.specs.Bits.{bit}
 use Rattle.setup.proofs.SetupLaws.{SetupFits, verdict-fits}
-use Rattle.rules.specs.Account.{countersOf}
-use Rattle.rules.specs.TakenBack.{countersAfter, inViewAfter, NoneCounted}
-use Rattle.rules.proofs.TakenBack.{taken-back}
-use Rattle.rules.specs.declared.Counters.{Counters}
+use Rattle.accounts.specs.Round.{countersOf}
+use Rattle.accounts.specs.TakenBack.{countersAfter, inViewAfter, NoneCounted}
+use Rattle.accounts.proofs.TakenBack.{taken-back}
+use Rattle.accounts.specs.declared.Counters.{Counters}
 use Rattle.presence.specs.Opening.{fresh}
 use Rattle.agreement.specs.Session.{Session, Accepted, size, health}
 use Rattle.agreement.specs.Ledger.{ledger}

@@ -17,10 +17,10 @@ use Rattle.setup.specs.declared.Setup.{Setup}
 use Rattle.rules.specs.Hearing.{busWord, wordHeard}
 use Rattle.vote.specs.Vote.{voteOf}
 use Rattle.rules.specs.Syndrome.{judgementOf}
-use Rattle.rules.specs.Account.{countersOf}
+use Rattle.accounts.specs.Round.{countersOf}
 use Rattle.presence.specs.Opening.{fresh}
 use Rattle.rules.specs.declared.Judgement.{Judgement}
-use Rattle.rules.specs.declared.Counters.{Counters}
+use Rattle.accounts.specs.declared.Counters.{Counters}
 use Rattle.agreement.specs.Session.{Session, size, u, follows, round, wordIn, state, health, sent, Bound, kept}
 use Rattle.agreement.specs.Demand.{KeptTo}
 

@@ -21,9 +21,7 @@ use Rattle.backplane.specs.declared.Started.{Started}
 
 -- before round 1 of an accepted script
 unfoldable pub begun : List ℕ → Run
-begun s =
-    let n = sizeIn (wordAt s 0) in
-    record { cursor = start n; backplane = opened (readSetup (setupPart s) .setup) (castIn (wordAt s (castAt n))) }
+begun s = record { cursor = start s; backplane = opened (readSetup (setupPart s) .setup) (castIn (wordAt s (castAt s))) }
 
 -- what is held where a script is refused: nothing to play
 unfoldable pub idle : Run

@@ -22,11 +22,12 @@ use Rattle.rules.specs.Lag.{skewed}
 use Rattle.rules.specs.Hearing.{readingOf, causesOf}
 use Rattle.rules.specs.Alignment.{alignedOf}
 use Rattle.rules.specs.Syndrome.{judgementOf}
-use Rattle.rules.specs.Account.{accountIn, countedAt, countersOf}
-use Rattle.rules.specs.Range.{InRange}
-use Rattle.rules.specs.declared.Counters.{Counters}
+use Rattle.accounts.specs.Round.{countersOf}
+use Rattle.accounts.specs.Lent.{accountIn, countedAt}
+use Rattle.accounts.specs.Range.{InRange}
+use Rattle.accounts.specs.declared.Counters.{Counters}
 use Rattle.rules.specs.declared.Reading.{Reading}
-use Rattle.rules.proofs.CountedLaws.{range-in, counted-counters}
+use Rattle.accounts.proofs.CountedLaws.{range-in, counted-counters}
 use Rattle.rules.proofs.SyndromeLaws.{health-lt}
 use Rattle.image.specs.Layout.{ownAt, imageLength}
 use Rattle.image.specs.Rows.{readingIn}

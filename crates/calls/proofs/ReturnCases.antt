@@ -10,7 +10,8 @@ use Rattle.rules.specs.Alignment.{alignedOf}
 use Rattle.vote.specs.Vote.{decision, tally, voteOf, healthOf}
 use Rattle.rules.specs.Accusation.{differsAt, accusationOf, accusationsOf}
 use Rattle.rules.specs.Syndrome.{syndromeOf, votersOf, judgementOf, outgoingOf}
-use Rattle.rules.specs.Account.{charged, rewarded, awaited, accounted, accountAt, accountedAt, countersOf}
+use Rattle.accounts.specs.Account.{charged, rewarded, awaited, accounted}
+use Rattle.accounts.specs.Round.{accountedBy, accountAt, accountedAt, countersOf}
 use Rattle.words.specs.Verdict.{andThen, outcome, thenTests}
 use Rattle.words.specs.Runs.{runsOf, runWord}
 use Rattle.setup.specs.Setup.{setupOf, setupBytes, blankSetup}

@@ -12,9 +12,11 @@ use image::load_image;
 use image::own_in;
 use presence::State;
 use presence::save::save_words;
+use setup::bounds::fades;
+use setup::bounds::fades_at;
+use setup::bounds::front_words;
 use setup::check::size_at;
 use setup::layout::LEAST_MODULES;
-use setup::layout::MODULES_AT;
 use setup::layout::MOST_MODULES;
 use words::bits::bit_at;
 use words::bits::power;
@@ -35,7 +37,7 @@ fn refuse(number: u32, index: u32) -> Answer
     }
 }
 
-// Numbers 1 to 6 of a setup.
+// Numbers 1 to 6 and 22 of a setup.
 #[no_mangle]
 pub extern "C" fn presence_check_setup(bytes: &[u8]) -> Answer
     ensures { λ r. ⌜ r ≡ checkCall (now (bytes .entry)) ⌝ }
@@ -44,7 +46,7 @@ pub extern "C" fn presence_check_setup(bytes: &[u8]) -> Answer
     refuse(v.number, v.index)
 }
 
-// Opens module `own` of a setup, and writes its image: 1 to 6, 7, 9.
+// Opens module `own` of a setup, and writes its image: 1 to 6 and 22, 7, 9.
 #[no_mangle]
 pub extern "C" fn presence_open(bytes: &[u8], own: u32, out: &mut [u8]) -> Answer
     ensures { λ r. ⌜ called r (now (out .exit)) ≡ openCall (now (bytes .entry)) own (now (out .entry)) ⌝ }
@@ -59,7 +61,8 @@ pub extern "C" fn presence_open(bytes: &[u8], own: u32, out: &mut [u8]) -> Answe
         return refuse(opened.number, opened.index);
     }
     let state = opened.state;
-    if out.len() != image_length(setup.n) {
+    let limits = setup.limits;
+    if out.len() != image_length(front_words(fades(limits)), setup.n) {
         return refuse(9, 0);
     }
     save_words(state, out);
@@ -74,7 +77,7 @@ fn refuse_image(image: &[u8]) -> Answer
     refuse(v.number, v.index)
 }
 
-// One step, from image to image: 1 to 8, 9 for the read or the output, 10.
+// One step, from image to image: 1 to 8 and 22, 9 for the read or the output, 10.
 #[no_mangle]
 pub extern "C" fn presence_step(
     image: &[u8],
@@ -88,24 +91,26 @@ pub extern "C" fn presence_step(
     if n == 0 {
         return refuse_image(image);
     }
+    let fades = fades_at(image);
     let mut criticality = [0u32; 16];
     let mut rows = [0u32; 16];
-    let mut penalty = [0u32; 16];
-    let mut reward = [0u32; 16];
+    let mut first = [0u32; 16];
+    let mut second = [0u32; 16];
     let mut returns = [0u32; 16];
     let part = load_image(
         image,
+        fades,
         n,
         &mut criticality,
         &mut rows,
-        &mut penalty,
-        &mut reward,
+        &mut first,
+        &mut second,
         &mut returns,
     );
     if !part.good {
         return refuse_image(image);
     }
-    if (out.len() != image_length(n)) | (read.len() != n * 4) {
+    if (out.len() != image.len()) | (read.len() != n * 4) {
         return refuse(9, 0);
     }
     if power(n) <= controller {
@@ -113,12 +118,13 @@ pub extern "C" fn presence_step(
     }
     let health = played(
         image,
+        fades,
         n,
         part,
         &criticality,
         &mut rows,
-        &mut penalty,
-        &mut reward,
+        &mut first,
+        &mut second,
         &mut returns,
         read,
         controller,
@@ -131,7 +137,7 @@ pub extern "C" fn presence_step(
     }
 }
 
-// Tests an image and writes it again, in its one form: 1 to 8, 9.
+// Tests an image and writes it again, in its one form: 1 to 8 and 22, 9.
 #[no_mangle]
 pub extern "C" fn presence_save(image: &[u8], out: &mut [u8]) -> Answer
     ensures { λ r. ⌜ called r (now (out .exit)) ≡ saveCall (now (image .entry)) (now (out .entry)) ⌝ }
@@ -153,14 +159,15 @@ fn word_in(image: &[u8]) -> u32
     ensures { λ r. ⌜ r ≡ handedOut (stateOf (now (image .entry))) ⌝ }
 {
     let n = size_at(image);
-    let own = own_in(image, n);
-    let mark = bit_at(word_at(image, MODULES_AT + own - 1), 22);
-    let earlier = earlier_in(image, n);
-    let latest = latest_in(image, n);
+    let front = front_words(fades_at(image));
+    let own = own_in(image, front, n);
+    let mark = bit_at(word_at(image, front + own - 1), 22);
+    let earlier = earlier_in(image, front, n);
+    let latest = latest_in(image, front, n);
     rules::judge::outgoing(mark, earlier, latest)
 }
 
-// The word to put on the bus, from an image: 1 to 8.
+// The word to put on the bus, from an image: 1 to 8 and 22.
 #[no_mangle]
 pub extern "C" fn presence_outgoing(image: &[u8]) -> WordAnswer
     ensures { λ r. ⌜ r ≡ outgoingCall (now (image .entry)) ⌝ }

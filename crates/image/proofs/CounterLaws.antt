@@ -17,8 +17,8 @@ use Rattle.setup.specs.Layout.{headAt, penaltyLimitAt, rewardLimitAt, modulesAt
 use Rattle.setup.specs.Setup.{returnLimitIn, sizeIn, limitIn, criticalityIn, setupOf}
 use Rattle.setup.proofs.SetupLaws.{SetupFits}
 use Rattle.setup.specs.declared.Setup.{Setup}
-use Rattle.rules.specs.Account.{countersOf}
-use Rattle.rules.specs.declared.Counters.{Counters}
+use Rattle.accounts.specs.Round.{countersOf}
+use Rattle.accounts.specs.declared.Counters.{Counters}
 use Rattle.image.specs.Layout.{ownAt, penaltiesAt}
 use Rattle.image.specs.Words.{viewIn}
 use Rattle.image.specs.CounterSection.{counterWord, counterIn, counterOf, CounterSection, counterOk, basisIn, counterTest, valuesIn}

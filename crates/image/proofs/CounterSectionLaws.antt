@@ -16,8 +16,8 @@ use Rattle.words.proofs.ArrayLaws.{clearFrom, array-at, array-ext, array-own, b
 use Rattle.words.proofs.CountLaws.{all-both, all-intro}
 use Rattle.setup.specs.declared.Setup.{Setup}
 use Rattle.setup.proofs.SetupLaws.{SetupFits}
-use Rattle.rules.specs.Account.{countersOf}
-use Rattle.rules.specs.declared.Counters.{Counters}
+use Rattle.accounts.specs.Round.{countersOf}
+use Rattle.accounts.specs.declared.Counters.{Counters}
 use Rattle.image.specs.CounterSection.{counterWord, counterIn, counterOf, CounterSection, Each, counterTest, sectionTest, valuesIn, sectionRoomy}
 use Rattle.image.specs.Counters.{counterSections, counterTests, countersIn, zeroCounters, countersRoomy}
 use Rattle.image.specs.declared.Basis.{Basis}

@@ -11,9 +11,9 @@ use borrow.Author.Tests.{leb-true, ltb-true, le-leb, lt-ltb, eqb-true, eq-eqb, n
 use Rattle.words.specs.Bits.{bit}
 use Rattle.words.proofs.Truth.{and-l, and-r, and-true, or-l, or-r, or-cases, beq-eq, beq-refl, clash, not-both}
 use Rattle.setup.specs.declared.Setup.{Setup}
-use Rattle.rules.specs.Account.{accountAt, countersOf}
-use Rattle.rules.specs.declared.Counters.{Counters}
-use Rattle.rules.proofs.AccountLaws.{AccountFits, counters-fit}
+use Rattle.accounts.specs.Round.{accountAt, countersOf}
+use Rattle.accounts.specs.declared.Counters.{Counters}
+use Rattle.accounts.proofs.AccountLaws.{AccountFits, counters-fit}
 use Rattle.image.specs.Counters.{penaltyFits, rewardFits, penalties, rewards, countersIn}
 use Rattle.image.proofs.CounterSectionLaws.{first, later, CountersFit, SectionHolds}
 

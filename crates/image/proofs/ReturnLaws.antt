@@ -16,10 +16,10 @@ use Rattle.setup.specs.Layout.{headAt}
 use Rattle.setup.specs.Limits.{mostReturnLimit}
 use Rattle.setup.specs.Setup.{returnLimitIn, setupOf}
 use Rattle.setup.specs.declared.Setup.{Setup}
-use Rattle.rules.specs.Account.{accountAt, countersOf}
-use Rattle.rules.specs.declared.Account.{Account}
-use Rattle.rules.specs.declared.Counters.{Counters}
-use Rattle.rules.proofs.AccountLaws.{CountFits, counts-fit}
+use Rattle.accounts.specs.Round.{accountAt, countersOf}
+use Rattle.accounts.specs.declared.Account.{Account}
+use Rattle.accounts.specs.declared.Counters.{Counters}
+use Rattle.accounts.proofs.AccountLaws.{CountFits, counts-fit}
 use Rattle.image.specs.Returns.{returnFits, returnCounts}
 use Rattle.image.specs.Counters.{countersIn}
 use Rattle.image.proofs.CounterSectionLaws.{first, later, CountersFit, SectionHolds}

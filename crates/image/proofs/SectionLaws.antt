@@ -11,7 +11,7 @@ use Rattle.words.specs.declared.Verdict.{Verdict}
 use Rattle.words.specs.Runs.{putRun, putRuns}
 use Rattle.words.proofs.VerdictLaws.{and-then-next, single-ok, single-refused}
 use Rattle.words.proofs.SearchLaws.{begins-refused, begins-well}
-use Rattle.rules.specs.declared.Counters.{Counters}
+use Rattle.accounts.specs.declared.Counters.{Counters}
 use Rattle.rules.specs.declared.Reading.{Reading}
 use Rattle.image.specs.Layout.{ownAt, rowsAt, latestAt, earlierAt, penaltiesAt, rewardsAt, returnsAt}
 use Rattle.image.specs.Words.{ownWord, syndromeWord, ownNumberOk, ownOk, syndromeOk}

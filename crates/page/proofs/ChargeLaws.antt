@@ -14,10 +14,11 @@ use Rattle.words.proofs.CountLaws.{any-ext}
 use Rattle.words.proofs.ArrayLaws.{array-at}
 use Rattle.setup.specs.declared.Setup.{Setup}
 use Rattle.setup.proofs.SetupLaws.{SetupFits}
-use Rattle.rules.specs.declared.Account.{Account}
-use Rattle.rules.specs.declared.Counters.{Counters}
-use Rattle.rules.specs.Account.{charged, rewarded, awaited, accounted, accountAt, accountedAt, countersOf}
-use Rattle.rules.proofs.AccountLaws.{AccountFits}
+use Rattle.accounts.specs.declared.Account.{Account}
+use Rattle.accounts.specs.declared.Counters.{Counters}
+use Rattle.accounts.specs.Account.{charged, rewarded, awaited, accounted}
+use Rattle.accounts.specs.Round.{accountedBy, accountAt, accountedAt, countersOf}
+use Rattle.accounts.proofs.AccountLaws.{AccountFits}
 use Rattle.page.specs.Page.{somebodyCharged}
 
 rewarded-most : (r : ℕ) (a : Account) → rewarded r a .penalty ≤ a .penalty

@@ -9,7 +9,7 @@ use Rattle.words.specs.Verdict.{allRight}
 use Rattle.setup.specs.Setup.{sizeIn, setupOf}
 use Rattle.setup.specs.Check.{wordTests}
 use Rattle.setup.specs.declared.Setup.{Setup}
-use Rattle.rules.specs.declared.Counters.{Counters}
+use Rattle.accounts.specs.declared.Counters.{Counters}
 use Rattle.rules.specs.declared.Reading.{Reading}
 use Rattle.image.specs.Layout.{ownAt, latestAt, earlierAt}
 use Rattle.image.specs.Words.{ownIn, viewIn, syndromeIn}

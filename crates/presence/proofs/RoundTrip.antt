@@ -25,7 +25,7 @@ use Rattle.setup.proofs.SetupCheckLaws.{WordsFit, setup-pass}
 use Rattle.setup.proofs.SetupRoundTrip.{read-back}
 use Rattle.setup.proofs.FrontLaws.{words-same, setup-same, setup-written}
 use Rattle.rules.specs.Hearing.{readingOf}
-use Rattle.rules.specs.Account.{countersOf}
+use Rattle.accounts.specs.Round.{countersOf}
 use Rattle.image.specs.Layout.{ownAt, latestAt, earlierAt, endAt, imageLength}
 use Rattle.image.specs.Rows.{readingIn}
 use Rattle.image.specs.Counters.{countersIn}

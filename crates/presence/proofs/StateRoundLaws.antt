@@ -19,11 +19,11 @@ use Rattle.words.proofs.VerdictLaws.{between-of, and-then-stops, and-then-goes,
 use Rattle.rules.specs.Hearing.{readingOf, causesOf}
 use Rattle.rules.specs.Alignment.{alignedOf}
 use Rattle.rules.specs.Syndrome.{judgementOf}
-use Rattle.rules.specs.Account.{accountAt, countersOf}
-use Rattle.rules.specs.Range.{InRange}
-use Rattle.rules.proofs.RangeLaws.{fits-in-range}
+use Rattle.accounts.specs.Round.{accountAt, countersOf}
+use Rattle.accounts.specs.Range.{InRange}
+use Rattle.accounts.proofs.RangeLaws.{fits-in-range}
 use Rattle.rules.specs.declared.Reading.{Reading}
-use Rattle.rules.specs.declared.Counters.{Counters}
+use Rattle.accounts.specs.declared.Counters.{Counters}
 use Rattle.rules.specs.declared.Judgement.{Judgement}
 use Rattle.image.specs.Counters.{zeroCounters}
 use Rattle.image.proofs.PenaltyLaws.{accounts-fit}

@@ -18,7 +18,7 @@ use Rattle.setup.specs.Check.{setupVerdict}
 use Rattle.setup.specs.declared.Setup.{Setup}
 use Rattle.setup.proofs.SetupLaws.{SetupFits, verdict-fits, fits-verdict as setup-accepted}
 use Rattle.rules.specs.Hearing.{readingOf}
-use Rattle.rules.specs.Account.{countersOf}
+use Rattle.accounts.specs.Round.{countersOf}
 use Rattle.rules.proofs.SyndromeLaws.{syndrome-lt}
 use Rattle.image.specs.Layout.{ownAt}
 use Rattle.image.specs.Rows.{rowFits}

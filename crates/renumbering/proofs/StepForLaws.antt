@@ -14,10 +14,10 @@ use Rattle.rules.specs.Alignment.{fromPrevious, alignedOf}
 use Rattle.vote.specs.Vote.{voteOf}
 use Rattle.rules.specs.Accusation.{differsAt}
 use Rattle.rules.specs.Syndrome.{votersOf, judgementOf}
-use Rattle.rules.specs.Account.{accounted, accountAt, accountedAt, countersOf}
+use Rattle.accounts.specs.Round.{accountedBy, accountAt, accountedAt, countersOf}
 use Rattle.rules.specs.declared.Reading.{Reading}
-use Rattle.rules.specs.declared.Account.{Account}
-use Rattle.rules.specs.declared.Counters.{Counters}
+use Rattle.accounts.specs.declared.Account.{Account}
+use Rattle.accounts.specs.declared.Counters.{Counters}
 use Rattle.rules.proofs.AlignmentLaws.{aligned-heard, aligned-row}
 use Rattle.rules.proofs.SyndromeLaws.{voter-bit, health-lt, syndrome-lt, health-bit, syndrome-bit}
 use Rattle.presence.specs.Step.{ownSyndrome, alignedFor, judgementFor, afterRound}

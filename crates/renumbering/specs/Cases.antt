@@ -39,14 +39,14 @@ four a b c d = (a ∷ b ∷ c ∷ d ∷ []) ++ replicate 12 0
 
 -- a setup with this number's send mark, and these read places and criticalities
 abbrev pub setupWith : ℕ → List ℕ → List ℕ → Setup
-setupWith marks places criticality = record { n = 4; q = 5; p = 6; r = 7; marks = marks; places = places; criticality = criticality }
+setupWith marks places criticality = record { n = 4; q = 5; limits = Counts 6 7; marks = marks; places = places; criticality = criticality }
 
 -- the state of module 3, which heard modules 1, 2 and 4
 abbrev pub before : State
 before = record {
   setup = setupWith 4 (four 4 1 2 3) (four 10 20 30 40);
   own = 3;
-  counters = record { view = 13; penalty = four 0 8 1 0; reward = four 0 0 2 0; returns = four 0 4 0 0 };
+  counters = record { view = 13; penalty = four 0 8 1 0; reward = four 0 0 2 0; score = zeros; returns = four 0 4 0 0 };
   previous = record { heard = 11; rows = four 15 1 0 6 };
   latest = 3;
   earlier = 8;
@@ -57,7 +57,7 @@ abbrev pub after : State
 after = record {
   setup = setupWith 8 (four 3 4 1 2) (four 40 10 20 30);
   own = 4;
-  counters = record { view = 11; penalty = four 0 0 8 1; reward = four 0 0 0 2; returns = four 0 0 4 0 };
+  counters = record { view = 11; penalty = four 0 0 8 1; reward = four 0 0 0 2; score = zeros; returns = four 0 0 4 0 };
   previous = record { heard = 7; rows = four 12 15 2 0 };
   latest = 6;
   earlier = 1;

@@ -1,0 +1,4 @@
+pub mod AccountLaws
+pub mod RangeLaws
+pub mod CountedLaws
+pub mod TakenBack
