@@ -14,7 +14,7 @@ fn data(name: &str) -> PathBuf {
 
 fn all_calls() -> Vec<String> {
     let files = calls_files(data("").to_str().unwrap());
-    assert_eq!(files.len(), 6);
+    assert_eq!(files.len(), 7);
     files
 }
 
@@ -101,6 +101,7 @@ fn scripts() {
     assert_eq!(outputs("e04").len(), 17);
     assert_eq!(outputs("e06").len(), 17);
     assert_eq!(outputs("e08").len(), 12);
+    assert_eq!(outputs("e09").len(), 17);
 }
 
 /// Own scripts hold every number that a run can be refused by, and runs that end in and out of the limit.
