@@ -78,14 +78,14 @@ class Check(unittest.TestCase):
         self.assertIn("has 7 words", check.refusal(fading[:4]).reason)
 
     def test_the_order_of_refusals_with_fading(self):
-        # each script has what the next ones have wrong, too
-        wrong = [f"{2**29 | 4:08X}", "00000001", "3FF0000000000001", "0000000000000000", "44880001", "41480001", "41880001", "42080001", "90000000"]
-        right = ["10000004", "00000000", "3FF0000000000000", "412E848000000000", "40880001", "41080001", "41880001", "42080001", "60000000 90000001"]
-        for i, refused in enumerate([(2, 0), (22, 1), (22, 2), (22, 4), (5, 6), (6, 7), (12, 10)]):
-            with self.subTest(refused):
-                first = i if i < 6 else 8
-                self.assertEqual(check.refusal(bytes.fromhex(" ".join(right[:first] + wrong[first:])))[:2], refused)
-        self.assertIsNone(check.refusal(bytes.fromhex(" ".join(right))))
+        # wrong, right, and the refusal if what stands before is right and all that follows is wrong
+        parts = [("20000004", "10000004", (2, 0)), ("00000001", "00000000", (22, 1)), ("3FF0000000000001", "3FF0000000000000", (22, 2)),
+                 ("0000000000000000", "412E848000000000", (22, 4)), ("44880001", "40880001", (5, 6)),
+                 ("41480001 41880001 42080001", "41080001 41880001 42080001", (6, 7)), ("90000000", "60000000", (12, 10)), ("90000000", "90000001", (12, 11))]
+        for i, (_, _, refused) in enumerate(parts):
+            data = bytes.fromhex(" ".join([right for _, right, _ in parts[:i]] + [wrong for wrong, _, _ in parts[i:]]))
+            self.assertEqual(check.refusal(data)[:2], refused)
+        self.assertIsNone(check.refusal(bytes.fromhex(" ".join(right for _, right, _ in parts))))
 
 
 if __name__ == "__main__":

@@ -74,6 +74,13 @@ play 6  # rounds 8 to 13
             accepted += refused is None
         self.assertGreater(accepted, 4_000)
 
+    def test_doubles_are_written_as_the_shortest_decimals(self):
+        cases = [("0.1", "0.30000000000000004"), ("0.0", "5e-324"), ("5e-324", "2.2250738585072014e-308"), ("1.0", "1000000.0"),
+                 ("0.9999999999999999", "999999.9999999999"), ("1e-05", "3.3333333333333335")]
+        for factor, limit in cases:
+            bits = struct.unpack(">QQ", struct.pack(">dd", float(factor), float(limit)))
+            self.assertIn(f"\nfading factor {factor} limit {limit}\n", disassemble(faded(*bits)))
+
     def test_a_wrong_double_is_raw_words(self):
         data = faded(0x80000000_00000000, 0x7FF80000_00000001)
         self.assertEqual(disassemble(data), """\
