@@ -1,5 +1,5 @@
--- Rule 8 on lent arrays: the accounts of modules past n, which are taken along, stay as they are, and the accounts of the others are those of the
--- definition.
+-- Rule 8 by counts on lent arrays: the accounts of modules past n, which are taken along, stay as they are, and the accounts of the others are those
+-- of the definition.
 use mathlib.Core.Path.{_≡_, refl, ap, _∙_, sym}
 use mathlib.Core.Bool.{Bool, true}
 use mathlib.Core.List.{List}
@@ -8,27 +8,33 @@ use native.Mathlib.Omega.{arith}
 use native.Mathlib.Decide.{decLt}
 use lib.ListN.{getD}
 use lib.Dec.{leb}
+use lib.Ieee.{binary64, ofBits}
 use borrow.Author.Tests.{le-leb}
 use Rattle.words.specs.Bits.{bit, pack}
 use Rattle.words.specs.Array.{array, replaced, Filled}
 use Rattle.words.proofs.BitLaws.{bit-high, pack-ext, pack-low}
 use Rattle.words.proofs.ArrayLaws.{array-ext, filled-above, replaced-ahead, replaced-array}
-
+use Rattle.doubles.specs.Array.{zeros}
+use Rattle.doubles.proofs.Rounding.{zero-bits}
 use Rattle.setup.specs.declared.Setup.{Setup}
+use Rattle.setup.specs.declared.Limits.the-variants.{Counts}
 use Rattle.accounts.specs.declared.Account.{Account}
 use Rattle.accounts.specs.declared.Counters.{Counters}
-use Rattle.accounts.specs.Account.{uncounted, charged, accounted, accountAt, accountedAt, accountIn, countedAt, countersOf}
+use Rattle.accounts.specs.Account.{uncounted, charged, rewarded, accounted}
+use Rattle.accounts.specs.Round.{accountAt, accountedAt, countersOf}
+use Rattle.accounts.specs.Lent.{accountIn, countedAt}
 use Rattle.accounts.specs.Range.{InRange}
+use Rattle.accounts.proofs.RoundLaws.{counts-at, scores-none}
 
 -- x, y and z are the arrays of the penalties, the rewards and the return counts
 module _ (p : ℕ) (x y z : List ℕ) where
   pub account-read : {u v w : ℕ} (j : ℕ) → u ≡ getD x j 0 → v ≡ getD y j 0 → w ≡ getD z j 0
-      → record { present = leb u p; penalty = u; reward = v; returns = w } ≡ accountIn p x y z j
+      → record { present = leb u p; penalty = u; reward = v; score = ofBits binary64 0; returns = w } ≡ accountIn p x y z j
   unfolding accountIn
-  account-read j eu ev ew = rw (eu, ev, ew)
+  account-read j eu ev ew = rw (eu, ev, ew, zero-bits)
 
   pub counted-by : {u v w : ℕ} {b : Bool} {t : Account} (r q health : ℕ) (k : List ℕ) (j : ℕ) → u ≡ getD x j 0 → v ≡ getD y j 0 → w ≡ getD z j 0 → b ≡ bit health j
-      → t ≡ accounted p r q (getD k j 0) b (record { present = leb u p; penalty = u; reward = v; returns = w })
+      → t ≡ accounted p r q (getD k j 0) b (record { present = leb u p; penalty = u; reward = v; score = ofBits binary64 0; returns = w })
       → t ≡ countedAt p r q health k x y z j
   unfolding countedAt
   counted-by r q health k j eu ev ew eb e = rw (eb, account-read j eu ev ew) at e
@@ -95,32 +101,35 @@ module _ (n p r q health : ℕ) (k x y z : List ℕ) (h : health < 2 ^ n) (fk : 
     counted-array m z (λ a. a .returns) refl lo hi fz ez,
   )
 
--- counters whose view goes by their penalties are counted as the definition counts them
-pub counted-is : (s : Setup) (health : ℕ) (c : Counters) (j : ℕ) → bit (c .view) j ≡ leb (getD (c .penalty) j 0) (s .p)
-    → countedAt (s .p) (s .r) (s .q) health (s .criticality) (c .penalty) (c .reward) (c .returns) j ≡ accountedAt s health c j
-unfolding countedAt accountedAt accountAt accountIn
-counted-is s health c j e = rw e
-
--- and are in range where those of the definition are
+-- counters are in range where those of the definition are
 pub range-in : (p q k : ℕ) (c : Counters) (j : ℕ) → InRange p q k (accountAt c j) → InRange p q k (accountIn p (c .penalty) (c .reward) (c .returns) j)
 unfolding accountAt accountIn
 range-in p q k c j f = record { penalty = f .penalty; charge = f .charge; reward = f .reward; returns = f .returns; present = refl; below = f .below }
 
--- all counters
-pub counted-counters : (s : Setup) (health : ℕ) (c : Counters) → ((j : ℕ) → j < s .n → accountAt c j .present ≡ leb (accountAt c j .penalty) (s .p))
-    → record {
-      view = pack (s .n) (λ j. countedAt (s .p) (s .r) (s .q) health (s .criticality) (c .penalty) (c .reward) (c .returns) j .present);
-      penalty = array (s .n) (λ j. countedAt (s .p) (s .r) (s .q) health (s .criticality) (c .penalty) (c .reward) (c .returns) j .penalty);
-      reward = array (s .n) (λ j. countedAt (s .p) (s .r) (s .q) health (s .criticality) (c .penalty) (c .reward) (c .returns) j .reward);
-      returns = array (s .n) (λ j. countedAt (s .p) (s .r) (s .q) health (s .criticality) (c .penalty) (c .reward) (c .returns) j .returns);
-    } ≡ countersOf s health c
-unfolding countersOf accountAt
-counted-counters s health c v =
-    let same : (j : ℕ) → j < s .n → countedAt (s .p) (s .r) (s .q) health (s .criticality) (c .penalty) (c .reward) (c .returns) j ≡ accountedAt s health c j =
-    λ j h. counted-is s health c j (v j h) in
-    λ i. record {
-      view = pack-ext (s .n) _ _ (λ j h. ap (λ (a : Account). a .present) (same j h)) i;
-      penalty = array-ext (s .n) _ _ (λ j h. ap (λ (a : Account). a .penalty) (same j h)) i;
-      reward = array-ext (s .n) _ _ (λ j h. ap (λ (a : Account). a .reward) (same j h)) i;
-      returns = array-ext (s .n) _ _ (λ j h. ap (λ (a : Account). a .returns) (same j h)) i;
-    }
+-- and those whose view goes by their penalties are counted as the definition counts them
+module _ (s : Setup) (p r : ℕ) (e : s .limits ≡ Counts p r) (health : ℕ) (c : Counters) where
+  abbrev after : ℕ → Account
+  after j = countedAt p r (s .q) health (s .criticality) (c .penalty) (c .reward) (c .returns) j
+
+  counted-is : (j : ℕ) → bit (c .view) j ≡ leb (getD (c .penalty) j 0) p → after j ≡ accountedAt s health c j
+  unfolding countedAt accountAt accountIn accounted charged rewarded
+  counted-is j v = rw (counts-at s p r e health c j, v)
+
+  pub counted-counters : s .n ≤ 16 → ((j : ℕ) → j < s .n → accountAt c j .present ≡ leb (accountAt c j .penalty) p)
+      → record {
+        view = pack (s .n) (λ j. after j .present);
+        penalty = array (s .n) (λ j. after j .penalty);
+        reward = array (s .n) (λ j. after j .reward);
+        score = zeros;
+        returns = array (s .n) (λ j. after j .returns);
+      } ≡ countersOf s health c
+  unfolding countersOf accountAt
+  counted-counters small v =
+      let same : (j : ℕ) → j < s .n → after j ≡ accountedAt s health c j = λ j h. counted-is j (v j h) in
+      λ i. record {
+        view = pack-ext (s .n) _ _ (λ j h. ap (λ (a : Account). a .present) (same j h)) i;
+        penalty = array-ext (s .n) _ _ (λ j h. ap (λ (a : Account). a .penalty) (same j h)) i;
+        reward = array-ext (s .n) _ _ (λ j h. ap (λ (a : Account). a .reward) (same j h)) i;
+        score = sym (scores-none s p r e health c small) i;
+        returns = array-ext (s .n) _ _ (λ j h. ap (λ (a : Account). a .returns) (same j h)) i;
+      }

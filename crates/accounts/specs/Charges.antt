@@ -2,7 +2,7 @@
 -- since the last good round. (document 02, E9) Proved in proofs/Charges.antt.
 use Prim.Native.Nat.{ℕ, zero, suc, _+_, _≤_, _<_}
 use mathlib.Core.Path.{_≡_}
-use mathlib.Core.Bool.{Bool, true, cond}
+use mathlib.Core.Bool.{true, cond}
 use lib.Ieee.{Float}
 use Rattle.words.specs.Bits.{bit}
 use Rattle.doubles.specs.Double.{double}

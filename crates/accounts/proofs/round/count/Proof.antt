@@ -9,7 +9,7 @@ use Rattle.words.specs.Array.{replaced}
 use Rattle.words.proofs.BitLaws.{pack-step, packed-lt}
 use Rattle.words.proofs.ArrayLaws.{replaced-step}
 use Rattle.accounts.specs.declared.Account.{Account}
-use Rattle.accounts.specs.Account.{countedAt}
+use Rattle.accounts.specs.Lent.{countedAt}
 use Rattle.accounts.specs.Range.{InRange}
 use Rattle.accounts.proofs.CountedLaws.{ahead, account-read, counted-by, all-range, counted-all}
 use Rattle.accounts.proofs.round.count.Statement.{statement}
