@@ -37,7 +37,9 @@ import sys
 
 HERE = os.path.dirname(os.path.abspath(__file__))
 ROOT = os.path.normpath(os.path.join(HERE, "..", ".."))
-GCC = ["gcc", "-std=c99", "-O2", "-Wall", "-Wextra", "-Werror", "-Wl,--gc-sections",
+# a score is rounded after each operation (E9 of document 02), so none may be fused with another
+ROUNDED = "-ffp-contract=off"
+GCC = ["gcc", "-std=c99", "-O2", ROUNDED, "-Wall", "-Wextra", "-Werror", "-Wl,--gc-sections",
        "-I" + ROOT + "/include", "-I" + ROOT + "/harness/c", "-I" + HERE]
 STACK = ["stack/stack.c", "stack/given.c", "stack/calls.c", "stack/painted.c"]
 ADDRESS_BYTES = 8  # of a return address
