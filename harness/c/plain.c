@@ -7,8 +7,9 @@
  * the arrays and is bit j-1 of the vectors.
  *
  * A setup has one of two forms: counts, with P and R, or fading, with a factor
- * and a limit (E9).  An image has the form of its setup; its words after the
- * setup stand at the same distance from the setup's end in both.
+ * and a limit (E9).  An image has the form of its setup.  Scores take as many
+ * words as penalties and rewards, so what comes after the setup stands at the
+ * same distance from its end in both forms.
  *
  * load_setup, load_state and plain_step are longer than 40 lines.  They stay
  * so because `make measure` counts their instructions, and gcc -O2 makes other
@@ -208,7 +209,7 @@ static presence_answer load_setup(struct setup *s, const uint8_t *bytes,
         s->n < 2 || s->n > MAX || s->return_limit > 1000000)
         return answer(2, 0, 0);
 
-    /* The second word's kind tells the form, of a lone head word counts. */
+    /* The kind of the second word tells the form; a lone head is of counts. */
     s->fading = len > 4 && kind_of(get_word(bytes, 1)) == FADING;
     s->words = s->n + (s->fading ? 6 : 3);
     if (len != 4 * (size_t)(image ? image_words(s) : s->words))
