@@ -124,6 +124,7 @@ static void two_lives(enum form form, const uint8_t *setup, uint32_t n,
     struct renumbering r;
 
     any_numbers(&r, form, n);
+    fresh_image(form, image, setup, n, own); /* if the opening is refused */
     open_module(setup, setup_len, own, len, 0, 0, image);
     move_image(rebuilt, &r, image);
     open_module(rebuilt, setup_len, r.number[own - 1], len, 0, 0, rebuilt);
