@@ -1,4 +1,5 @@
 pub mod ModuleCallLaws
+pub mod KeptLaws
 pub mod ImageStepLaws
 pub mod CallAnswers
 pub mod Refusals

@@ -17,7 +17,10 @@ use Rattle.rules.specs.declared.Reception.{Reception}
 use Rattle.rules.specs.Syndrome.{outgoingOf}
 use Rattle.words.proofs.Truth.{cond-true, cond-false}
 use Rattle.words.specs.Verdict.{verdict, accepted, isAccepted, between, allRight}
-use Rattle.setup.specs.Setup.{sizeIn, markIn, setupOf, blankSetup}
+use Rattle.setup.specs.Layout.{frontWords}
+use Rattle.setup.specs.Limits.{fades}
+use Rattle.setup.specs.Setup.{sizeIn, markIn, fadesIn, frontIn, frontOf, setupOf, blankSetup}
+use Rattle.setup.proofs.LimitLaws.{read-fades}
 use Rattle.words.proofs.VerdictLaws.{between-of}
 use Rattle.setup.specs.Check.{checkSetup, readSetup}
 use Rattle.setup.specs.declared.Setup.{Setup}
@@ -59,20 +62,38 @@ pub opened-most : (s : Setup) (own : ℕ) {o : Opened} → o ≡ openOf s own �
 opened-most s own {o} e z = open-passed s own (ap (λ (x : Opened). x .number) (sym e) ∙ z) .0 .most
 
 -- which it has
-pub opened-size : (s : Setup) (own : ℕ) {o : Opened} → o ≡ openOf s own → o .number ≡ 0 → o .state .setup .n ≡ s .n
+pub opened-setup : (s : Setup) (own : ℕ) {o : Opened} → o ≡ openOf s own → o .number ≡ 0 → o .state .setup ≡ s
 unfolding fresh
-opened-size s own {o} e z =
-    ap (λ (x : Opened). x .state .setup .n) e
-    ∙ ap (λ (x : State). x .setup .n) (open-fresh s own (ap (λ (x : Opened). x .number) (sym e) ∙ z))
+opened-setup s own {o} e z =
+    ap (λ (x : Opened). x .state .setup) e
+    ∙ ap (λ (x : State). x .setup) (open-fresh s own (ap (λ (x : Opened). x .number) (sym e) ∙ z))
 
--- the output has room for a state of n modules, or not
-pub room-is : (st : State) {n : ℕ} (out : List ℕ) → st .setup .n ≡ n → length out ≡ imageLength n → roomFor st out ≡ true
+-- the output has room for a state with this setup, or not
+pub room-is : (st : State) {s : Setup} (out : List ℕ) → st .setup ≡ s → length out ≡ imageLength (frontOf s) (s .n) → roomFor st out ≡ true
 unfolding roomFor
-room-is st out e l = eq-eqb (length out) _ (l ∙ ap imageLength (sym e))
+room-is st out e l = eq-eqb (length out) _ (l ∙ ap (λ (x : Setup). imageLength (frontOf x) (x .n)) (sym e))
 
-pub room-not : (st : State) {n : ℕ} (out : List ℕ) → st .setup .n ≡ n → (length out ≡ imageLength n → ⊥) → roomFor st out ≡ false
+pub room-not : (st : State) {s : Setup} (out : List ℕ) → st .setup ≡ s → (length out ≡ imageLength (frontOf s) (s .n) → ⊥) → roomFor st out ≡ false
 unfolding roomFor
-room-not st out e f = ne-eqb (length out) _ (λ l. f (l ∙ ap imageLength e))
+room-not st out e f = ne-eqb (length out) _ (λ l. f (l ∙ ap (λ (x : Setup). imageLength (frontOf x) (x .n)) e))
+
+-- a setup that is read is of the form that its second word says
+pub read-front : (s : List ℕ) → frontOf (setupOf s) ≡ frontIn (wordAt s)
+unfolding setupOf
+read-front s = ap frontWords (read-fades (fadesIn (wordAt s)) (wordAt s))
+
+pub read-form : (s : List ℕ) → fades (setupOf s .limits) ≡ fadesIn (wordAt s)
+unfolding setupOf
+read-form s = read-fades (fadesIn (wordAt s)) (wordAt s)
+
+-- an accepted image has the length of its state's image
+pub read-length : (s : List ℕ) → checkImage s .number ≡ 0 → length s ≡ imageLength (frontOf (stateOf s .setup)) (stateOf s .setup .n)
+unfolding stateOf
+read-length s z = image-pass s z .size ∙ sized
+  where
+    sized : imageLength (frontIn (wordAt s)) (sizeIn (wordAt s 0)) ≡ imageLength (frontOf (setupOf s)) (setupOf s .n)
+    unfolding setupOf
+    sized = ap (λ (k : ℕ). imageLength k (sizeIn (wordAt s 0))) (sym (read-front s))
 
 -- ---- the word to put on the bus
 
@@ -82,9 +103,9 @@ unfolding acceptedStep outgoingFor outgoingOf handedOut afterRound markOf
 handed-out st this causes = refl
 
 -- n is the size, own the own number; wm is the word of the module itself, we and wl are the two syndromes
-module _ (s : List ℕ) (f : ImageFits s) {n own : ℕ} (en : n ≡ sizeIn (wordAt s 0)) (eo : own ≡ ownIn (wordAt s (ownAt n))) where
-  own-is : own ≡ ownIn (wordAt s (ownAt (sizeIn (wordAt s 0))))
-  own-is = eo ∙ ap (λ (m : ℕ). ownIn (wordAt s (ownAt m))) en
+module _ (s : List ℕ) (f : ImageFits s) {n front own : ℕ} (en : n ≡ sizeIn (wordAt s 0)) (ef : front ≡ frontIn (wordAt s)) (eo : own ≡ ownIn (wordAt s (ownAt front n))) where
+  own-is : own ≡ ownIn (wordAt s (ownAt (frontIn (wordAt s)) (sizeIn (wordAt s 0))))
+  own-is = eo ∙ ap₂ (λ (k m : ℕ). ownIn (wordAt s (ownAt k m))) ef en
 
   pub own-in-range : (1 ≤ own) × (own ≤ n)
   unfolding stateOf setupOf
@@ -93,24 +114,24 @@ module _ (s : List ℕ) (f : ImageFits s) {n own : ℕ} (en : n ≡ sizeIn (word
       (omega (arith, own-is, g .first), omega (arith, own-is, g .last, en))
 
   -- the mark of a module, as its own word in the image has it
-  mark-is : bit (wordAt s (3 + own - 1)) 22 ≡ markOf (stateOf s)
+  mark-is : bit (wordAt s (front + own - 1)) 22 ≡ markOf (stateOf s)
   unfolding markOf stateOf setupOf
   mark-is =
       let r = own-in-range in
-      let i : 3 + own - 1 ≡ 3 + (own - 1) = omega (arith, r .0) in
+      let i : front + own - 1 ≡ frontIn (wordAt s) + (own - 1) = omega (arith, r .0, ef) in
       let h : own - 1 < sizeIn (wordAt s 0) = omega (arith, r .0, r .1, en) in
       ap (λ (k : ℕ). bit (wordAt s k) 22) i
-      ∙ sym (bit-pack (sizeIn (wordAt s 0)) (λ j. markIn (wordAt s (3 + j))) (own - 1) h)
-      ∙ ap (λ (k : ℕ). bit (pack (sizeIn (wordAt s 0)) (λ j. markIn (wordAt s (3 + j)))) (k - 1)) own-is
+      ∙ sym (bit-pack (sizeIn (wordAt s 0)) (λ j. markIn (wordAt s (frontIn (wordAt s) + j))) (own - 1) h)
+      ∙ ap (λ (k : ℕ). bit (pack (sizeIn (wordAt s 0)) (λ j. markIn (wordAt s (frontIn (wordAt s) + j)))) (k - 1)) own-is
 
-  pub word-made : {wm we wl r : ℕ} {mark : Bool} → wm ≡ wordAt s (3 + own - 1) → mark ≡ bit wm 22 → we ≡ syndromeIn (wordAt s (earlierAt n))
-      → wl ≡ syndromeIn (wordAt s (latestAt n)) → r ≡ outgoingOf mark we wl → r ≡ handedOut (stateOf s)
+  pub word-made : {wm we wl r : ℕ} {mark : Bool} → wm ≡ wordAt s (front + own - 1) → mark ≡ bit wm 22 → we ≡ syndromeIn (wordAt s (earlierAt front n))
+      → wl ≡ syndromeIn (wordAt s (latestAt front n)) → r ≡ outgoingOf mark we wl → r ≡ handedOut (stateOf s)
   unfolding handedOut outgoingOf stateOf
   word-made {mark = mark} em eb ee el h =
       let b : mark ≡ markOf (stateOf s) = eb ∙ ap (λ (x : ℕ). bit x 22) em ∙ mark-is in
       h
-      ∙ ap₂ (λ (x y : ℕ). busWord (cond mark x y)) (ee ∙ ap (λ (m : ℕ). syndromeIn (wordAt s (earlierAt m))) en)
-      (el ∙ ap (λ (m : ℕ). syndromeIn (wordAt s (latestAt m))) en)
+      ∙ ap₂ (λ (x y : ℕ). busWord (cond mark x y)) (ee ∙ ap₂ (λ (k m : ℕ). syndromeIn (wordAt s (earlierAt k m))) ef en)
+      (el ∙ ap₂ (λ (k m : ℕ). syndromeIn (wordAt s (latestAt k m))) ef en)
       ∙ ap (λ (x : Bool). busWord (cond x (stateOf s .earlier) (stateOf s .latest))) b
 
 module _ (image : List ℕ) {v : Verdict} (e : v ≡ checkImage image) where
@@ -254,13 +275,13 @@ read-valid image h z = subst Valid (sym h) (load-valid image z)
 -- ---- an accepted image and an output of its length
 
 module _ (image out : List ℕ) (z : checkImage image .number ≡ 0) where
-  same-room : (length out ≡ length image) → roomFor (stateOf image) out ≡ true
-  unfolding roomFor stateOf setupOf
-  same-room l = eq-eqb (length out) _ (l ∙ image-pass image z .size)
+  pub same-room : (length out ≡ length image) → roomFor (stateOf image) out ≡ true
+  unfolding roomFor
+  same-room l = eq-eqb (length out) _ (l ∙ read-length image z)
 
   pub copy-no-room : (length out ≡ length image → ⊥) → roomFor (stateOf image) out ≡ false
-  unfolding roomFor stateOf setupOf
-  copy-no-room f = ne-eqb (length out) _ (λ l. f (l ∙ sym (image-pass image z .size)))
+  unfolding roomFor
+  copy-no-room f = ne-eqb (length out) _ (λ l. f (l ∙ sym (read-length image z)))
 
   -- saving copies the bytes
   pub copy-wrote : {v : Verdict} {r : Answer} {b : List ℕ} → v ≡ checkImage image → r ≡ answer 0 0 0 → ((i : ℕ) → getD image i 0 < 256)

@@ -42,9 +42,7 @@ fn kept(
         × (now (returns .exit) ≡ keptReturns limits n q health (now (criticality .entry)) (now (first .entry)) (now (second .entry)) (now (returns .entry))) ⌝ }
 {
     match limits {
-        Limits::Counts(p, r) => {
-            count(n, p, r, q, health, criticality, first, second, returns)
-        }
+        Limits::Counts(p, r) => { count(n, p, r, q, health, criticality, first, second, returns) }
         Limits::Fading(factor, limit) => {
             fade(n, factor, limit, q, health, first, second, returns)
         }
@@ -89,7 +87,16 @@ pub fn played(
         rows,
         &mut this,
     );
-    let view = kept(limits, n, part.q, j.health, criticality, first, second, returns);
+    let view = kept(
+        limits,
+        n,
+        part.q,
+        j.health,
+        criticality,
+        first,
+        second,
+        returns,
+    );
     copy_words(image, setup_words(front, n), out);
     save_sections(
         fades,

@@ -11,6 +11,7 @@ use lib.Dec.{eqb, ltb}
 use borrow.Author.Tests.{eqb-true, eq-eqb, ltb-true, lt-ltb}
 use Rattle.words.specs.Word.{wordAt}
 use Rattle.words.specs.Bits.{bit}
+use Rattle.words.proofs.ArrayLaws.{clearFrom, array-clear}
 use Rattle.words.proofs.Truth.{and-true, or-l, or-r, or-cases}
 use Rattle.setup.specs.Layout.{headAt}
 use Rattle.setup.specs.Limits.{mostReturnLimit}
@@ -19,10 +20,11 @@ use Rattle.setup.specs.declared.Setup.{Setup}
 use Rattle.accounts.specs.Round.{accountAt, countersOf}
 use Rattle.accounts.specs.declared.Account.{Account}
 use Rattle.accounts.specs.declared.Counters.{Counters}
-use Rattle.accounts.proofs.AccountLaws.{CountFits, counts-fit}
+use Rattle.accounts.proofs.AwaitedLaws.{CountFits}
+use Rattle.accounts.proofs.RoundLaws.{counts-fit}
 use Rattle.image.specs.Returns.{returnFits, returnCounts}
 use Rattle.image.specs.Counters.{countersIn}
-use Rattle.image.proofs.CounterSectionLaws.{first, later, CountersFit, SectionHolds}
+use Rattle.image.proofs.CounterSectionLaws.{SectionHolds}
 
 -- ---- one return count
 
@@ -73,20 +75,28 @@ count-fits q a f = go (a .present) refl
 
 -- ---- those of all modules
 
--- within the limits of a setup
-pub returns-below : (s : Setup) (c : Counters) → CountersFit s c → (j : ℕ) → j < s .n → accountAt c j .returns ≤ s .q - 1
+-- whoever has one that fits has waited fewer than Q rounds
+pub return-waits : (q : ℕ) (present : Bool) (count : ℕ) → returnFits q present count ≡ true → count ≤ q - 1
+return-waits q present count e =
+    ⊎-elim (λ (z : count ≡ 0). omega arith) (λ (t : (present ≡ false) × (count < q)). omega (arith, t .1)) (return-is q present count e)
+
+-- after a round
+pub returns-after : (s : Setup) (health : ℕ) (c : Counters) → s .n ≤ 16 → (j : ℕ) → j < s .n
+    → returnFits (s .q) (bit (countersOf s health c .view) j) (getD (countersOf s health c .returns) j 0) ≡ true
 unfolding accountAt
-returns-below s c f j h =
-    ⊎-elim (λ (z : getD (c .returns) j 0 ≡ 0). omega arith) (λ (t : (bit (c .view) j ≡ false) × (getD (c .returns) j 0 < s .q)). omega (arith, t .1))
-    (return-is (s .q) (bit (c .view) j) (getD (c .returns) j 0) (f .fits returnCounts (later (later first)) j h))
+returns-after s health c small j h = count-fits (s .q) (accountAt (countersOf s health c) j) (counts-fit s health c small j h)
+
+pub returns-clear : (s : Setup) (health : ℕ) (c : Counters) → clearFrom (s .n) (countersOf s health c .returns) ≡ true
+unfolding countersOf
+returns-clear s health c = array-clear (s .n) _
 
 pub returns-hold : SectionHolds returnCounts
-unfolding countersIn countersOf accountAt
+unfolding countersIn countersOf
 returns-hold = record {
   read = λ s n. refl;
   zeros = λ view. refl;
-  opened = λ s j f. refl;
+  opened = λ p r s j f. refl;
   made = λ s health c. (_, refl);
-  kept = λ s health c f fits j h. count-fits (s .q) (accountAt (countersOf s health c) j) (counts-fit s health c (f .most) j h);
-  small = λ s c f fits j h. omega (arith, return-small (s .q) (bit (c .view) j) (getD (c .returns) j 0) (f .q-most) (fits j h));
+  kept = λ p r s health c e f fits j h. returns-after s health c (f .most) j h;
+  small = λ p r s c l f fits j h. omega (arith, return-small (s .q) (bit (c .view) j) (getD (c .returns) j 0) (f .q-most) (fits j h));
 }

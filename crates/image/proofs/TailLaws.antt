@@ -10,11 +10,11 @@ use borrow.Author.Tests.{eqb-true, eq-eqb}
 use Rattle.words.specs.Word.{wordAt}
 use Rattle.words.specs.Verdict.{accepted, andThen, firstRefusal}
 use Rattle.words.specs.declared.Verdict.{Verdict}
-use Rattle.words.proofs.VerdictLaws.{numbered, Passed, tests-pass, tests-ok, tests-join, and-then-pass, and-then-next}
+use Rattle.words.proofs.VerdictLaws.{numbered, Passed, tests-pass, tests-ok, tests-join, numbers-join, and-then-pass, and-then-next}
 use Rattle.setup.specs.Layout.{frontWords}
 use Rattle.setup.specs.Setup.{sizeIn, fadesIn}
 use Rattle.setup.specs.Check.{wordTests, checkHead, checkWords}
-use Rattle.setup.proofs.SetupCheckLaws.{HeadFits, WordsFit, head-pass, head-ok, words-pass, words-ok}
+use Rattle.setup.proofs.SetupCheckLaws.{HeadFits, WordsFit, word-numbers, head-pass, head-ok, words-pass, words-ok}
 use Rattle.image.specs.Layout.{ownAt, latestAt, earlierAt}
 use Rattle.image.specs.Words.{ownNumberOk, ownOk, syndromeOk}
 use Rattle.image.specs.Rows.{rowTest}
@@ -64,7 +64,7 @@ pub record ImageFits (s : List ℕ) : Type 0 where
 
 pub image-numbers : (s : List ℕ) (n : ℕ) → numbered (imageTests s n) ≡ true
 unfolding numbered
-image-numbers s n = numbered-join (wordTests s n) _ (word-numbers s n) (numbers (fadesIn (wordAt s)) (wordAt s) n)
+image-numbers s n = numbers-join (wordTests s n) _ (word-numbers s n) (numbers (fadesIn (wordAt s)) (wordAt s) n)
 
 -- the setup's words, then the others
 pub tests-parts : (s : List ℕ) (n : ℕ) → firstRefusal (imageTests s n) ≡ andThen (checkWords s n) (checkTail (fadesIn (wordAt s)) (wordAt s) n)

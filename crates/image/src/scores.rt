@@ -92,13 +92,7 @@ pub fn load_scores(
 }
 
 // Writes the scores and the return counts, module by module.
-pub fn save_scores(
-    n: usize,
-    high: &[u32; 16],
-    low: &[u32; 16],
-    returns: &[u32; 16],
-    out: &mut [u8],
-)
+pub fn save_scores(n: usize, high: &[u32; 16], low: &[u32; 16], returns: &[u32; 16], out: &mut [u8])
     requires { ⌜ (n ≤ 16) × (length (now out) ≡ imageLength (frontWords true) n) × ((j : ℕ) → j < n → getD (now returns) j 0 < numberUnit) ⌝ }
     ensures { λ _. ⌜ now (out .exit) ≡ putRun (putRun (now (out .entry)) (accountsAt (frontWords true) n) (n + n)
         (λ i. cond (eqb (i % 2) 0) (getD (now (high .entry)) (i / 2) 0) (getD (now (low .entry)) (i / 2) 0)))

@@ -12,6 +12,7 @@ use Rattle.words.specs.Verdict.{verdict, accepted, isAccepted, single, andThen,
 use Rattle.words.specs.Runs.{runWord}
 use Rattle.words.specs.declared.Verdict.{Verdict}
 use Rattle.words.proofs.VerdictLaws.{and-then-next, and-then-stays, single-ok, single-refused}
+use Rattle.setup.specs.Setup.{frontOf}
 use Rattle.setup.specs.Check.{setupVerdict}
 use Rattle.image.specs.Layout.{imageLength}
 use Rattle.image.specs.Check.{checkTail, checkImage}
@@ -88,23 +89,23 @@ module _ {v : Verdict} (st : State) (out : List ℕ) (e : v ≡ stateVerdict st)
       let h : v ≡ saveVerdict st out = sym (and-then-stays v _ f) ∙ goes-on in
       (h, stays h f)
 
-  pub save-short : {r : Verdict} → r ≡ verdict 9 0 → v .number ≡ 0 → (length out ≡ imageLength (st .setup .n) → ⊥)
+  pub save-short : {r : Verdict} → r ≡ verdict 9 0 → v .number ≡ 0 → (length out ≡ imageLength (frontOf (st .setup)) (st .setup .n) → ⊥)
       → (r ≡ saveVerdict st out) × (out ≡ savedOut st out)
   unfolding roomFor
   save-short {r} q z f =
       let h : r ≡ saveVerdict st out =
-      q ∙ sym (single-refused (eqb (length out) (imageLength (st .setup .n))) 9 0 (ne-eqb _ _ f)) ∙ sym (and-then-next v _ z) ∙ goes-on
+      q ∙ sym (single-refused (eqb (length out) (imageLength (frontOf (st .setup)) (st .setup .n))) 9 0 (ne-eqb _ _ f)) ∙ sym (and-then-next v _ z) ∙ goes-on
       in
       (h, stays h (λ y. nine (ap (λ (x : Verdict). x .number) (sym q) ∙ y)))
     where
       nine : _≡_ {A = ℕ} 9 0 → ⊥
       nine y = omega arith
 
-  pub save-done : {r : Verdict} {o : List ℕ} → r ≡ accepted → o ≡ imageOf st → v .number ≡ 0 → length out ≡ imageLength (st .setup .n)
+  pub save-done : {r : Verdict} {o : List ℕ} → r ≡ accepted → o ≡ imageOf st → v .number ≡ 0 → length out ≡ imageLength (frontOf (st .setup)) (st .setup .n)
       → (r ≡ saveVerdict st out) × (o ≡ savedOut st out)
   unfolding roomFor savedOut
   save-done {r} {o} q b z l =
       let h : r ≡ saveVerdict st out =
-      q ∙ sym (single-ok (eqb (length out) (imageLength (st .setup .n))) 9 0 (eq-eqb _ _ l)) ∙ sym (and-then-next v _ z) ∙ goes-on
+      q ∙ sym (single-ok (eqb (length out) (imageLength (frontOf (st .setup)) (st .setup .n))) 9 0 (eq-eqb _ _ l)) ∙ sym (and-then-next v _ z) ∙ goes-on
       in
       (h, b ∙ sym (cond-true (imageOf st) out (ap isAccepted (sym h ∙ q))))

@@ -5,7 +5,7 @@ use crate::layout::events_at;
 use words::word::KIND;
 use words::word::word_at;
 ghost use mathlib.Core.Path.{_≡_};
-ghost use Prim.Native.Nat.{_-_, _/_, _≤_};
+ghost use Prim.Native.Nat.{_-_, _/_, _%_, _≤_};
 ghost use lib.ListN.{length};
 ghost use Rattle.script.specs.Events.{none};
 ghost use Rattle.script.specs.Cursor.{isPlay, lieAfter, eventsAfter, gather, start, advanced};

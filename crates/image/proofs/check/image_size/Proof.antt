@@ -1,4 +1,4 @@
--- Head, then length.
+-- Head, then length, which goes by the form of the setup.
 use native.Mathlib.Omega.{arith}
 use mathlib.Core.Path.{sym, _∙_}
 use Rattle.setup.proofs.SetupAnswerLaws.{head-fits}
@@ -16,20 +16,30 @@ returns c = size-headless _ (c .before .before .check-head .ensures) (c .if1 .ta
 size-at-requires : tie.Need-size-at-requires
 size-at-requires c κs = head-fits _ (c .before .before .check-head .ensures) (c .if1 .left) .room
 
+fades-at-requires : tie.Need-fades-at-requires
+fades-at-requires c κs = head-fits _ (c .before .before .before .check-head .ensures) (c .before .if1 .left) .whole
+
+front-words-requires : tie.Need-front-words-requires
+front-words-requires c κs = search needs
+
 image-length-requires : tie.Need-image-length-requires
 image-length-requires c κs =
-    let f = head-fits _ (c .before .before .before .check-head .ensures) (c .before .if1 .left) in
-    let e = c .size-at .ensures in
-    omega (arith, f .most)
+    let f = head-fits _ (c .before .before .before .before .before .check-head .ensures) (c .before .before .before .if1 .left) in
+    let e = c .before .before .size-at .ensures in
+    (c .front-words .ensures .2, omega (arith, f .most))
 
 returns-2 : tie.Need-returns-2
 returns-2 c =
+    let b = c .before .before .before .before in
     let l = c .before .image-length .ensures in
-    size-other _ (c .before .before .before .before .before .check-head .ensures) (c .before .before .size-at .ensures) (c .before .before .before .if1 .left) (λ e. c .if2 .taken (l ∙ sym e))
+    size-other _ (b .before .before .before .check-head .ensures) (b .size-at .ensures) (c .before .before .before .fades-at .ensures)
+    (c .before .before .front-words .ensures .0) (b .before .if1 .left) (λ e. c .if2 .taken (l ∙ sym e))
 
 returns-3 : tie.Need-returns-3
 returns-3 c =
-    size-there _ (c .before .before .before .before .before .check-head .ensures) (c .before .before .size-at .ensures) (c .before .before .before .if1 .left) (sym (c .if2 .left) ∙ c .before .image-length .ensures)
+    let b = c .before .before .before .before in
+    size-there _ (b .before .before .before .check-head .ensures) (b .size-at .ensures) (c .before .before .before .fades-at .ensures)
+    (c .before .before .front-words .ensures .0) (b .before .if1 .left) (sym (c .if2 .left) ∙ c .before .image-length .ensures)
 
 pub image-size-spec : {M : Type 1} → statement M
 image-size-spec =
@@ -38,6 +48,8 @@ image-size-spec =
     check-head-requires
     returns
     size-at-requires
+    fades-at-requires
+    front-words-requires
     image-length-requires
     returns-2
     returns-3)
