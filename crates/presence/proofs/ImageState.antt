@@ -1,5 +1,6 @@
 -- Bytes that pass the check of a saved state give a valid state.
 use mathlib.Core.Path.{_≡_, refl}
+use mathlib.Core.Bool.{Bool, true, false}
 use mathlib.Core.List.{List}
 use Prim.Native.Nat.{ℕ}
 use native.Mathlib.Omega.{arith}
@@ -8,7 +9,9 @@ use Rattle.words.proofs.BitLaws.{pack-lt}
 use Rattle.words.proofs.ArrayLaws.{array-clear}
 use Rattle.setup.specs.Setup.{sizeIn, fadesIn, frontIn, setupOf}
 use Rattle.setup.proofs.FrontLaws.{setup-fits}
+use Rattle.setup.specs.Layout.{frontWords}
 use Rattle.image.specs.Layout.{ownAt, latestAt, earlierAt}
+use Rattle.image.specs.Words.{viewIn}
 use Rattle.image.specs.Rows.{readingIn}
 use Rattle.image.specs.Counters.{countersIn}
 use Rattle.image.specs.Check.{checkImage}
@@ -20,12 +23,17 @@ use Rattle.presence.specs.Valid.{Valid}
 use Rattle.presence.specs.Image.{stateOf}
 use Rattle.presence.proofs.ValidLaws.{StateFits, fits-valid}
 
+view-read : (b : Bool) (s : List ℕ) (n : ℕ) → countersIn b s n .view ≡ viewIn (wordAt s (ownAt (frontWords b) n))
+unfolding countersIn
+view-read true s n = refl
+view-read false s n = refl
+
 module _ (s : List ℕ) (f : ImageFits s) where
   abbrev size : ℕ
   size = sizeIn (wordAt s 0)
 
   pub image-state : StateFits (stateOf s)
-  unfolding stateOf setupOf readingIn countersIn
+  unfolding stateOf setupOf readingIn
   image-state =
       let front = frontIn (wordAt s) in
       let own = own-made size (wordAt s (ownAt front size)) (f .tail .number) (f .tail .own) in
@@ -34,7 +42,7 @@ module _ (s : List ℕ) (f : ImageFits s) where
         setup = setup-fits s (f .front) (f .words) (omega (arith, f .size));
         first = own .first;
         last = own .last;
-        view = own .view;
+        view = rw (view-read (fadesIn (wordAt s)) s size) (own .view);
         rows = read-rows s front size small (f .tail .rows);
         latest = syndrome-made size (wordAt s (latestAt front size)) (f .tail .latest) .1;
         earlier = syndrome-made size (wordAt s (earlierAt front size)) (f .tail .earlier) .1;

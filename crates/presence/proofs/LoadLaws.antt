@@ -1,23 +1,32 @@
 -- The state that one pass over an image finds, part by part.
-use mathlib.Core.Path.{_≡_, refl, _∙_, sym}
+use mathlib.Core.Path.{_≡_, refl, ap, _∙_, sym}
 use mathlib.Core.Bool.{Bool, true, false, _&&_}
 use mathlib.Core.List.{List}
-use Prim.Native.Nat.{ℕ}
+use Prim.Native.Nat.{ℕ, _+_, _≤_}
+use native.Mathlib.Omega.{arith}
+use lib.ListN.{length}
 use Rattle.words.specs.Word.{wordAt}
+use Rattle.words.specs.Array.{array}
 use Rattle.words.specs.Count.{all}
 use Rattle.words.specs.Verdict.{allRight}
-use Rattle.setup.specs.Setup.{sizeIn, fadesIn, setupOf}
+use Rattle.words.proofs.Truth.{and-l}
+use Rattle.words.proofs.VerdictLaws.{right-join}
+use Rattle.setup.specs.Limits.{mostReturnLimit}
+use Rattle.setup.specs.Setup.{sizeIn, returnLimitIn, criticalityIn, fadesIn, limitsIn, setupOf}
 use Rattle.setup.specs.Layout.{frontWords}
-use Rattle.setup.specs.Check.{wordTests}
+use Rattle.setup.specs.Check.{limitTests, wordTests}
 use Rattle.setup.specs.declared.Setup.{Setup}
 use Rattle.accounts.specs.declared.Counters.{Counters}
 use Rattle.rules.specs.declared.Reading.{Reading}
-use Rattle.image.specs.Layout.{ownAt, latestAt, earlierAt}
-use Rattle.image.specs.Words.{ownIn, syndromeIn}
+use Rattle.setup.proofs.SetupCheckLaws.{bothTests}
+use Rattle.image.specs.Layout.{ownAt, latestAt, earlierAt, imageLength}
+use Rattle.image.specs.Words.{ownIn, viewIn, syndromeIn}
 use Rattle.image.specs.Rows.{rowTest, readingIn}
 use Rattle.image.specs.Counters.{counterTests, countersIn}
 use Rattle.image.specs.Check.{wordsRight, imageTests}
 use Rattle.image.proofs.ReadLaws.{loaded-good}
+use Rattle.image.proofs.ReturnLaws.{return-limit}
+use Rattle.image.proofs.LentLaws.{Asked, asked-by}
 use Rattle.presence.specs.Image.{stateOf}
 use Rattle.presence.specs.declared.State.{State}
 
@@ -44,3 +53,26 @@ module _ {fades : Bool} {front : ℕ} (s : List ℕ) (n : ℕ) (form : fades ≡
 pub reading-read : {heard : ℕ} {rows : List ℕ} (s : List ℕ) (front n : ℕ) → heard ≡ readingIn s front n .heard → rows ≡ readingIn s front n .rows
     → record { heard = heard; rows = rows } ≡ readingIn s front n
 reading-read s front n h r = λ i. record { heard = h i; rows = r i }
+
+-- ---- what the accounts are read with, of a setup that was read
+
+module _ {setup : Setup} {fades : Bool} {n : ℕ} (s : List ℕ) (e : setup ≡ setupOf s) (form : fades ≡ fadesIn (wordAt s)) (size : n ≡ sizeIn (wordAt s 0)) where
+  pub limits-of : setup .limits ≡ limitsIn fades (wordAt s)
+  unfolding setupOf
+  limits-of = rw form (ap (λ (x : Setup). x .limits) e)
+
+  criticality-of : {front : ℕ} → front ≡ frontWords fades → setup .criticality ≡ array n (λ j. criticalityIn (wordAt s (front + j)))
+  unfolding setupOf
+  criticality-of at = rw (at, form, size) (ap (λ (x : Setup). x .criticality) e)
+
+  limits-hold : {first : Bool} → first ≡ allRight (wordTests s n) → first ≡ true → allRight (limitTests fades (wordAt s)) ≡ true
+  limits-hold g t =
+      let ts = limitTests (fadesIn (wordAt s)) (wordAt s) in
+      ap (λ (b : Bool). allRight (limitTests b (wordAt s))) form ∙ and-l (allRight ts) _ (sym (right-join ts (bothTests s n)) ∙ sym g ∙ t)
+
+  pub accounts-asked : {first : Bool} {front view : ℕ} → first ≡ allRight (wordTests s n) → first ≡ true → front ≡ frontWords fades → n ≤ 16
+      → length s ≡ imageLength (frontWords fades) n → returnLimitIn (wordAt s 0) ≤ mostReturnLimit → view ≡ viewIn (wordAt s (ownAt front n))
+      → Asked s n (setup .q) (setup .criticality) view (setup .limits)
+  accounts-asked g t at few long most view =
+      let q = return-limit s e in
+      asked-by s n fades limits-of at few long (limits-hold g t) q (omega (arith, q, most)) (criticality-of at) view

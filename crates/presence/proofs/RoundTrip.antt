@@ -22,7 +22,7 @@ use Rattle.setup.specs.RoundTrip.{ShapedSetup}
 use Rattle.setup.specs.declared.Setup.{Setup}
 use Rattle.setup.specs.declared.SetupRead.{SetupRead}
 use Rattle.setup.proofs.SetupLaws.{SetupFits, verdict-fits}
-use Rattle.setup.proofs.LimitLaws.{read-fades, fades-same}
+use Rattle.setup.proofs.LimitLaws.{front-least, read-fades, fades-same}
 use Rattle.setup.proofs.SetupWords.{written-length, written-fades}
 use Rattle.setup.proofs.SetupCheckLaws.{WordsFit, setup-pass}
 use Rattle.setup.proofs.SetupRoundTrip.{read-back}
@@ -179,7 +179,7 @@ module _ (st : State) (v : Valid st) (a : Shaped st) where
   image-size = ap (λ (x : Setup). x .n) image-setup
 
   image-form : fadesIn (wordAt image) ≡ fades (st .setup .limits)
-  image-form = fades-same (wordAt image) (wordAt front) (sym (front-word 1 (omega arith))) ∙ front-form
+  image-form = fades-same (wordAt image) (wordAt front) (sym (front-word 1 (omega (arith, front-least (fades (st .setup .limits)))))) ∙ front-form
 
   image-right : ImageFits image
   image-right =

@@ -12,6 +12,8 @@ use Rattle.words.specs.Verdict.{verdict, accepted, isAccepted, single, andThen,
 use Rattle.words.specs.Runs.{runWord}
 use Rattle.words.specs.declared.Verdict.{Verdict}
 use Rattle.words.proofs.VerdictLaws.{and-then-next, and-then-stays, single-ok, single-refused}
+use Rattle.setup.specs.Layout.{frontWords}
+use Rattle.setup.specs.Limits.{fades}
 use Rattle.setup.specs.Setup.{frontOf}
 use Rattle.setup.specs.Check.{setupVerdict}
 use Rattle.image.specs.Layout.{imageLength}
@@ -39,15 +41,21 @@ load-accepted s h t =
     let v : accepted ≡ checkImage s = sym (image-zero s (eqb-true _ 0 t)) in
     λ i. record { number = v i .number; index = v i .index; state = (h ∙ sym (cond-true (stateOf s) blank t)) i }
 
+-- ---- the length of an image, as it is found from the limits
+
+pub length-by : {b : Bool} {front k : ℕ} (st : State) → b ≡ fades (st .setup .limits) → front ≡ frontWords b → k ≡ imageLength front (st .setup .n)
+    → k ≡ imageLength (frontOf (st .setup)) (st .setup .n)
+length-by st f e l = l ∙ ap (λ (x : ℕ). imageLength x (st .setup .n)) (e ∙ ap frontWords f)
+
 -- ---- v is the answer for the setup of a struct
 
 pub room-is : {b : Bool} (st : State) → b ≡ roomy st → not b ≡ false → roomy st ≡ true
 room-is {b} st r t = sym r ∙ not-false b t
 
 module _ {v : Verdict} (st : State) (e : v ≡ setupVerdict (st .setup)) where
-  goes : andThen v (andThen (outcome (single (roomy st) 8 0)) (checkTail (runWord (imageRuns st)) (st .setup .n))) ≡ stateVerdict st
+  goes : andThen v (andThen (outcome (single (roomy st) 8 0)) (checkTail (fades (st .setup .limits)) (runWord (imageRuns st)) (st .setup .n))) ≡ stateVerdict st
   unfolding stateVerdict
-  goes = ap (λ (x : Verdict). andThen x (andThen (outcome (single (roomy st) 8 0)) (checkTail (runWord (imageRuns st)) (st .setup .n)))) e
+  goes = ap (λ (x : Verdict). andThen x (andThen (outcome (single (roomy st) 8 0)) (checkTail (fades (st .setup .limits)) (runWord (imageRuns st)) (st .setup .n)))) e
 
   pub setup-stays : (v .number ≡ 0 → ⊥) → v ≡ stateVerdict st
   setup-stays f = sym (and-then-stays v _ f) ∙ goes
@@ -56,13 +64,13 @@ module _ {v : Verdict} (st : State) (e : v ≡ setupVerdict (st .setup)) where
     pub room-lacks : not b ≡ true → r ≡ verdict 8 0 → r ≡ stateVerdict st
     room-lacks f q =
         let o : outcome (single (roomy st) 8 0) ≡ verdict 8 0 = single-refused (roomy st) 8 0 (sym h ∙ not-true b f) in
-        q ∙ sym (ap (λ (x : Verdict). andThen x (checkTail (runWord (imageRuns st)) (st .setup .n))) o ∙ and-then-stays (verdict 8 0) _ (λ y. eight y))
+        q ∙ sym (ap (λ (x : Verdict). andThen x (checkTail (fades (st .setup .limits)) (runWord (imageRuns st)) (st .setup .n))) o ∙ and-then-stays (verdict 8 0) _ (λ y. eight y))
         ∙ sym (and-then-next v _ z) ∙ goes
       where
         eight : _≡_ {A = ℕ} 8 0 → ⊥
         eight y = omega arith
 
-    pub image-answers : not b ≡ false → r ≡ checkTail (runWord (imageRuns st)) (st .setup .n) → r ≡ stateVerdict st
+    pub image-answers : not b ≡ false → r ≡ checkTail (fades (st .setup .limits)) (runWord (imageRuns st)) (st .setup .n) → r ≡ stateVerdict st
     image-answers t q =
         let o = single-ok (roomy st) 8 0 (room-is st h t) in
         q ∙ sym (and-then-next (outcome (single (roomy st) 8 0)) _ (ap (λ (x : Verdict). x .number) o)) ∙ sym (and-then-next v _ z) ∙ goes
