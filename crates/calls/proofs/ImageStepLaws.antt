@@ -55,6 +55,16 @@ use Rattle.calls.specs.declared.Answer.{Answer}
 use Rattle.calls.proofs.KeptLaws.{lent-range, KeptNext, kept-next}
 use Rattle.calls.proofs.ModuleCallLaws.{read-front, read-length, same-room, copy-no-room, read-valid, step-no-room, step-refused-call, step-wrote}
 
+view-in : (b : Bool) (s : List ℕ) (n : ℕ) → countersIn b s n .view ≡ viewIn (wordAt s (ownAt (frontWords b) n))
+unfolding countersIn
+view-in true s n = refl
+view-in false s n = refl
+
+returns-in : (b : Bool) (s : List ℕ) (n : ℕ) → countersIn b s n .returns ≡ valuesIn s (frontWords b) n returnCounts
+unfolding countersIn
+returns-in true s n = refl
+returns-in false s n = refl
+
 -- what the words of an accepted image hold is its state
 pub part-held : {part : ImagePart} {k l x y z : List ℕ} {n : ℕ} {b : Bool} (s : List ℕ) → ((i : ℕ) → getD s i 0 < 256) → checkImage s .number ≡ 0 → n ≡ sizeIn (wordAt s 0)
     → b ≡ fadesIn (wordAt s) → PartOf s b n part k l x y z → HeldBy (stateOf s) part k l x y z
@@ -71,7 +81,7 @@ part-held {part = part} {k = k} {l = l} {x = x} {y = y} {z = z} {b = b} s small 
       q = g .q;
       limits = g .limits;
       own = g .own;
-      view = g .view ∙ sym (view-in t);
+      view = g .view ∙ sym (view-in t s m);
       heard = g .heard;
       latest = g .latest;
       earlier = g .earlier;
@@ -79,18 +89,8 @@ part-held {part = part} {k = k} {l = l} {x = x} {y = y} {z = z} {b = b} s small 
       rows = g .rows;
       first = g .first ∙ lent-first s m few (word-lt s small) t (fit .tail .counters) ∙ ap (λ (d : Bool). firstOf d m (countersIn t s m)) back;
       second = g .second ∙ lent-second s m few (word-lt s small) t (fit .tail .counters) ∙ ap (λ (d : Bool). secondOf d m (countersIn t s m)) back;
-      returns = g .returns ∙ sym (returns-in t);
+      returns = g .returns ∙ sym (returns-in t s m);
     }
-  where
-    view-in : (d : Bool) → countersIn d s (sizeIn (wordAt s 0)) .view ≡ viewIn (wordAt s (ownAt (frontWords d) (sizeIn (wordAt s 0))))
-    unfolding countersIn
-    view-in true = refl
-    view-in false = refl
-
-    returns-in : (d : Bool) → countersIn d s (sizeIn (wordAt s 0)) .returns ≡ valuesIn s (frontWords d) (sizeIn (wordAt s 0)) returnCounts
-    unfolding countersIn
-    returns-in true = refl
-    returns-in false = refl
 
 module _ (s : List ℕ) (ok : checkImage s .number ≡ 0) where
   abbrev st : State
@@ -264,12 +264,12 @@ module _ (s : List ℕ) (ok : checkImage s .number ≡ 0) where
             )
 
         -- and what is written
-        pub runs-next : {p q : List ℕ} → q ≡ putRuns p (ownAt (frontWords b) n) (one (ownWord (part .own) view) ∷ rowRun n (record { heard = heard; rows = rows })
+        pub runs-next : {q : List ℕ} (p : List ℕ) → q ≡ putRuns p (ownAt (frontWords b) n) (one (ownWord (part .own) view) ∷ rowRun n (record { heard = heard; rows = rows })
             ∷ one (syndromeWord latest) ∷ one (syndromeWord (part .latest)) ∷ lentRuns b n x′ y′ z′)
             → q ≡ putRuns p (ownAt start size) (stateRuns next)
         unfolding afterRound
-        runs-next {p} e =
-            e ∙ rw (view-next, read-next, first-next, second-next, returns-next, el, h .own, h .latest, en, eb) (lent-state next p most)
+        runs-next p e =
+            e ∙ rw (view-next, ed, er, first-next, second-next, returns-next, el, h .own, h .latest, en, eb) (lent-state next refl refl refl most p)
 
 -- ---- what a step answers
 

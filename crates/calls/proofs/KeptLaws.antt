@@ -1,5 +1,6 @@
 -- Rule 8 on the lent arrays of a state's accounts: what it leaves in them are the accounts of the definition.
 use mathlib.Core.Path.{_≡_, refl, ap, ap₂, _∙_, sym}
+use mathlib.Core.Bool.{true}
 use mathlib.Core.List.{List}
 use Prim.Native.Nat.{ℕ, _<_, _≤_}
 use native.Mathlib.Omega.{arith}
@@ -40,6 +41,14 @@ pub record KeptNext (l : Limits) (s : Setup) (health : ℕ) (c : Counters) : Typ
   pub returns : keptReturns l (s .n) (s .q) health (s .criticality) (firstOf (fades l) (s .n) c) (secondOf (fades l) (s .n) c) (c .returns) ≡ countersOf s health c .returns
 
 module _ (s : Setup) (health : ℕ) (c : Counters) (few : s .n ≤ 16) where
+  -- the scores are those of the lent halves
+  halves : (factor limit : Float) → ((j : ℕ) → j < s .n → Kept (Fading factor limit) (getD (s .criticality) j 0) (accountAt c j)) → (j : ℕ) → j < s .n
+      → accountAt c j .score ≡ ofWords (getD (firstOf true (s .n) c) j 0) (getD (secondOf true (s .n) c) j 0)
+  unfolding ofWords accountAt
+  halves factor limit k j h =
+      sym (ap₂ ofWords (array-at (s .n) (λ i. highWord (entry (c .score) i)) j h few) (array-at (s .n) (λ i. lowWord (entry (c .score) i)) j h few)
+      ∙ read-of-written (entry (c .score) j) (held _ (k j h .exact)))
+
   pub kept-next : (l : Limits) → s .limits ≡ l → ((j : ℕ) → j < s .n → Kept l (getD (s .criticality) j 0) (accountAt c j)) → KeptNext l s health c
   unfolding keptAt
   kept-next (Counts p r) e k =
@@ -53,7 +62,7 @@ module _ (s : Setup) (health : ℕ) (c : Counters) (few : s .n ≤ 16) where
   kept-next (Fading factor limit) e k =
       let x = firstOf (fades (Fading factor limit)) (s .n) c in
       let y = secondOf (fades (Fading factor limit)) (s .n) c in
-      let made = faded-counters s factor limit e health c x y few halves (λ j h. k j h .view) in
+      let made = faded-counters s factor limit e health c x y few (halves factor limit k) (λ j h. k j h .view) in
       let after : (j : ℕ) → j < s .n → fadedAt factor limit (s .q) health x y (c .returns) j .score ≡ entry (countersOf s health c .score) j =
       λ j h. sym (doubles-at (s .n) (λ i. fadedAt factor limit (s .q) health x y (c .returns) i .score) j h few) ∙ ap (λ (d : Counters). entry (d .score) j) made
       in
@@ -63,10 +72,3 @@ module _ (s : Setup) (health : ℕ) (c : Counters) (few : s .n ≤ 16) where
         second = array-ext (s .n) _ _ (λ j h. ap lowWord (after j h));
         returns = ap (λ (d : Counters). d .returns) made;
       }
-    where
-      halves : (j : ℕ) → j < s .n
-          → accountAt c j .score ≡ ofWords (getD (firstOf (fades (Fading factor limit)) (s .n) c) j 0) (getD (secondOf (fades (Fading factor limit)) (s .n) c) j 0)
-      unfolding ofWords accountAt
-      halves j h =
-          sym (ap₂ ofWords (array-at (s .n) (λ i. highWord (entry (c .score) i)) j h few) (array-at (s .n) (λ i. lowWord (entry (c .score) i)) j h few)
-          ∙ read-of-written (entry (c .score) j) (held _ (k j h .exact)))

@@ -82,18 +82,18 @@ pub read-front : (s : List ℕ) → frontOf (setupOf s) ≡ frontIn (wordAt s)
 unfolding setupOf
 read-front s = ap frontWords (read-fades (fadesIn (wordAt s)) (wordAt s))
 
-pub read-form : (s : List ℕ) → fades (setupOf s .limits) ≡ fadesIn (wordAt s)
-unfolding setupOf
+pub read-form : (s : List ℕ) → fades (stateOf s .setup .limits) ≡ fadesIn (wordAt s)
+unfolding stateOf setupOf
 read-form s = read-fades (fadesIn (wordAt s)) (wordAt s)
 
 -- an accepted image has the length of its state's image
+pub read-sized : (s : List ℕ) → imageLength (frontIn (wordAt s)) (sizeIn (wordAt s 0)) ≡ imageLength (frontOf (setupOf s)) (setupOf s .n)
+unfolding setupOf
+read-sized s = ap (λ (k : ℕ). imageLength k (sizeIn (wordAt s 0))) (sym (read-front s))
+
 pub read-length : (s : List ℕ) → checkImage s .number ≡ 0 → length s ≡ imageLength (frontOf (stateOf s .setup)) (stateOf s .setup .n)
 unfolding stateOf
-read-length s z = image-pass s z .size ∙ sized
-  where
-    sized : imageLength (frontIn (wordAt s)) (sizeIn (wordAt s 0)) ≡ imageLength (frontOf (setupOf s)) (setupOf s .n)
-    unfolding setupOf
-    sized = ap (λ (k : ℕ). imageLength k (sizeIn (wordAt s 0))) (sym (read-front s))
+read-length s z = image-pass s z .size ∙ read-sized s
 
 -- ---- the word to put on the bus
 
