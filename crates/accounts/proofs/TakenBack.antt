@@ -5,6 +5,7 @@ use Prim.Native.Nat.{ℕ, zero, suc, _+_, _-_, _≤_, _<_}
 use native.Mathlib.Omega.{arith}
 use native.Mathlib.Decide.{decLt}
 use lib.ListN.{getD}
+use lib.Ieee.{Float}
 use borrow.Author.Tests.{lt-leb}
 use Rattle.words.specs.Bits.{bit}
 use Rattle.words.proofs.Truth.{cond-true, cond-false}
@@ -46,10 +47,20 @@ away-some (Counts p r) a k = refl
 away-some (Fading factor limit) a k = refl
 
 -- out of the view it is awaited
+out-counts : (p r q k : ℕ) (h : Bool) (a : Account) → a .present ≡ false
+    → accounted p r q k h a ≡ awaited (returnedBy (Counts p r)) (awayBy (Counts p r) a) q h (a .returns)
+unfolding accounted
+out-counts p r q k h a e = cond-false _ _ e
+
+out-fading : (factor limit : Float) (q : ℕ) (h : Bool) (a : Account) → a .present ≡ false
+    → faded factor limit q h a ≡ awaited (returnedBy (Fading factor limit)) (awayBy (Fading factor limit) a) q h (a .returns)
+unfolding faded
+out-fading factor limit q h a e = cond-false _ _ e
+
 out-next : (l : Limits) (q k : ℕ) (h : Bool) (a : Account) → a .present ≡ false → accountedBy l q k h a ≡ awaited (returnedBy l) (awayBy l a) q h (a .returns)
-unfolding accountedBy accounted faded
-out-next (Counts p r) q k h a e = cond-false _ _ e
-out-next (Fading factor limit) q k h a e = cond-false _ _ e
+unfolding accountedBy
+out-next (Counts p r) q k h a e = out-counts p r q k h a e
+out-next (Fading factor limit) q k h a e = out-fading factor limit q h a e
 
 -- in the view nothing is counted
 none-inside : (l : Limits) (q k : ℕ) (h : Bool) (a : Account) → a .present ≡ true → accountedBy l q k h a .returns ≡ 0

@@ -14,6 +14,7 @@ use Rattle.words.specs.Array.{array}
 use Rattle.setup.specs.Setup.{setupOf}
 use Rattle.setup.specs.Check.{checkSetup}
 use Rattle.setup.specs.declared.Setup.{Setup}
+use Rattle.setup.specs.declared.Limits.the-variants.{Counts}
 use Rattle.rules.specs.Hearing.{busWord, wordHeard}
 use Rattle.vote.specs.Vote.{voteOf}
 use Rattle.rules.specs.Syndrome.{judgementOf}
@@ -64,7 +65,7 @@ sheet = setupOf sheetBytes
 -- the sheet's limits and criticality with other send marks and read places, for n modules
 abbrev pub like : ℕ → ℕ → List ℕ → Setup
 like n marks places =
-    record { n = n; q = 0; p = 1; r = 3; marks = marks; places = array n (λ j. getD places j 0); criticality = array n (λ j. 1) }
+    record { n = n; q = 0; limits = Counts 1 3; marks = marks; places = array n (λ j. getD places j 0); criticality = array n (λ j. 1) }
 
 -- the rule-breakers, as a vector; who hears whom by round, receiver and sender; and the row sent by round and sender
 abbrev pub castSession : ℕ → Setup → (ℕ → ℕ → ℕ → Bool) → (ℕ → ℕ → ℕ) → Session

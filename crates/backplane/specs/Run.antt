@@ -1,12 +1,12 @@
 -- A run: a script played round by round. (document 01, "What runs" and "Bench sheet")
-use Prim.Native.Nat.{ℕ, zero, suc, _+_}
+use Prim.Native.Nat.{ℕ, zero, suc}
 use mathlib.Core.Bool.{Bool, true, cond, not, _&&_}
 use mathlib.Core.List.{List}
 use lib.Dec.{ltb}
 use lib.ListN.{getD}
 use Rattle.words.specs.Word.{wordAt}
 use Rattle.words.specs.Verdict.{isAccepted}
-use Rattle.setup.specs.Setup.{sizeIn, blankSetup}
+use Rattle.setup.specs.Setup.{blankSetup}
 use Rattle.setup.specs.Check.{setupPart, readSetup}
 use Rattle.script.specs.Words.{castAt, castIn, mostRounds}
 use Rattle.script.specs.Check.{checkScript}

@@ -44,7 +44,7 @@ use Rattle.presence.specs.Step.{skewOf, placeOf, ownSyndrome, alignedFor, judge
 use Rattle.presence.specs.Image.{stateRuns, imageOf, stateOf}
 use Rattle.presence.specs.declared.State.{State}
 use Rattle.presence.specs.declared.Stepped.{Stepped}
-use Rattle.presence.proofs.ImageState.{image-state}
+use Rattle.presence.proofs.ImageState.{view-in, image-state}
 use Rattle.presence.proofs.ValidLaws.{StateFits, fits-valid, after-fits}
 use Rattle.presence.proofs.SmallLaws.{Small, valid-small}
 use Rattle.presence.proofs.StateRoundLaws.{in-range, read-length as read-nine, read-controller, read-taken, step-of}
@@ -54,11 +54,6 @@ use Rattle.calls.specs.Calls.{answer, called, stepCall}
 use Rattle.calls.specs.declared.Answer.{Answer}
 use Rattle.calls.proofs.KeptLaws.{lent-range, KeptNext, kept-next}
 use Rattle.calls.proofs.ModuleCallLaws.{read-front, read-length, same-room, copy-no-room, read-valid, step-no-room, step-refused-call, step-wrote}
-
-view-in : (b : Bool) (s : List ℕ) (n : ℕ) → countersIn b s n .view ≡ viewIn (wordAt s (ownAt (frontWords b) n))
-unfolding countersIn
-view-in true s n = refl
-view-in false s n = refl
 
 returns-in : (b : Bool) (s : List ℕ) (n : ℕ) → countersIn b s n .returns ≡ valuesIn s (frontWords b) n returnCounts
 unfolding countersIn

@@ -23,10 +23,11 @@ use Rattle.presence.specs.Valid.{Valid}
 use Rattle.presence.specs.Image.{stateOf}
 use Rattle.presence.proofs.ValidLaws.{StateFits, fits-valid}
 
-view-read : (b : Bool) (s : List ℕ) (n : ℕ) → countersIn b s n .view ≡ viewIn (wordAt s (ownAt (frontWords b) n))
+-- the view of the counters that are read
+pub view-in : (b : Bool) (s : List ℕ) (n : ℕ) → countersIn b s n .view ≡ viewIn (wordAt s (ownAt (frontWords b) n))
 unfolding countersIn
-view-read true s n = refl
-view-read false s n = refl
+view-in true s n = refl
+view-in false s n = refl
 
 module _ (s : List ℕ) (f : ImageFits s) where
   abbrev size : ℕ
@@ -42,7 +43,7 @@ module _ (s : List ℕ) (f : ImageFits s) where
         setup = setup-fits s (f .front) (f .words) (omega (arith, f .size));
         first = own .first;
         last = own .last;
-        view = rw (view-read (fadesIn (wordAt s)) s size) (own .view);
+        view = rw (view-in (fadesIn (wordAt s)) s size) (own .view);
         rows = read-rows s front size small (f .tail .rows);
         latest = syndrome-made size (wordAt s (latestAt front size)) (f .tail .latest) .1;
         earlier = syndrome-made size (wordAt s (earlierAt front size)) (f .tail .earlier) .1;

@@ -1,0 +1,78 @@
+-- The scores of a module in a session are those of its health vectors, so they count charges as those do; and equal counters hold equal bits.
+use Prim.Native.Nat.{ℕ, zero, suc, _+_, _<_, _≤_}
+use mathlib.Core.Path.{_≡_, refl, sym, ap, _∙_}
+use mathlib.Core.Bool.{Bool, cond}
+use native.Mathlib.Omega.{arith}
+use lib.Ieee.{Float, binary64, toBits}
+use Rattle.words.specs.Bits.{bit}
+use Rattle.words.proofs.BitLaws.{bit-full}
+use Rattle.doubles.specs.Double.{double}
+use Rattle.doubles.specs.Array.{entry}
+use Rattle.doubles.proofs.DoubleArrayLaws.{zeros-at}
+use Rattle.setup.specs.declared.Limits.the-variants.{Fading}
+use Rattle.setup.proofs.LimitLaws.{fading-fit}
+use Rattle.setup.proofs.SetupLaws.{verdict-fits}
+use Rattle.accounts.specs.TakenBack.{countersAfter}
+use Rattle.accounts.specs.Charges.{NoneCharged, chargesBy}
+use Rattle.accounts.proofs.Charges.{charges}
+use Rattle.accounts.specs.declared.Counters.{Counters}
+use Rattle.presence.specs.Opening.{fresh}
+use Rattle.presence.specs.declared.State.{State}
+use Rattle.agreement.specs.Session.{Session, Accepted, size, health}
+use Rattle.agreement.specs.Life.{Life}
+use Rattle.agreement.specs.BackInView.{sees}
+use Rattle.agreement.specs.ScoresCounted.{scoreIn, chargesSeen, ScoresCounted}
+use Rattle.agreement.proofs.Steps.{life}
+use Rattle.agreement.proofs.Shared.{fresh-counters}
+use Rattle.agreement.proofs.Demand.{demand-3}
+use Rattle.agreement.proofs.BackInView.{counters-after, seen-is}
+
+none-charged : (S : Session) → size S ≤ 16 → NoneCharged (S .setup) (fresh-counters S)
+unfolding fresh
+none-charged S small = record { view = λ j h. bit-full (size S) j h; score = λ j h. zeros-at j (omega arith) }
+
+module _ (S : Session) (ok : Accepted S) (i j : ℕ) (hi : i < size S) (hj : j < size S) where
+  abbrev after : ℕ → Counters
+  after k = countersAfter (S .setup) (health S i) (fresh-counters S) k
+
+  -- what module i counts is what its health vectors count
+  seen-charges : (kept : ℕ → ℕ) (k : ℕ) → chargesSeen kept S i k j ≡ chargesBy kept (S .setup) (health S i) (fresh-counters S) k j
+  unfolding chargesSeen chargesBy
+  seen-charges kept zero = refl
+  seen-charges kept (suc k) =
+      let b = bit (health S i (suc k)) j in
+      let n = chargesBy kept (S .setup) (health S i) (fresh-counters S) k j in
+      ap (λ (m : ℕ). cond (sees S i k j) (cond b (kept m) (m + 1)) (cond (sees S i (suc k) j) 0 m)) (seen-charges kept k)
+      ∙ ap (λ (x : Bool). cond x (cond b (kept n) (n + 1)) (cond (sees S i (suc k) j) 0 n)) (seen-is S ok i j hi hj k)
+      ∙ ap (λ (x : Bool). cond (bit (after k .view) j) (cond b (kept n) (n + 1)) (cond x 0 n)) (seen-is S ok i j hi hj (suc k))
+
+  module _ (k : ℕ) (st : State) (h : ℕ) (a : Life S i k st h) where
+    -- the score that it holds
+    score-after : scoreIn st j ≡ entry (after k .score) j
+    score-after =
+        ap (λ (t : State). scoreIn t j) (life S ok i hi k h st a .0) ∙ ap (λ (c : Counters). entry (c .score) j) (counters-after S ok i hi k)
+
+    module _ (limit : Float) where
+      all-charges : S .setup .limits ≡ Fading (double 1) limit → scoreIn st j ≡ double (chargesSeen (λ before. before) S i k j)
+      all-charges form =
+          let fits = verdict-fits (S .setup) ok in
+          score-after
+          ∙ charges .exact (S .setup) limit (health S i) (fresh-counters S) k j form (fading-fit (fits .limits) form .limit) (fits .most)
+          (none-charged S (fits .most)) hj
+          ∙ ap double (sym (seen-charges (λ before. before) k))
+
+      last-charges : S .setup .limits ≡ Fading (double 0) limit → scoreIn st j ≡ double (chargesSeen (λ before. 0) S i k j)
+      last-charges form =
+          let fits = verdict-fits (S .setup) ok in
+          score-after
+          ∙ charges .recent (S .setup) limit (health S i) (fresh-counters S) k j form (fading-fit (fits .limits) form .limit) (fits .most)
+          (none-charged S (fits .most)) hj
+          ∙ ap double (sym (seen-charges (λ before. 0) k))
+
+pub scores-counted : ScoresCounted
+scores-counted = record {
+  exact = λ S ok limit form i j k hi hj st h a. all-charges S ok i j hi hj k st h a limit form;
+  recent = λ S ok limit form i j k hi hj st h a. last-charges S ok i j hi hj k st h a limit form;
+  bits = λ S ok last bound k pos hk lim i i′ j h h′ st st′ fi fi′ a a′.
+      ap (λ (c : Counters). toBits binary64 (entry (c .score) j)) (demand-3 .agreement S ok last bound k pos hk lim .agree i i′ h h′ st st′ fi fi′ a a′ .1);
+}
