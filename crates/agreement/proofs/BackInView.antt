@@ -54,7 +54,8 @@ module _ (S : Session) (ok : Accepted S) (i j : ℕ) (hi : i < size S) (hj : j <
       in
       record { some = g .some; played = g .played; away = λ m a b. seen-is m ∙ g .away m a b; healthy = g .healthy }
 
-  left : (p r : ℕ) → S .setup .limits ≡ Counts p r → (k : ℕ) → sees S i k j ≡ false → sees S i (suc k) j ≡ true → bit (health S i (suc (suc k))) j ≡ false → sees S i (suc (suc k)) j ≡ false
+  left : (p r : ℕ) → S .setup .limits ≡ Counts p r → (k : ℕ) → sees S i k j ≡ false → sees S i (suc k) j ≡ true
+      → bit (health S i (suc (suc k))) j ≡ false → sees S i (suc (suc k)) j ≡ false
   left p r form k out on bad =
       seen-is (suc (suc k))
       ∙ taken-back .leaves-at-once (S .setup) p r (health S i) (fresh-counters S) k j form (fits .most) hj (fits .each j hj .least)

@@ -29,8 +29,8 @@ pub record BackInView : Type 0 where
   pub only-then : (S : Session) → Accepted S → (i j k : ℕ) → i < size S → j < size S → sees S i k j ≡ false → sees S i (suc k) j ≡ true
       → GoodRounds S i k j
   -- where its next round is bad it leaves at once, if account is kept by counts
-  pub leaves-at-once : (S : Session) → Accepted S → (p r : ℕ) → S .setup .limits ≡ Counts p r → (i j k : ℕ) → i < size S → j < size S → sees S i k j ≡ false → sees S i (suc k) j ≡ true
-      → bit (health S i (suc (suc k))) j ≡ false → sees S i (suc (suc k)) j ≡ false
+  pub leaves-at-once : (S : Session) → Accepted S → (p r : ℕ) → S .setup .limits ≡ Counts p r → (i j k : ℕ) → i < size S → j < size S
+      → sees S i k j ≡ false → sees S i (suc k) j ≡ true → bit (health S i (suc (suc k))) j ≡ false → sees S i (suc (suc k)) j ≡ false
   -- with Q = 0 nobody comes back
   pub never : (S : Session) → Accepted S → (i j k m : ℕ) → i < size S → j < size S → S .setup .q ≡ 0 → sees S i k j ≡ false → k ≤ m
       → sees S i m j ≡ false
