@@ -18,7 +18,7 @@ use Rattle.accounts.specs.Fading.{scored, nextScore, judgedBy, faded}
 use Rattle.accounts.specs.Round.{accountAt}
 use Rattle.accounts.specs.TakenBack.{countersAfter}
 use Rattle.accounts.specs.Charges.{NoneCharged, chargesBy, Charges}
-use Rattle.setup.proofs.LimitLaws.{limit-non-negative, limit-least, limit-most}
+use Rattle.setup.proofs.BoundLaws.{limit-non-negative, limit-least, limit-most}
 use Rattle.accounts.proofs.AwaitedLaws.{awaited-both}
 use Rattle.accounts.proofs.RoundLaws.{accounted-at, fading-at}
 

@@ -13,12 +13,12 @@ use Rattle.setup.specs.declared.Limits.{Limits}
 use Rattle.accounts.specs.declared.Account.{Account}
 use Rattle.accounts.specs.declared.Counters.{Counters}
 use Rattle.accounts.specs.Round.{accountedBy, accountAt, accountedAt, countersOf}
-use Rattle.accounts.specs.Range.{Countable}
+use Rattle.accounts.specs.Range.{AccountRange}
 
 -- limits whose form is known
 module _ {l m : Limits} (q k : ℕ) (a : Account) (e : l ≡ m) where
-  pub form-countable : Countable l q k a → Countable m q k a
-  form-countable f = subst (λ (x : Limits). Countable x q k a) e f
+  pub form-countable : AccountRange l q k a → AccountRange m q k a
+  form-countable f = subst (λ (x : Limits). AccountRange x q k a) e f
 
   pub form-accounted : {t : Account} (h : Bool) → t ≡ accountedBy m q k h a → t ≡ accountedBy l q k h a
   form-accounted h f = rw e f
@@ -38,10 +38,10 @@ module _ (c : Counters) (j : ℕ) (b : Bool) (e : b ≡ bit (c .view) j) where
   unfolding accountAt
   read = rw e
 
-  pub range-by : {l : Limits} (s : Setup) → l ≡ s .limits → Countable (s .limits) (s .q) (getD (s .criticality) j 0) (accountAt c j)
-      → Countable l (s .q) (getD (s .criticality) j 0) readAt
+  pub range-by : {l : Limits} (s : Setup) → l ≡ s .limits → AccountRange (s .limits) (s .q) (getD (s .criticality) j 0) (accountAt c j)
+      → AccountRange l (s .q) (getD (s .criticality) j 0) readAt
   range-by {l} s g f =
-      subst (λ (a : Account). Countable l (s .q) (getD (s .criticality) j 0) a) (sym read)
+      subst (λ (a : Account). AccountRange l (s .q) (getD (s .criticality) j 0) a) (sym read)
       (form-countable (s .q) (getD (s .criticality) j 0) (accountAt c j) (sym g) f)
 
   pub accounted-by : {h : Bool} {x : Account} {l : Limits} (s : Setup) (health : ℕ) → l ≡ s .limits → h ≡ bit health j

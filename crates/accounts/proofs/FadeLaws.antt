@@ -15,7 +15,7 @@ use Rattle.setup.specs.Limits.{factorFits, limitFits}
 use Rattle.accounts.specs.declared.Account.{Account}
 use Rattle.accounts.specs.Account.{awaited}
 use Rattle.accounts.specs.Fading.{scored, nextScore, judgedBy, faded}
-use Rattle.setup.proofs.LimitLaws.{factor-non-negative, factor-most, limit-non-negative, limit-least, limit-most}
+use Rattle.setup.proofs.BoundLaws.{factor-non-negative, factor-most, limit-non-negative, limit-least, limit-most}
 use Rattle.accounts.proofs.AwaitedLaws.{CountFits, none-counted, awaited-both, awaited-by, awaited-counts}
 
 -- what `awaited` chooses from: the account where the module returns, the one with a return count where it does not

@@ -7,4 +7,4 @@ pub mod CountedLaws
 pub mod FadedLaws
 pub mod TakenBack
 pub mod Charges
-pub mod FadingCases
+pub mod Cases

@@ -24,8 +24,8 @@ use Rattle.accounts.specs.declared.Counters.{Counters}
 use Rattle.accounts.specs.Account.{accounted}
 use Rattle.accounts.specs.Fading.{faded}
 use Rattle.accounts.specs.Round.{accountedBy, accountAt, accountedAt, countersOf}
-use Rattle.accounts.specs.Range.{Countable}
-use Rattle.setup.proofs.LimitLaws.{LimitsFit}
+use Rattle.accounts.specs.Range.{AccountRange}
+use Rattle.setup.proofs.BoundLaws.{LimitsFit}
 use Rattle.accounts.proofs.AwaitedLaws.{CountFits}
 use Rattle.accounts.proofs.AccountLaws.{AccountFits, accounted-fits, accounted-counts, accounted-score}
 use Rattle.accounts.proofs.FadeLaws.{FadeFits, OwesNothing, faded-fits, faded-counts, faded-exact, faded-owes}
@@ -44,7 +44,7 @@ accounted-kept (Fading factor limit) q k healthy a fits f = faded-fits factor li
 
 -- by the limits of an accepted setup rule 8 can be counted
 pub kept-countable : (l : Limits) (q k : ℕ) (a : Account) → LimitsFit l → q ≤ mostReturnLimit → k ≤ mostCriticality → a .returns ≤ q - 1 → Kept l k a
-    → Countable l q k a
+    → AccountRange l q k a
 kept-countable (Counts p r) q k a fits hq hk below f =
     let g = f .0 in
     record {

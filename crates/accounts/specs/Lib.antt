@@ -5,4 +5,4 @@ pub mod TakenBack
 pub mod Charges
 pub mod Range
 pub mod Lent
-pub mod FadingCases
+pub mod Cases

@@ -25,6 +25,6 @@ pub record CountRange (q : ℕ) (a : Account) : Type 0 where
   pub below : a .returns ≤ q - 1
 
 -- by the limits of a setup
-abbrev pub Countable : Limits → ℕ → ℕ → Account → Type 0
-Countable (Counts p r) q criticality a = InRange p q criticality a
-Countable (Fading factor limit) q criticality a = CountRange q a
+abbrev pub AccountRange : Limits → ℕ → ℕ → Account → Type 0
+AccountRange (Counts p r) q criticality a = InRange p q criticality a
+AccountRange (Fading factor limit) q criticality a = CountRange q a

@@ -10,7 +10,14 @@ impl Account {
     // In the view, health 0: the penalty grows, the reward becomes 0, and above p the module leaves; health 1: with a penalty the reward grows, and at
     // r both become 0. Out of the view, health 1: the return count grows, and at q the module returns, with penalty p; health 0: the count begins
     // anew. No branch, so that modules are taken four at a time.
-    pub fn accounted(self, p: u32, r: u32, q: u32, criticality: u32, healthy: bool) -> Account
+    pub(crate) fn accounted(
+        self,
+        p: u32,
+        r: u32,
+        q: u32,
+        criticality: u32,
+        healthy: bool,
+    ) -> Account
         requires { ⌜ InRange p q criticality self ⌝ }
         ensures { λ t. ⌜ t ≡ accounted p r q criticality healthy self ⌝ }
     {

@@ -19,7 +19,7 @@ fn choose(b: bool, x: f64, y: f64) -> f64
 impl Account {
     // In the view, health 0 adds 1.0 to the score and health 1 multiplies it by the factor, and at the limit the module leaves. Out of the view the
     // score stays; health 1: the return count grows, and at q the module returns, with score 0.0; health 0: the count begins anew. No branch.
-    pub fn faded(self, factor: f64, limit: f64, q: u32, healthy: bool) -> Account
+    pub(crate) fn faded(self, factor: f64, limit: f64, q: u32, healthy: bool) -> Account
         requires { ⌜ CountRange q self ⌝ }
         ensures { λ t. ⌜ t ≡ faded factor limit q healthy self ⌝ }
     {

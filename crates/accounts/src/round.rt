@@ -17,12 +17,12 @@ ghost use Rattle.words.specs.Array.{array, Filled};
 ghost use Rattle.doubles.specs.Double.{highWord, lowWord};
 ghost use Rattle.accounts.specs.Round.{accountedBy, accountAt, countersOf};
 ghost use Rattle.accounts.specs.Lent.{accountIn, countedAt, scoreIn, fadedAt};
-ghost use Rattle.accounts.specs.Range.{InRange, CountRange, Countable};
+ghost use Rattle.accounts.specs.Range.{InRange, CountRange, AccountRange};
 
 impl Account {
     // One module, by the limits of its setup.
     fn next(self, limits: Limits, q: u32, criticality: u32, healthy: bool) -> Account
-        requires { ⌜ Countable limits q criticality self ⌝ }
+        requires { ⌜ AccountRange limits q criticality self ⌝ }
         ensures { λ t. ⌜ t ≡ accountedBy limits q criticality healthy self ⌝ }
     {
         match limits {
@@ -35,7 +35,7 @@ impl Account {
 // All modules.
 pub fn counters(setup: Setup, health: u32, c: Counters) -> Counters
     requires { ⌜ setup .n ≤ 16 ⌝ }
-    requires { ⌜ ((j : ℕ) → j < setup .n → Countable (setup .limits) (setup .q) (getD (setup .criticality) j 0) (accountAt c j)) ⌝ }
+    requires { ⌜ ((j : ℕ) → j < setup .n → AccountRange (setup .limits) (setup .q) (getD (setup .criticality) j 0) (accountAt c j)) ⌝ }
     ensures { λ t. ⌜ t ≡ countersOf setup health c ⌝ }
 {
     let n = setup.n;

@@ -18,7 +18,7 @@ use Rattle.setup.specs.declared.Setup.{Setup}
 use Rattle.setup.proofs.SetupRoundTrip.{round-trip as setups}
 use Rattle.rules.specs.Hearing.{busWord}
 use Rattle.image.specs.Layout.{imageLength}
-use Rattle.image.specs.Check.{lengthIn, checkImage}
+use Rattle.image.specs.Check.{imageLengthIn, checkImage}
 use Rattle.presence.specs.Opening.{fresh, openOf}
 use Rattle.presence.specs.Step.{markOf}
 use Rattle.presence.specs.Image.{imageOf, stateOf}
@@ -150,7 +150,7 @@ module _ (S : Session) (setup : List ℕ) (set-up : SetUp S setup) where
       unfolding stateOf
       setup-is = ap (λ (x : State). x .setup) st-is ∙ held S ok i below k .setup
 
-      room : (out : List ℕ) → length out ≡ imageLength (frontOf (S .setup)) (size S) → length out ≡ lengthIn image
+      room : (out : List ℕ) → length out ≡ imageLength (frontOf (S .setup)) (size S) → length out ≡ imageLengthIn image
       room out e = e ∙ ap (λ (s : Setup). imageLength (frontOf s) (s .n)) (sym setup-is) ∙ sym (read-sized image)
 
       told : Verdict → ℕ → WordAnswer
@@ -180,7 +180,7 @@ module _ (S : Session) (setup : List ℕ) (set-up : SetUp S setup) where
     opens-so : Opens S setup i
     opens-so =
         let most : i + 1 ≤ sizeOf setup = omega (arith, setup-size) in
-        let room : imageLength (frontOf (S .setup)) (size S) ≡ lengthIn setup =
+        let room : imageLength (frontOf (S .setup)) (size S) ≡ imageLengthIn setup =
         ap (λ (s : Setup). imageLength (frontOf s) (s .n)) (set-up .same) ∙ sym (read-sized setup)
         in
         record {

@@ -9,7 +9,7 @@ use Rattle.words.proofs.BitLaws.{bit-full}
 use Rattle.doubles.specs.Double.{double}
 use Rattle.doubles.specs.Array.{entry}
 use Rattle.doubles.proofs.DoubleArrayLaws.{zeros-at}
-use Rattle.setup.proofs.LimitLaws.{fading-fit}
+use Rattle.setup.proofs.BoundLaws.{fading-fit}
 use Rattle.setup.proofs.SetupLaws.{verdict-fits}
 use Rattle.accounts.specs.TakenBack.{countersAfter}
 use Rattle.accounts.specs.Charges.{NoneCharged, chargesBy}
@@ -20,7 +20,7 @@ use Rattle.presence.specs.declared.State.{State}
 use Rattle.agreement.specs.Session.{Session, Accepted, size, health}
 use Rattle.agreement.specs.Life.{Life}
 use Rattle.agreement.specs.BackInView.{sees}
-use Rattle.agreement.specs.ScoresCounted.{scoreIn, chargesSeen, ScoresCounted}
+use Rattle.agreement.specs.ScoresCounted.{scoreHeld, chargesSeen, ScoresCounted}
 use Rattle.agreement.proofs.Steps.{life}
 use Rattle.agreement.proofs.Shared.{fresh-counters}
 use Rattle.agreement.proofs.Demand.{demand-3}
@@ -51,9 +51,9 @@ module _ (S : Session) (ok : Accepted S) (i j : ℕ) (hi : i < size S) (hj : j <
 
   -- so what is said of the score by its health vectors is said of the score that it holds
   score-seen : (kept : ℕ → ℕ) (k : ℕ) (st : State) (h : ℕ) → Life S i k st h → entry (after k .score) j ≡ double (charged kept k)
-      → scoreIn st j ≡ double (chargesSeen kept S i k j)
+      → scoreHeld st j ≡ double (chargesSeen kept S i k j)
   score-seen kept k st h a e =
-      ap (λ (t : State). scoreIn t j) (life S ok i hi k h st a .0)
+      ap (λ (t : State). scoreHeld t j) (life S ok i hi k h st a .0)
       ∙ ap (λ (c : Counters). entry (c .score) j) (counters-after S ok i hi k)
       ∙ e
       ∙ ap double (sym (seen-charges kept k))

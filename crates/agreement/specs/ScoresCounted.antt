@@ -16,8 +16,8 @@ use Rattle.agreement.specs.Demand.{KeptTo}
 use Rattle.agreement.specs.BackInView.{sees}
 
 -- the score of module j in a state
-abbrev pub scoreIn : State → ℕ → Float
-scoreIn st j = entry (st .counters .score) j
+abbrev pub scoreHeld : State → ℕ → Float
+scoreHeld st j = entry (st .counters .score) j
 
 -- How many charges module i has counted against module j after k rounds, since its opening or since it took j back: one for each round in which it
 -- had j in its view and gave it health 0. A round with health 1 leaves `kept` of those before.
@@ -31,10 +31,10 @@ chargesSeen kept S i (suc k) j =
 pub record ScoresCounted : Type 0 where
   -- with factor 1.0 a score is exactly the number of charges taken in the view since opening or the last return
   pub exact : (S : Session) → Accepted S → (limit : Float) → S .setup .limits ≡ Fading (double 1) limit → (i j k : ℕ) → i < size S → j < size S
-      → (st : State) (h : ℕ) → Life S i k st h → scoreIn st j ≡ double (chargesSeen (λ before. before) S i k j)
+      → (st : State) (h : ℕ) → Life S i k st h → scoreHeld st j ≡ double (chargesSeen (λ before. before) S i k j)
   -- with factor 0.0 the number of charges since the last good round
   pub recent : (S : Session) → Accepted S → (limit : Float) → S .setup .limits ≡ Fading (double 0) limit → (i j k : ℕ) → i < size S → j < size S
-      → (st : State) (h : ℕ) → Life S i k st h → scoreIn st j ≡ double (chargesSeen (λ before. 0) S i k j)
+      → (st : State) (h : ℕ) → Life S i k st h → scoreHeld st j ≡ double (chargesSeen (λ before. 0) S i k j)
   -- and while the limit is kept all rule-followers hold the same bits
   pub bits : (S : Session) → Accepted S → (last : ℕ) → Bound S last → (k : ℕ) → 0 < k → k ≤ last → KeptTo S k → (i i′ j h h′ : ℕ) (st st′ : State)
-      → RuleFollower S i → RuleFollower S i′ → Life S i k st h → Life S i′ k st′ h′ → toBits binary64 (scoreIn st j) ≡ toBits binary64 (scoreIn st′ j)
+      → RuleFollower S i → RuleFollower S i′ → Life S i k st h → Life S i′ k st′ h′ → toBits binary64 (scoreHeld st j) ≡ toBits binary64 (scoreHeld st′ j)

@@ -165,9 +165,9 @@ deadCases =
 -- ---- * P = 1: one charge stays in, a second leaves; one charge and three good rounds clear both counters (R = 3)
 
 -- the counters after rounds with these health vectors, one after the other
-abbrev pub counts : List ℕ → Counters → Counters
-counts [] c = c
-counts (h ∷ hs) c = counts hs (countersOf sheet h c)
+abbrev pub accountsAfter : List ℕ → Counters → Counters
+accountsAfter [] c = c
+accountsAfter (h ∷ hs) c = accountsAfter hs (countersOf sheet h c)
 
 -- the counters of a fresh module
 abbrev pub freshCounters : Counters
@@ -176,10 +176,10 @@ freshCounters = fresh sheet 1 .counters
 -- By 14 module 1 alone has health 0. The view after one charge and after two; both counters after one charge and two good rounds, then three.
 abbrev pub countCases : List Case
 countCases =
-    case (digits 4 (counts (14 ∷ []) freshCounters .view)) 1111 ∷ case (digits 4 (counts (14 ∷ 14 ∷ []) freshCounters .view)) 111
-    ∷ case (getD (counts (14 ∷ 15 ∷ 15 ∷ []) freshCounters .penalty) 0 9) 1 ∷ case (getD (counts (14 ∷ 15 ∷ 15 ∷ []) freshCounters .reward) 0 9) 2
-    ∷ case (getD (counts (14 ∷ 15 ∷ 15 ∷ 15 ∷ []) freshCounters .penalty) 0 9) 0
-    ∷ case (getD (counts (14 ∷ 15 ∷ 15 ∷ 15 ∷ []) freshCounters .reward) 0 9) 0 ∷ []
+    case (digits 4 (accountsAfter (14 ∷ []) freshCounters .view)) 1111 ∷ case (digits 4 (accountsAfter (14 ∷ 14 ∷ []) freshCounters .view)) 111
+    ∷ case (getD (accountsAfter (14 ∷ 15 ∷ 15 ∷ []) freshCounters .penalty) 0 9) 1 ∷ case (getD (accountsAfter (14 ∷ 15 ∷ 15 ∷ []) freshCounters .reward) 0 9) 2
+    ∷ case (getD (accountsAfter (14 ∷ 15 ∷ 15 ∷ 15 ∷ []) freshCounters .penalty) 0 9) 0
+    ∷ case (getD (accountsAfter (14 ∷ 15 ∷ 15 ∷ 15 ∷ []) freshCounters .reward) 0 9) 0 ∷ []
 
 -- ---- * N = 4: 5000000F is heard, 5000001F and 4000000F are not
 abbrev pub wordCases : List Case

@@ -18,7 +18,7 @@ use Rattle.words.proofs.RunLaws.{put-run}
 use Rattle.setup.specs.Layout.{frontWords, setupWords, setupLength}
 use Rattle.setup.specs.Limits.{fades}
 use Rattle.setup.specs.Setup.{sizeIn, placeIn, fadesIn, frontIn, setupOf, setupBytes}
-use Rattle.setup.proofs.LimitLaws.{front-most, read-fades}
+use Rattle.setup.proofs.BoundLaws.{front-most, read-fades}
 use Rattle.setup.proofs.FrontLaws.{setup-written}
 use Rattle.rules.specs.Lag.{skewed}
 use Rattle.rules.specs.Hearing.{readingOf, causesOf}

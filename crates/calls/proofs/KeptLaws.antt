@@ -17,7 +17,7 @@ use Rattle.setup.specs.declared.Limits.{Limits}
 use Rattle.setup.specs.declared.Limits.the-variants.{Counts, Fading}
 use Rattle.accounts.specs.Round.{accountAt, countersOf}
 use Rattle.accounts.specs.Lent.{fadedAt}
-use Rattle.accounts.specs.Range.{Countable}
+use Rattle.accounts.specs.Range.{AccountRange}
 use Rattle.accounts.specs.declared.Counters.{Counters}
 use Rattle.accounts.proofs.RoundLaws.{Kept}
 use Rattle.accounts.proofs.CountedLaws.{range-in, counted-counters}
@@ -26,7 +26,7 @@ use Rattle.image.specs.Part.{firstOf, secondOf}
 use Rattle.calls.specs.Held.{LentRange, keptAt, keptView, keptFirst, keptSecond, keptReturns}
 
 -- what is lent is in range where the accounts are
-pub lent-range : (l : Limits) (q : ℕ) (k : List ℕ) (n : ℕ) (c : Counters) (j : ℕ) → Countable l q (getD k j 0) (accountAt c j)
+pub lent-range : (l : Limits) (q : ℕ) (k : List ℕ) (n : ℕ) (c : Counters) (j : ℕ) → AccountRange l q (getD k j 0) (accountAt c j)
     → LentRange l q k (firstOf (fades l) n c) (secondOf (fades l) n c) (c .returns) j
 lent-range (Counts p r) q k n c j f = range-in p q (getD k j 0) c j f
 lent-range (Fading factor limit) q k n c j f = score-range limit q _ _ c j f

@@ -5,4 +5,4 @@ pub mod CallAnswers
 pub mod Refusals
 pub mod OutgoingImage
 pub mod ReturnCases
-pub mod FadingCalls
+pub mod Cases

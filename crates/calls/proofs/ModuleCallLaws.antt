@@ -20,7 +20,7 @@ use Rattle.words.specs.Verdict.{verdict, accepted, isAccepted, between, allRigh
 use Rattle.setup.specs.Layout.{frontWords}
 use Rattle.setup.specs.Limits.{fades}
 use Rattle.setup.specs.Setup.{sizeIn, markIn, fadesIn, frontIn, frontOf, setupOf, blankSetup}
-use Rattle.setup.proofs.LimitLaws.{read-fades}
+use Rattle.setup.proofs.BoundLaws.{read-fades}
 use Rattle.words.proofs.VerdictLaws.{between-of}
 use Rattle.setup.specs.Check.{checkSetup, readSetup}
 use Rattle.setup.specs.declared.Setup.{Setup}

@@ -22,7 +22,7 @@ use Rattle.setup.proofs.SetupRoundTrip.{read-fits}
 use Rattle.rules.specs.Hearing.{readingOf, causesOf}
 use Rattle.rules.specs.declared.Reading.{Reading}
 use Rattle.image.specs.Layout.{imageLength}
-use Rattle.image.specs.Check.{lengthIn, tailTests, imageTests, checkImage}
+use Rattle.image.specs.Check.{imageLengthIn, tailTests, imageTests, checkImage}
 use Rattle.presence.specs.Opening.{fresh, blank, checkOpening, openOf}
 use Rattle.presence.specs.Step.{judgementFor, afterRound, refusedStep, acceptedStep, readStep, stepOf}
 use Rattle.presence.specs.Image.{stateOf, roomFor}
@@ -234,17 +234,17 @@ pub both-accept : (v next : Verdict) → v .number ≡ 0 → next ≡ accepted �
 both-accept v next z e = and-then-next v next z ∙ e
 
 pub open-accepted : (setup : List ℕ) (own : ℕ) (out : List ℕ) → checkSetup setup .number ≡ 0 → 1 ≤ own → own ≤ sizeOf setup
-    → length out ≡ lengthIn setup → openCall setup own out .answer .number ≡ 0
+    → length out ≡ imageLengthIn setup → openCall setup own out .answer .number ≡ 0
 unfolding openVerdict Passed
 open-accepted setup own out z h l room =
     let e : openVerdict setup own out ≡ accepted =
     both-accept (checkSetup setup) _ z
     (tests-ok (single (between 1 (sizeOf setup) own) 7 0 ∷ single (hasRoom setup out) 9 0 ∷ [])
-    (λ _ _. between-of 1 (sizeOf setup) own h l, (λ _ _. eq-eqb (length out) (lengthIn setup) room, tt)))
+    (λ _ _. between-of 1 (sizeOf setup) own h l, (λ _ _. eq-eqb (length out) (imageLengthIn setup) room, tt)))
     in
     ap (λ (c : Called). c .answer .number) (opening setup own out) ∙ answered (openVerdict setup own out) 0 _ out ∙ ap (λ (v : Verdict). v .number) e
 
-pub step-accepted : (image read : List ℕ) (controller : ℕ) (out : List ℕ) → checkImage image .number ≡ 0 → length out ≡ lengthIn image
+pub step-accepted : (image read : List ℕ) (controller : ℕ) (out : List ℕ) → checkImage image .number ≡ 0 → length out ≡ imageLengthIn image
     → length read ≡ sizeOf image * 4 → controller < 2 ^ sizeOf image → stepCall image read controller out .answer .number ≡ 0
 unfolding stepVerdict Passed
 step-accepted image read controller out z room whole bits =
@@ -257,13 +257,13 @@ step-accepted image read controller out z room whole bits =
     ap (λ (c : Called). c .answer .number) (step image read controller out) ∙ answered (stepVerdict image read controller out) _ _ out
     ∙ ap (λ (v : Verdict). v .number) e
 
-pub save-accepted : (image out : List ℕ) → checkImage image .number ≡ 0 → length out ≡ lengthIn image
+pub save-accepted : (image out : List ℕ) → checkImage image .number ≡ 0 → length out ≡ imageLengthIn image
     → saveCall image out .answer .number ≡ 0
 unfolding savingVerdict Passed
 save-accepted image out z room =
     let e : savingVerdict image out ≡ accepted =
     both-accept (checkImage image) _ z
-    (tests-ok (single (hasRoom image out) 9 0 ∷ []) (λ _ _. eq-eqb (length out) (lengthIn image) room, tt))
+    (tests-ok (single (hasRoom image out) 9 0 ∷ []) (λ _ _. eq-eqb (length out) (imageLengthIn image) room, tt))
     in
     ap (λ (c : Called). c .answer .number) (saving image out) ∙ answered (savingVerdict image out) 0 (stateOf image) out ∙ ap (λ (v : Verdict). v .number) e
 

@@ -14,7 +14,7 @@ use Rattle.setup.specs.Setup.{sizeIn, setupOf}
 use Rattle.setup.specs.Check.{checkSetup}
 use Rattle.words.specs.declared.Verdict.{Verdict}
 use Rattle.rules.specs.Hearing.{readingOf}
-use Rattle.image.specs.Check.{lengthIn, checkImage}
+use Rattle.image.specs.Check.{imageLengthIn, checkImage}
 use Rattle.presence.specs.Opening.{fresh}
 use Rattle.presence.specs.Step.{judgementFor, afterRound}
 use Rattle.presence.specs.Image.{stateOf}
@@ -27,7 +27,7 @@ sizeOf s = sizeIn (wordAt s 0)
 
 -- the output has the length of an image of the setup at the front of s, an image's or a setup's bytes
 abbrev pub hasRoom : List ℕ → List ℕ → Bool
-hasRoom s out = eqb (length out) (lengthIn s)
+hasRoom s out = eqb (length out) (imageLengthIn s)
 
 -- ---- the answers, in their order
 

@@ -76,23 +76,24 @@ non-negative-no-nan (fin s m k) e = tt
 -- ---- round trips
 
 -- writing a double that was read gives its words again
-pub high-of-read : (h l : ℕ) → h < 2 ^ 32 → l < 2 ^ 32 → nonNegative (ofBits binary64 (h * 2 ^ 32 + l)) ≡ true → highWord (ofBits binary64 (h * 2 ^ 32 + l)) ≡ h
-unfolding highWord
-high-of-read h l hh hl e =
-    let b : h * 2 ^ 32 + l < 2 ^ 64 = omega arith in
-    let q : toBits binary64 (ofBits binary64 (h * 2 ^ 32 + l)) ≡ h * 2 ^ 32 + l = toBits-ofBits binary64 (h * 2 ^ 32 + l) b (non-negative-no-nan _ e) in
-    rw q (omega arith)
+module _ (h l : ℕ) (hh : h < 2 ^ 32) (hl : l < 2 ^ 32) (e : nonNegative (ofWords h l) ≡ true) where
+  bits-of-read : toBits binary64 (ofWords h l) ≡ h * 2 ^ 32 + l
+  unfolding ofWords
+  bits-of-read =
+      let b : h * 2 ^ 32 + l < 2 ^ 64 = omega arith in
+      toBits-ofBits binary64 (h * 2 ^ 32 + l) b (non-negative-no-nan (ofWords h l) e)
 
-pub low-of-read : (h l : ℕ) → h < 2 ^ 32 → l < 2 ^ 32 → nonNegative (ofBits binary64 (h * 2 ^ 32 + l)) ≡ true → lowWord (ofBits binary64 (h * 2 ^ 32 + l)) ≡ l
-unfolding lowWord
-low-of-read h l hh hl e =
-    let b : h * 2 ^ 32 + l < 2 ^ 64 = omega arith in
-    let q : toBits binary64 (ofBits binary64 (h * 2 ^ 32 + l)) ≡ h * 2 ^ 32 + l = toBits-ofBits binary64 (h * 2 ^ 32 + l) b (non-negative-no-nan _ e) in
-    rw q (omega arith)
+  pub high-of-read : highWord (ofWords h l) ≡ h
+  unfolding highWord
+  high-of-read = rw bits-of-read (omega arith)
+
+  pub low-of-read : lowWord (ofWords h l) ≡ l
+  unfolding lowWord
+  low-of-read = rw bits-of-read (omega arith)
 
 -- reading a double that was written gives it again
-pub read-of-written : (x : Float) → T (fits binary64 x) → ofBits binary64 (highWord x * 2 ^ 32 + lowWord x) ≡ x
-unfolding highWord lowWord
+pub read-of-written : (x : Float) → T (fits binary64 x) → ofWords (highWord x) (lowWord x) ≡ x
+unfolding ofWords highWord lowWord
 read-of-written x h =
     let b = toBits binary64 x in
     let e : b / 2 ^ 32 * 2 ^ 32 + b % 2 ^ 32 ≡ b = omega arith in

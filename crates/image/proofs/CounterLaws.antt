@@ -24,7 +24,7 @@ use Rattle.setup.specs.Setup.{returnLimitIn, sizeIn, limitIn, criticalityIn, fa
 use Rattle.setup.specs.declared.Setup.{Setup}
 use Rattle.setup.specs.declared.Limits.{Limits}
 use Rattle.setup.specs.declared.Limits.the-variants.{Counts, Fading}
-use Rattle.setup.proofs.LimitLaws.{CountsFit, LimitsFit}
+use Rattle.setup.proofs.BoundLaws.{CountsFit, LimitsFit}
 use Rattle.setup.proofs.SetupLaws.{SetupFits}
 use Rattle.accounts.specs.Round.{accountAt, countersOf}
 use Rattle.accounts.specs.declared.Counters.{Counters}

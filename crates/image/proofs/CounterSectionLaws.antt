@@ -18,7 +18,7 @@ use Rattle.doubles.specs.Array.{clearDoubles}
 use Rattle.setup.specs.declared.Setup.{Setup}
 use Rattle.setup.specs.Layout.{frontWords}
 use Rattle.setup.specs.declared.Limits.the-variants.{Counts}
-use Rattle.setup.proofs.LimitLaws.{CountsFit}
+use Rattle.setup.proofs.BoundLaws.{CountsFit}
 use Rattle.setup.proofs.SetupLaws.{SetupFits}
 use Rattle.accounts.specs.Round.{countersOf}
 use Rattle.accounts.specs.declared.Counters.{Counters}

@@ -20,7 +20,7 @@ use Rattle.setup.proofs.WordFields.{head-made}
 use Rattle.setup.proofs.SetupCheckLaws.{head-pass}
 use Rattle.setup.proofs.SetupAnswerLaws.{head-stays, head-short, head-goes}
 use Rattle.image.specs.Layout.{imageLength}
-use Rattle.image.specs.Check.{imageTests, lengthIn, checkTail, imageSize, checkImage}
+use Rattle.image.specs.Check.{imageTests, imageLengthIn, checkTail, imageSize, checkImage}
 use Rattle.image.proofs.TailLaws.{image-numbers, tests-parts}
 
 -- v is the answer of numbers 1 and 2
@@ -31,7 +31,7 @@ module _ {v : Verdict} (s : List ℕ) (e : v ≡ checkHead s true) where
 
   -- n modules, whose words stand after the first `front`, by the form of the setup
   module _ {n front : ℕ} {b : Bool} (size : n ≡ sizeIn (wordAt s 0)) (form : b ≡ fadesIn (wordAt s)) (at : front ≡ frontWords b) (z : v .number ≡ 0) where
-    length-is : imageLength front n ≡ lengthIn s
+    length-is : imageLength front n ≡ imageLengthIn s
     length-is = ap₂ imageLength (at ∙ ap frontWords form) size
 
     pub stays-length : {r : Verdict} → (length s ≡ imageLength front n → ⊥) → r ≡ verdict 3 0 → r ≡ checkImage s
@@ -53,12 +53,12 @@ module _ {v : Verdict} (s : List ℕ) (e : v ≡ checkHead s true) where
 
 module _ (s : List ℕ) where
   abbrev headed : Bool
-  headed = isAccepted (checkHead s (eqb (length s) (lengthIn s)))
+  headed = isAccepted (checkHead s (eqb (length s) (imageLengthIn s)))
 
   -- by the answer r of the head and the length
-  head-is : {r : Verdict} → r ≡ andThen (checkHead s (eqb (length s) (lengthIn s))) accepted → headed ≡ isAccepted r
+  head-is : {r : Verdict} → r ≡ andThen (checkHead s (eqb (length s) (imageLengthIn s))) accepted → headed ≡ isAccepted r
   head-is {r} e =
-      let a = checkHead s (eqb (length s) (lengthIn s)) in
+      let a = checkHead s (eqb (length s) (imageLengthIn s)) in
       sym (ap isAccepted e ∙ and-then-accepts a accepted ∙ and-end (isAccepted a))
 
   module _ {v : Verdict} (e : v ≡ checkHead s true) where
@@ -78,7 +78,7 @@ module _ (s : List ℕ) where
   accepted-by : isAccepted (checkImage s) ≡ headed && allRight (imageTests s (sizeIn (wordAt s 0)))
   unfolding checkImage
   accepted-by =
-      and-then-accepts (checkHead s (eqb (length s) (lengthIn s))) _
+      and-then-accepts (checkHead s (eqb (length s) (imageLengthIn s))) _
       ∙ ap (λ (b : Bool). headed && b) (tests-accept (imageTests s (sizeIn (wordAt s 0))) (image-numbers s (sizeIn (wordAt s 0))))
 
   -- size 0: number 1, 2 or 3
@@ -107,14 +107,14 @@ module _ (s : List ℕ) where
 
     pub size-fits : (n ≤ 16) × (length s ≡ imageLength (frontIn (wordAt s)) n) × (n ≡ sizeIn (wordAt s 0)) × (length s % 4 ≡ 0)
     size-fits =
-        let (h, f) = head-pass s (eqb (length s) (lengthIn s)) (eqb-true _ 0 headed-so) in
+        let (h, f) = head-pass s (eqb (length s) (imageLengthIn s)) (eqb-true _ 0 headed-so) in
         let m = h .most in
         (omega (arith, size-same), eqb-true _ _ f ∙ ap (imageLength (frontIn (wordAt s))) (sym size-same), size-same, h .whole)
 
     -- the return limit of the head
     pub size-return : returnLimitIn (wordAt s 0) ≤ mostReturnLimit
     size-return =
-        let (h, f) = head-pass s (eqb (length s) (lengthIn s)) (eqb-true _ 0 headed-so) in
+        let (h, f) = head-pass s (eqb (length s) (imageLengthIn s)) (eqb-true _ 0 headed-so) in
         head-made (wordAt s 0) (h .head) .0 .limit
 
     -- then the words decide

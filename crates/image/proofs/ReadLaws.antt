@@ -16,7 +16,7 @@ use Rattle.setup.specs.Limits.{mostPenaltyLimit, mostRewardLimit}
 use Rattle.setup.specs.Setup.{returnLimitIn, limitIn, criticalityIn, fadesIn, limitsIn}
 use Rattle.setup.specs.Check.{limitTests, wordTests}
 use Rattle.setup.specs.Modules.{moduleRight}
-use Rattle.setup.proofs.LimitLaws.{limits-read}
+use Rattle.setup.proofs.BoundLaws.{limits-read}
 use Rattle.setup.proofs.SetupReadLaws.{words-good}
 use Rattle.image.specs.Layout.{ownAt, latestAt, earlierAt, accountsAt}
 use Rattle.image.specs.Words.{viewIn, ownNumberOk, ownOk, syndromeOk}

@@ -24,7 +24,7 @@ use Rattle.setup.specs.Layout.{scoreLimitAt}
 use Rattle.setup.specs.declared.Setup.{Setup}
 use Rattle.setup.specs.declared.Limits.the-variants.{Fading}
 use Rattle.setup.specs.Limits.{limitFits}
-use Rattle.setup.proofs.LimitLaws.{FadingFit, limit-least}
+use Rattle.setup.proofs.BoundLaws.{FadingFit, limit-least}
 use Rattle.setup.proofs.SetupLaws.{SetupFits}
 use Rattle.accounts.specs.Round.{accountAt, countersOf}
 use Rattle.accounts.specs.declared.Counters.{Counters}

@@ -19,7 +19,7 @@ use Rattle.image.specs.Layout.{ownAt, latestAt, earlierAt}
 use Rattle.image.specs.Words.{ownNumberOk, ownOk, syndromeOk}
 use Rattle.image.specs.Rows.{rowTest}
 use Rattle.image.specs.Counters.{counterTests}
-use Rattle.image.specs.Check.{tailTests, imageTests, lengthIn, checkTail, checkImage}
+use Rattle.image.specs.Check.{tailTests, imageTests, imageLengthIn, checkTail, checkImage}
 
 -- ---- numbers 7 and 8
 
@@ -58,7 +58,7 @@ tail-ok fades w n f =
 
 pub record ImageFits (s : List ℕ) : Type 0 where
   pub front : HeadFits s
-  pub size : length s ≡ lengthIn s
+  pub size : length s ≡ imageLengthIn s
   pub words : WordsFit s (sizeIn (wordAt s 0))
   pub tail : TailFits (fadesIn (wordAt s)) (wordAt s) (sizeIn (wordAt s 0))
 
@@ -75,17 +75,17 @@ pub image-pass : (s : List ℕ) → checkImage s .number ≡ 0 → ImageFits s
 unfolding checkImage
 image-pass s e =
     let n = sizeIn (wordAt s 0) in
-    let (a, b) = and-then-pass (checkHead s (eqb (length s) (lengthIn s))) _ e in
-    let (h, f) = head-pass s (eqb (length s) (lengthIn s)) a in
+    let (a, b) = and-then-pass (checkHead s (eqb (length s) (imageLengthIn s))) _ e in
+    let (h, f) = head-pass s (eqb (length s) (imageLengthIn s)) a in
     let (c, d) = and-then-pass (checkWords s n) (checkTail (fadesIn (wordAt s)) (wordAt s) n) (ap (λ (v : Verdict). v .number) (sym (tests-parts s n)) ∙ b) in
-    record { front = h; size = eqb-true (length s) (lengthIn s) f; words = words-pass s n c; tail = tail-pass (fadesIn (wordAt s)) (wordAt s) n d }
+    record { front = h; size = eqb-true (length s) (imageLengthIn s) f; words = words-pass s n c; tail = tail-pass (fadesIn (wordAt s)) (wordAt s) n d }
 
 pub image-ok : (s : List ℕ) → ImageFits s → checkImage s ≡ accepted
 unfolding checkImage
 image-ok s f =
     let n = sizeIn (wordAt s 0) in
-    let h : checkHead s (eqb (length s) (lengthIn s)) ≡ accepted = head-ok s _ (f .front) (eq-eqb _ _ (f .size)) in
-    and-then-next (checkHead s (eqb (length s) (lengthIn s))) _ (ap (λ (v : Verdict). v .number) h)
+    let h : checkHead s (eqb (length s) (imageLengthIn s)) ≡ accepted = head-ok s _ (f .front) (eq-eqb _ _ (f .size)) in
+    and-then-next (checkHead s (eqb (length s) (imageLengthIn s))) _ (ap (λ (v : Verdict). v .number) h)
     ∙ tests-parts s n
     ∙ and-then-next (checkWords s n) _ (ap (λ (v : Verdict). v .number) (words-ok s n (f .words)))
     ∙ tail-ok (fadesIn (wordAt s)) (wordAt s) n (f .tail)

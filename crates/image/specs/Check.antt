@@ -36,16 +36,16 @@ abbrev pub imageTests : List ℕ → ℕ → List Test
 imageTests s n = wordTests s n ++ tailTests (fadesIn (wordAt s)) (wordAt s) n
 
 -- the length in bytes that the head and the kind of the second word ask for
-abbrev pub lengthIn : List ℕ → ℕ
-lengthIn s = imageLength (frontIn (wordAt s)) (sizeIn (wordAt s headAt))
+abbrev pub imageLengthIn : List ℕ → ℕ
+imageLengthIn s = imageLength (frontIn (wordAt s)) (sizeIn (wordAt s headAt))
 
 -- N by the head where numbers 1 to 3 accept, else 0
 unfoldable pub imageSize : List ℕ → ℕ
-imageSize s = cond (isAccepted (checkHead s (eqb (length s) (lengthIn s)))) (sizeIn (wordAt s headAt)) 0
+imageSize s = cond (isAccepted (checkHead s (eqb (length s) (imageLengthIn s)))) (sizeIn (wordAt s headAt)) 0
 
 -- numbers 1 to 8 and 22
 unfoldable pub checkImage : List ℕ → Verdict
-checkImage s = andThen (checkHead s (eqb (length s) (lengthIn s))) (firstRefusal (imageTests s (sizeIn (wordAt s headAt))))
+checkImage s = andThen (checkHead s (eqb (length s) (imageLengthIn s))) (firstRefusal (imageTests s (sizeIn (wordAt s headAt))))
 
 -- The tests of the words that stand alone, as one pass joins them.
 abbrev pub wordsRight : (ℕ → ℕ) → ℕ → ℕ → Bool

@@ -11,7 +11,7 @@ use Rattle.words.specs.Runs.{runsOf}
 use Rattle.words.proofs.ByteLaws.{word-first}
 use Rattle.setup.specs.Limits.{fades}
 use Rattle.setup.specs.Setup.{headWord, sizeIn, fadesIn, frontOf}
-use Rattle.setup.proofs.LimitLaws.{fades-back}
+use Rattle.setup.proofs.BoundLaws.{fades-back}
 use Rattle.image.specs.Layout.{ownAt, imageLength}
 use Rattle.image.specs.Words.{viewIn}
 use Rattle.image.proofs.SingleWords.{view-back}

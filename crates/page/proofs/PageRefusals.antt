@@ -15,7 +15,7 @@ use Rattle.setup.specs.Check.{checkSetup}
 use Rattle.words.specs.declared.Verdict.{Verdict}
 use Rattle.words.proofs.VerdictLaws.{Passed, between-of, tests-ok}
 use Rattle.rules.specs.Hearing.{readingOf, causesOf}
-use Rattle.image.specs.Check.{lengthIn, checkImage}
+use Rattle.image.specs.Check.{imageLengthIn, checkImage}
 use Rattle.presence.specs.Opening.{fresh, openOf}
 use Rattle.presence.specs.Step.{judgementFor, afterRound, acceptedStep, stepOf}
 use Rattle.presence.specs.Image.{stateOf}
@@ -198,7 +198,7 @@ module _ (image read : List ℕ) (controller : ℕ) (out page : List ℕ) where
 -- ---- accepted calls
 
 pub open-accepted : (setup : List ℕ) (own : ℕ) (out page : List ℕ) → checkSetup setup .number ≡ 0 → 1 ≤ own → own ≤ sizeOf setup
-    → length out ≡ lengthIn setup → length page ≡ 64 → pageOpenCall setup own out page .call .answer .number ≡ 0
+    → length out ≡ imageLengthIn setup → length page ≡ 64 → pageOpenCall setup own out page .call .answer .number ≡ 0
 unfolding pageOpenVerdict Passed
 open-accepted setup own out page z h l room long =
     let e : pageOpenVerdict setup own out page ≡ accepted =
@@ -210,7 +210,7 @@ open-accepted setup own out page z h l room long =
     ∙ ap (λ (v : Verdict). v .number) e
 
 pub step-accepted : (image read : List ℕ) (controller : ℕ) (out page : List ℕ) → checkImage image .number ≡ 0
-    → length out ≡ lengthIn image → length read ≡ sizeOf image * 4 → controller < 2 ^ sizeOf image → length page ≡ 64
+    → length out ≡ imageLengthIn image → length read ≡ sizeOf image * 4 → controller < 2 ^ sizeOf image → length page ≡ 64
     → pageStepCall image read controller out page .call .answer .number ≡ 0
 unfolding pageStepVerdict Passed
 step-accepted image read controller out page z room whole bits long =

@@ -22,7 +22,7 @@ use Rattle.setup.specs.RoundTrip.{ShapedSetup}
 use Rattle.setup.specs.declared.Setup.{Setup}
 use Rattle.setup.specs.declared.SetupRead.{SetupRead}
 use Rattle.setup.proofs.SetupLaws.{SetupFits, verdict-fits}
-use Rattle.setup.proofs.LimitLaws.{front-least, read-fades, fades-same}
+use Rattle.setup.proofs.BoundLaws.{front-least, read-fades, fades-same}
 use Rattle.setup.proofs.SetupWords.{written-length, written-fades}
 use Rattle.setup.proofs.SetupCheckLaws.{WordsFit, setup-pass}
 use Rattle.setup.proofs.SetupRoundTrip.{read-back}

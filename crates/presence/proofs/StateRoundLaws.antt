@@ -20,7 +20,7 @@ use Rattle.rules.specs.Hearing.{readingOf, causesOf}
 use Rattle.rules.specs.Alignment.{alignedOf}
 use Rattle.rules.specs.Syndrome.{judgementOf}
 use Rattle.accounts.specs.Round.{accountAt, countersOf}
-use Rattle.accounts.specs.Range.{Countable}
+use Rattle.accounts.specs.Range.{AccountRange}
 use Rattle.accounts.proofs.RoundLaws.{kept-countable}
 use Rattle.rules.specs.declared.Reading.{Reading}
 use Rattle.accounts.specs.declared.Counters.{Counters}
@@ -71,7 +71,7 @@ after-made st this {j} {c} e h =
 
 -- the accounts of a valid state are small enough to add to
 pub in-range : (st : State) → StateFits st → (j : ℕ) → j < st .setup .n
-    → Countable (st .setup .limits) (st .setup .q) (getD (st .setup .criticality) j 0) (accountAt (st .counters) j)
+    → AccountRange (st .setup .limits) (st .setup .q) (getD (st .setup .criticality) j 0) (accountAt (st .counters) j)
 in-range st f j h =
     let l = st .setup .limits in
     kept-countable l (st .setup .q) _ _ (f .setup .limits) (f .setup .q-most) (f .setup .each j h .most)

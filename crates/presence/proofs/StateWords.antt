@@ -11,7 +11,7 @@ use Rattle.words.specs.Runs.{total, runsOf, runWord}
 use Rattle.words.proofs.RunLaws.{Follows, runs-length, runs-follow, run-words}
 use Rattle.setup.specs.Limits.{fades}
 use Rattle.setup.specs.Setup.{headWord, returnLimitIn, criticalityIn, frontOf}
-use Rattle.setup.proofs.LimitLaws.{LimitsStand, limits-back, fit-room}
+use Rattle.setup.proofs.BoundLaws.{LimitsStand, limits-back, fit-room}
 use Rattle.setup.proofs.SetupLaws.{SetupFits}
 use Rattle.setup.proofs.SetupWords.{moduleOf}
 use Rattle.setup.proofs.WordFields.{return-back, criticality-back}

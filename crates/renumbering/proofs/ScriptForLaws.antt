@@ -20,7 +20,7 @@ use Rattle.setup.specs.Setup.{sizeIn, returnLimitIn, markIn, placeIn, criticali
 use Rattle.setup.specs.Check.{headOk, limitTests, moduleFits, moduleOk, markOk}
 use Rattle.setup.specs.declared.Limits.{Limits}
 use Rattle.setup.specs.declared.Setup.{Setup}
-use Rattle.setup.proofs.LimitLaws.{front-least, limits-same, right-same, fades-same}
+use Rattle.setup.proofs.BoundLaws.{front-least, limits-same, right-same, fades-same}
 use Rattle.setup.proofs.SetupCheckLaws.{HeadFits, WordsFit}
 use Rattle.script.specs.Words.{castAt, eventsAt, castIn}
 use Rattle.script.specs.Check.{checkScript}

@@ -20,7 +20,7 @@ use Rattle.setup.specs.Layout.{frontWords, setupWords, setupLength}
 use Rattle.setup.specs.Setup.{returnLimitIn, sizeIn, markIn, placeIn, criticalityIn, fadesIn, frontIn, limitsIn, setupOf, setupBytes}
 use Rattle.setup.specs.Check.{moduleOk, markOk, limitTests, lengthIn, checkSetup}
 use Rattle.words.specs.declared.Verdict.{Verdict}
-use Rattle.setup.proofs.LimitLaws.{front-least, limits-same, right-same, fades-same}
+use Rattle.setup.proofs.BoundLaws.{front-least, limits-same, right-same, fades-same}
 use Rattle.setup.proofs.SetupLaws.{SetupFits}
 use Rattle.setup.proofs.SetupCheckLaws.{HeadFits, WordsFit, BytesFit, setup-ok}
 use Rattle.setup.proofs.SetupRoundTrip.{read-fits, written-read}

@@ -1,5 +1,5 @@
 pub mod WordFields
-pub mod LimitLaws
+pub mod BoundLaws
 pub mod SetupCheckLaws
 pub mod SetupWords
 pub mod SetupLaws

@@ -15,7 +15,7 @@ use Rattle.words.proofs.VerdictLaws.{Passed, numbered, and-then-next, and-then-
 use Rattle.setup.specs.Setup.{sizeIn, fadesIn, frontIn}
 use Rattle.setup.specs.Check.{whole, headOk, moduleOk, markOk, limitTests, moduleTest, moduleTests, headTests, wordTests, lengthIn, checkHead, checkWords, checkSetup, checkFront}
 use Rattle.setup.proofs.WordFields.{head-made}
-use Rattle.setup.proofs.LimitLaws.{limit-numbers}
+use Rattle.setup.proofs.BoundLaws.{limit-numbers}
 
 -- ---- numbers 1 to 3
 

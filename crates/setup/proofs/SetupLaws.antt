@@ -15,7 +15,7 @@ use Rattle.setup.specs.Limits.{mostReturnLimit, mostCriticality}
 use Rattle.setup.specs.Setup.{frontIn, setupBytes}
 use Rattle.setup.specs.Check.{moduleFits, markFits, moduleOk, markOk, setupRoomy, limitTests, checkWords, roomVerdict, setupVerdict}
 use Rattle.setup.specs.declared.Setup.{Setup}
-use Rattle.setup.proofs.LimitLaws.{LimitsFit, fit-room, limits-right, right-fit}
+use Rattle.setup.proofs.BoundLaws.{LimitsFit, fit-room, limits-right, right-fit}
 use Rattle.setup.proofs.SetupCheckLaws.{WordsFit, words-pass, words-ok}
 use Rattle.setup.proofs.SetupWords.{Room, room-pass, room-ok, stands, written-fades, fields-back}
 

@@ -25,7 +25,7 @@ use Rattle.setup.specs.Setup.{headWord, returnLimitIn, sizeIn, moduleWor
 use Rattle.setup.specs.Check.{moduleFits, markFits, moduleOk, markOk, checkSetup, setupVerdict, readSetup}
 use Rattle.setup.specs.RoundTrip.{ShapedSetup, SetupRoundTrip}
 use Rattle.setup.proofs.WordFields.{head-made, head-right, module-made}
-use Rattle.setup.proofs.LimitLaws.{LimitsStand, read-fades, limits-read, limits-written}
+use Rattle.setup.proofs.BoundLaws.{LimitsStand, read-fades, limits-read, limits-written}
 use Rattle.setup.proofs.SetupCheckLaws.{BytesFit, setup-pass, setup-ok, WordsFit}
 use Rattle.setup.proofs.SetupWords.{room-head, roomy-of, marks-small, places-bounded, criticality-bounded, written-length, stands, written-fades, fields-back}
 use Rattle.setup.proofs.SetupLaws.{SetupFits, module-is, verdict-fits, fits-verdict, fits-room, fits-words}

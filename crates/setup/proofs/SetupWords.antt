@@ -22,7 +22,7 @@ use Rattle.setup.specs.Setup.{headWord, returnLimitIn, sizeIn, moduleWor
 use Rattle.setup.specs.Check.{setupRoomy, limitRoom, roomTests, roomVerdict}
 use Rattle.setup.specs.declared.Setup.{Setup}
 use Rattle.setup.proofs.WordFields.{HeadMade, head-is, head-of, size-back, return-back, number-back, mark-back, place-back, criticality-back}
-use Rattle.setup.proofs.LimitLaws.{LimitsRoom, LimitsStand, room-numbers, room-passed, passed-room, fades-back, limits-back}
+use Rattle.setup.proofs.BoundLaws.{LimitsRoom, LimitsStand, room-numbers, room-passed, passed-room, fades-back, limits-back}
 
 pub record Room (s : Setup) : Type 0 where
   pub q : s .q ≤ mostReturnLimit

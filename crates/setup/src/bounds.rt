@@ -80,7 +80,7 @@ pub fn limit_fits(x: f64) -> bool
 }
 
 // Whether the words of P and R are right.
-pub fn counts_right(s: &[u8]) -> bool
+pub(crate) fn counts_right(s: &[u8]) -> bool
     requires { ⌜ 12 ≤ length (now s) ⌝ }
     ensures { λ r. ⌜ r ≡ allRight (limitTests false (wordAt (now (s .entry)))) ⌝ }
 {
@@ -89,7 +89,7 @@ pub fn counts_right(s: &[u8]) -> bool
 }
 
 // Whether the kind 0 word, the factor and the limit are right.
-pub fn fading_right(s: &[u8]) -> bool
+pub(crate) fn fading_right(s: &[u8]) -> bool
     requires { ⌜ 24 ≤ length (now s) ⌝ }
     ensures { λ r. ⌜ r ≡ allRight (limitTests true (wordAt (now (s .entry)))) ⌝ }
 {
@@ -140,7 +140,7 @@ fn check_fading(s: &[u8]) -> Verdict
 }
 
 // Number 4 or 22, of a setup that counts or fades.
-pub fn check_limits(s: &[u8], fades: bool) -> Verdict
+pub(crate) fn check_limits(s: &[u8], fades: bool) -> Verdict
     requires { ⌜ frontWords fades * 4 ≤ length (now s) ⌝ }
     ensures { λ r. ⌜ r ≡ firstRefusal (limitTests fades (wordAt (now (s .entry)))) ⌝ }
 {
@@ -222,7 +222,7 @@ fn put_fading(factor: f64, limit: f64, out: &mut [u8])
 }
 
 // Writes limits that have room in their words.
-pub fn put_limits(limits: Limits, out: &mut [u8])
+pub(crate) fn put_limits(limits: Limits, out: &mut [u8])
     requires { ⌜ (firstRefusal (limitRoom limits) .number ≡ 0) × (frontWords (fadesOf limits) * 4 ≤ length (now out)) ⌝ }
     ensures { λ _. ⌜ now (out .exit) ≡ putRun (now (out .entry)) formAt (limitWords (fadesOf limits)) (λ i. getD (limitList limits) i 0) ⌝ }
 {

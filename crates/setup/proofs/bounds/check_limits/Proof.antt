@@ -4,7 +4,7 @@ use mathlib.Core.Bool.{Bool}
 use Rattle.words.specs.Word.{wordAt}
 use Rattle.words.specs.Verdict.{firstRefusal}
 use Rattle.setup.specs.Check.{limitTests}
-use Rattle.setup.proofs.LimitLaws.{fading-bytes, counts-bytes}
+use Rattle.setup.proofs.BoundLaws.{fading-bytes, counts-bytes}
 use Rattle.setup.proofs.bounds.check_limits.Statement.{statement}
 use Rattle.setup.proofs.bounds.check_limits.Tie as tie
 

@@ -2,7 +2,7 @@
 use mathlib.Core.Path.{ap, _∙_}
 use Rattle.words.specs.Word.{wordAt}
 use Rattle.setup.specs.Check.{limitOk}
-use Rattle.setup.proofs.LimitLaws.{counts-by}
+use Rattle.setup.proofs.BoundLaws.{counts-by}
 use borrow.Author.Needs.{needs}
 use Rattle.setup.proofs.bounds.counts_right.Statement.{statement}
 use Rattle.setup.proofs.bounds.counts_right.Tie as tie

@@ -4,7 +4,7 @@ use Prim.Native.Nat.{ℕ, _/_}
 use lib.Dec.{eqb}
 use Rattle.words.specs.Word.{kindUnit}
 use Rattle.setup.specs.Setup.{fadesIn}
-use Rattle.setup.proofs.LimitLaws.{short-fades}
+use Rattle.setup.proofs.BoundLaws.{short-fades}
 use borrow.Author.Needs.{needs}
 use Rattle.setup.proofs.bounds.fades_at.Statement.{statement}
 use Rattle.setup.proofs.bounds.fades_at.Tie as tie

@@ -4,7 +4,7 @@ use Prim.Native.Nat.{ℕ}
 use lib.Dec.{eqb}
 use Rattle.words.specs.Word.{wordAt}
 use Rattle.setup.specs.Limits.{factorFits, limitFits}
-use Rattle.setup.proofs.LimitLaws.{fading-by}
+use Rattle.setup.proofs.BoundLaws.{fading-by}
 use borrow.Author.Needs.{needs}
 use Rattle.setup.proofs.bounds.fading_right.Statement.{statement}
 use Rattle.setup.proofs.bounds.fading_right.Tie as tie

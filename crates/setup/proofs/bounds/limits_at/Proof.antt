@@ -6,7 +6,7 @@ use Prim.Native.Nat.{ℕ}
 use Rattle.words.specs.Word.{wordAt}
 use Rattle.setup.specs.Setup.{limitIn, limitsIn}
 use Rattle.setup.specs.declared.Limits.the-variants.{Counts, Fading}
-use Rattle.setup.proofs.LimitLaws.{fading-bytes, counts-bytes}
+use Rattle.setup.proofs.BoundLaws.{fading-bytes, counts-bytes}
 use Rattle.setup.proofs.bounds.limits_at.Statement.{statement}
 use Rattle.setup.proofs.bounds.limits_at.Tie as tie
 

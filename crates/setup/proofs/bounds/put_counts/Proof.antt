@@ -1,5 +1,5 @@
 -- Both words are written, each at its place.
-use Rattle.setup.proofs.LimitLaws.{counts-put}
+use Rattle.setup.proofs.BoundLaws.{counts-put}
 use borrow.Author.Needs.{needs}
 use Rattle.setup.proofs.bounds.put_counts.Statement.{statement}
 use Rattle.setup.proofs.bounds.put_counts.Tie as tie

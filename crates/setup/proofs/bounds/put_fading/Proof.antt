@@ -1,5 +1,5 @@
 -- The kind 0 word and the two doubles are written, each at its place.
-use Rattle.setup.proofs.LimitLaws.{fading-put}
+use Rattle.setup.proofs.BoundLaws.{fading-put}
 use borrow.Author.Needs.{needs}
 use Rattle.setup.proofs.bounds.put_fading.Statement.{statement}
 use Rattle.setup.proofs.bounds.put_fading.Tie as tie

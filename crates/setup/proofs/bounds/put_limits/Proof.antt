@@ -6,7 +6,7 @@ use Rattle.setup.specs.Layout.{limitWords}
 use Rattle.setup.specs.Limits.{fades}
 use Rattle.setup.specs.Setup.{limitList}
 use Rattle.setup.specs.declared.Limits.{Limits}
-use Rattle.setup.proofs.LimitLaws.{fading-bytes, counts-written}
+use Rattle.setup.proofs.BoundLaws.{fading-bytes, counts-written}
 use borrow.Author.Needs.{needs}
 use Rattle.setup.proofs.bounds.put_limits.Statement.{statement}
 use Rattle.setup.proofs.bounds.put_limits.Tie as tie

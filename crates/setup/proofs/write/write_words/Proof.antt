@@ -3,7 +3,7 @@ use native.Mathlib.Omega.{arith}
 use mathlib.Core.Path.{ap, _∙_}
 use Rattle.words.specs.Word.{putWord}
 use Rattle.words.specs.declared.Verdict.{Verdict}
-use Rattle.setup.proofs.LimitLaws.{room-limits}
+use Rattle.setup.proofs.BoundLaws.{room-limits}
 use Rattle.setup.proofs.SetupWords.{room-pass, words-written}
 use borrow.Author.Needs.{needs}
 use Rattle.setup.proofs.write.write_words.Statement.{statement}

@@ -1,5 +1,5 @@
 -- Fading scores, sentence by sentence (document 02, E9), by calls from C: what the calls give, and what document 02 says. Computed in
--- proofs/FadingCalls.antt. The accounts of one module alone are in accounts/specs/FadingCases.antt.
+-- proofs/Cases.antt. The accounts of one module alone are in accounts/specs/Cases.antt.
 use Prim.Native.Nat.{ℕ, _*_}
 use mathlib.Core.Path.{_≡_}
 use mathlib.Core.Bool.{true}
@@ -260,5 +260,5 @@ abbrev pub SavedCallsRight : Type 0
 SavedCallsRight = right (insideCases ++ (outsideCases ++ (savedOrderCases ++ savedCases))) ≡ true
 
 -- of all
-abbrev pub FadingCallsRight : Type 0
-FadingCallsRight = SetupCallsRight × (StepCallsRight × SavedCallsRight)
+abbrev pub CasesRight : Type 0
+CasesRight = SetupCallsRight × (StepCallsRight × SavedCallsRight)

@@ -33,8 +33,8 @@ use Rattle.presence.specs.Opening.{fresh, blank, checkOpening, openOf}
 use Rattle.presence.specs.Step.{placeOf, markOf, ownSyndrome, alignedFor, judgementFor, outgoingFor, afterRound, refusedStep, acceptedStep, readStep, stepOf}
 use Rattle.presence.specs.Image.{imageOf, stateOf, roomFor}
 use Rattle.calls.specs.Calls.{refusedCall, wrote, checkCall, openCall, stepCall, saveCall, handedOut, outgoingCall}
-use Rattle.calls.specs.FadingCalls.{FadingCallsRight}
+use Rattle.calls.specs.Cases.{CasesRight}
 
-pub fading-calls-right : FadingCallsRight
+pub cases-right : CasesRight
 unfolding fits ofInt ofBits toBits add mul lt le double ofWords highWord lowWord nonNegative updated doubles clearDoubles wordAt putWord bytesOf bit pack count any all lowest array bounded andThen outcome thenTests runsOf runWord factorFits limitFits fadesIn limitsIn limitList setupOf setupBytes blankSetup moduleFits markFits whole headFits headOk limitOk moduleOk markOk moduleTest checkHead checkWords checkSetup setupRoomy roomVerdict setupVerdict skewed busWord receptionOf isHeard heardRow causeIn entryOf readingOf causesOf alignedOf decision tally voteOf healthOf differsAt accusationOf accusationsOf syndromeOf votersOf judgementOf outgoingOf awaited nextScore faded accountedBy accountAt accountedAt countersOf rowFits ownNumberOk ownOk rowOk syndromeOk readingIn rowsRoomy scoreFits countersIn counterOk countersRoomy checkTail checkImage roomy stateVerdict fresh blank checkOpening openOf placeOf markOf ownSyndrome alignedFor judgementFor outgoingFor afterRound refusedStep acceptedStep readStep stepOf imageOf stateOf roomFor refusedCall wrote checkCall openCall stepCall saveCall handedOut outgoingCall
-fading-calls-right = (refl, (refl, refl))
+cases-right = (refl, (refl, refl))

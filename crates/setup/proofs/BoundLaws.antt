@@ -224,7 +224,7 @@ limits-read false w e =
 -- words that are right are those that the limits are written as
 pub limits-written : (b : Bool) (w : ℕ → ℕ) → ((i : ℕ) → w i < 2 ^ 32) → allRight (limitTests b w) ≡ true → (i : ℕ) → i < limitWords b
     → w (1 + i) ≡ getD (limitList (limitsIn b w)) i 0
-unfolding limitsIn limitList ofWords
+unfolding limitsIn limitList
 limits-written true w small e =
     let f = fading-right w e in
     let a = factor-non-negative _ (f .factor) in
@@ -265,11 +265,11 @@ module _ (w : ℕ → ℕ) where
       rw z
 
   factor-back : (factor limit : Float) → isDouble factor ≡ true → LimitsStand (Fading factor limit) → ofWords (w 2) (w 3) ≡ factor
-  unfolding limitList ofWords
+  unfolding limitList
   factor-back factor limit d e = ap₂ ofWords (e 1 (omega arith)) (e 2 (omega arith)) ∙ read-of-written factor (held (isDouble factor) d)
 
   limit-double-back : (factor limit : Float) → isDouble limit ≡ true → LimitsStand (Fading factor limit) → ofWords (w 4) (w 5) ≡ limit
-  unfolding limitList ofWords
+  unfolding limitList
   limit-double-back factor limit d e = ap₂ ofWords (e 3 (omega arith)) (e 4 (omega arith)) ∙ read-of-written limit (held (isDouble limit) d)
 
   -- they are read back

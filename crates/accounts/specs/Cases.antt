@@ -1,5 +1,5 @@
 -- Fading scores, sentence by sentence (document 02, E9), on the account of one module: what rule 8 gives, and what document 02 says.
--- Computed in proofs/FadingCases.antt.
+-- Computed in proofs/Cases.antt.
 use Prim.Native.Nat.{ℕ}
 use mathlib.Core.Path.{_≡_}
 use mathlib.Core.Bool.{Bool, true, false, _&&_}
@@ -110,5 +110,5 @@ criticalityCases =
     ++ held (roundsOf 1 (Fading tenth (double 3)) 0 (ill ∷ ill ∷ []) (scored true (double 0) 0)) 1 0x4000_0000_0000_0000 0
 
 -- every line is right
-abbrev pub FadingCasesRight : Type 0
-FadingCasesRight = right (chargeCases ++ (leaveCases ++ (frozenCases ++ (returnCases ++ (factorCases ++ criticalityCases))))) ≡ true
+abbrev pub CasesRight : Type 0
+CasesRight = right (chargeCases ++ (leaveCases ++ (frozenCases ++ (returnCases ++ (factorCases ++ criticalityCases))))) ≡ true

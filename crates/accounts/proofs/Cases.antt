@@ -5,8 +5,8 @@ use Rattle.doubles.specs.Double.{double}
 use Rattle.accounts.specs.Account.{awaited}
 use Rattle.accounts.specs.Fading.{nextScore, faded}
 use Rattle.accounts.specs.Round.{accountedBy}
-use Rattle.accounts.specs.FadingCases.{FadingCasesRight}
+use Rattle.accounts.specs.Cases.{CasesRight}
 
-pub fading-cases-right : FadingCasesRight
+pub cases-right : CasesRight
 unfolding ofInt ofBits toBits add mul lt double awaited nextScore faded accountedBy
-fading-cases-right = refl
+cases-right = refl
