@@ -19,8 +19,8 @@ pub struct Account {
 // the library does not have.
 pub struct Counters {
     pub penalty: [u32; 16],
+    pub score: [f64; 16],
     pub reward: [u32; 16],
     pub view: u32,
     pub returns: [u32; 16],
-    pub score: [f64; 16],
 }

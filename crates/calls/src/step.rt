@@ -3,6 +3,7 @@ use accounts::round::count;
 use accounts::round::fade;
 use image::ImagePart;
 use image::place_in;
+use image::save_accounts;
 use image::save_sections;
 use rules::judge::judged_read;
 use setup::Limits;
@@ -107,10 +108,8 @@ pub fn played(
         &this,
         j.syndrome,
         part.latest,
-        first,
-        second,
-        returns,
         out,
     );
+    save_accounts(fades, n, first, second, returns, out);
     j.health
 }

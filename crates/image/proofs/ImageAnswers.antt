@@ -2,12 +2,12 @@
 use mathlib.Core.Path.{_≡_, refl, ap, ap₂, _∙_, sym}
 use mathlib.Core.Bool.{Bool, true, false, cond, _&&_}
 use mathlib.Core.List.{List}
-use Prim.Native.Nat.{ℕ, _%_, _≤_}
+use Prim.Native.Nat.{ℕ, _/_, _%_, _≤_}
 use native.Mathlib.Omega.{arith}
 use lib.ListN.{length}
 use lib.Dec.{eqb}
 use borrow.Author.Tests.{eq-eqb, ne-eqb, eqb-true}
-use Rattle.words.specs.Word.{wordAt}
+use Rattle.words.specs.Word.{wordAt, kindUnit}
 use Rattle.words.specs.Verdict.{verdict, accepted, isAccepted, andThen, allRight, firstRefusal}
 use Rattle.words.specs.declared.Verdict.{Verdict}
 use Rattle.words.proofs.Truth.{cond-true, cond-false}
@@ -15,9 +15,9 @@ use Rattle.words.proofs.VerdictLaws.{tests-accept, and-then-stops, and-then-goe
 use Rattle.setup.specs.Limits.{mostReturnLimit}
 use Rattle.setup.specs.Layout.{frontWords}
 use Rattle.setup.specs.Setup.{sizeIn, returnLimitIn, fadesIn, frontIn}
-use Rattle.setup.specs.Check.{checkHead, checkWords}
+use Rattle.setup.specs.Check.{headOk, checkHead, checkWords}
 use Rattle.setup.proofs.WordFields.{head-made}
-use Rattle.setup.proofs.SetupCheckLaws.{head-pass}
+use Rattle.setup.proofs.SetupCheckLaws.{HeadFits, head-pass, head-ok}
 use Rattle.setup.proofs.SetupAnswerLaws.{head-stays, head-short, head-goes}
 use Rattle.image.specs.Layout.{imageLength}
 use Rattle.image.specs.Check.{imageTests, imageLengthIn, checkTail, imageSize, checkImage}
@@ -55,25 +55,36 @@ module _ (s : List ℕ) where
   abbrev headed : Bool
   headed = isAccepted (checkHead s (eqb (length s) (imageLengthIn s)))
 
-  -- by the answer r of the head and the length
-  head-is : {r : Verdict} → r ≡ andThen (checkHead s (eqb (length s) (imageLengthIn s))) accepted → headed ≡ isAccepted r
-  head-is {r} e =
-      let a = checkHead s (eqb (length s) (imageLengthIn s)) in
-      sym (ap isAccepted e ∙ and-then-accepts a accepted ∙ and-end (isAccepted a))
+  -- 0 where one of them is wrong
+  pub size-none : (HeadFits s → length s ≡ imageLengthIn s → ⊥) → 0 ≡ imageSize s
+  unfolding imageSize
+  size-none f = sym (cond-false _ 0 (go headed refl))
+    where
+      go : (a : Bool) → headed ≡ a → headed ≡ false
+      go false e = e
+      go true e =
+          let (h, g) = head-pass s (eqb (length s) (imageLengthIn s)) (eqb-true _ 0 e) in
+          absurd (f h (eqb-true _ _ g))
 
-  module _ {v : Verdict} (e : v ≡ checkHead s true) where
-    pub size-headless : (v .number ≡ 0 → ⊥) → 0 ≡ imageSize s
+  -- a length that the words of a right head ask for is a whole number of words
+  module _ (ok : headOk (wordAt s 0) ≡ true) (l : length s ≡ imageLengthIn s) where
+    head-there : HeadFits s
+    head-there =
+        let m = head-made (wordAt s 0) ok .0 in
+        record { whole = omega arith; room = omega (arith, m .least); head = ok; least = m .least; most = m .most }
+
+    pub size-there : sizeIn (wordAt s 0) ≡ imageSize s
     unfolding imageSize
-    size-headless f = sym (cond-false _ 0 (head-is (head-stays s e _ accepted f) ∙ ne-eqb (v .number) 0 f))
+    size-there = sym (cond-true _ 0 (ap isAccepted (head-ok s (eqb (length s) (imageLengthIn s)) head-there (eq-eqb _ _ l))))
 
-    module _ {n front : ℕ} {b : Bool} (size : n ≡ sizeIn (wordAt s 0)) (form : b ≡ fadesIn (wordAt s)) (at : front ≡ frontWords b) (z : v .number ≡ 0) where
-      pub size-other : (length s ≡ imageLength front n → ⊥) → 0 ≡ imageSize s
-      unfolding imageSize
-      size-other f = sym (cond-false _ 0 (head-is (head-short s e {r = verdict 3 0} accepted z (ne-eqb _ _ (λ l. f (l ∙ sym (length-is s e size form at z)))) refl)))
+  -- the length by the kind of the second word
+  pub fading-length : wordAt s 1 / kindUnit ≡ 0 → imageLengthIn s ≡ imageLength 6 (sizeIn (wordAt s 0))
+  unfolding fadesIn
+  fading-length k = ap (λ (b : Bool). imageLength (frontWords b) (sizeIn (wordAt s 0))) (eq-eqb _ _ k)
 
-      pub size-there : length s ≡ imageLength front n → n ≡ imageSize s
-      unfolding imageSize
-      size-there l = size ∙ sym (cond-true _ 0 (head-is (head-goes s e {r = accepted} accepted z (eq-eqb _ _ (l ∙ length-is s e size form at z)) refl)))
+  pub counts-length : (wordAt s 1 / kindUnit ≡ 0 → ⊥) → imageLengthIn s ≡ imageLength 3 (sizeIn (wordAt s 0))
+  unfolding fadesIn
+  counts-length k = ap (λ (b : Bool). imageLength (frontWords b) (sizeIn (wordAt s 0))) (ne-eqb _ _ k)
 
   accepted-by : isAccepted (checkImage s) ≡ headed && allRight (imageTests s (sizeIn (wordAt s 0)))
   unfolding checkImage

@@ -94,14 +94,21 @@ module _ {fades : Bool} {o₁ : List ℕ} (n : ℕ) (x y z o : List ℕ) where
   unfolding putRuns
   counts-written f e = rw f e
 
-pub sections-written : {front : ℕ} (fades : Bool) (n own view : ℕ) (r : Reading) (latest earlier : ℕ) (x y z o : List ℕ) {o₁ o₂ o₃ o₄ o₅ : List ℕ} {i₁ i₂ i₃ i₄ w l e : ℕ}
+pub sections-written : {front : ℕ} (fades : Bool) (n own view : ℕ) (r : Reading) (latest earlier : ℕ) (o : List ℕ) {o₁ o₂ o₃ o₄ : List ℕ} {i₁ i₂ i₃ i₄ w l e : ℕ}
     → front ≡ frontWords fades
     → i₁ ≡ ownAt front n → w ≡ ownWord own view → o₁ ≡ putRun o i₁ 1 (λ _. w)
     → i₂ ≡ rowsAt front n → o₂ ≡ putRun o₁ i₂ n (λ j. rowWord j (bit (r .heard) j) (getD (r .rows) j 0))
     → i₃ ≡ latestAt front n → l ≡ syndromeWord latest → o₃ ≡ putRun o₂ i₃ 1 (λ _. l)
     → i₄ ≡ earlierAt front n → e ≡ syndromeWord earlier → o₄ ≡ putRun o₃ i₄ 1 (λ _. e)
-    → o₅ ≡ putRuns o₄ (accountsAt (frontWords fades) n) (lentRuns fades n x y z)
-    → o₅ ≡ putRuns o (ownAt (frontWords fades) n) (one (ownWord own view) ∷ rowRun n r ∷ one (syndromeWord latest) ∷ one (syndromeWord earlier) ∷ lentRuns fades n x y z)
+    → o₄ ≡ putRuns o (ownAt (frontWords fades) n) (one (ownWord own view) ∷ rowRun n r ∷ one (syndromeWord latest) ∷ one (syndromeWord earlier) ∷ [])
 unfolding putRuns
-sections-written fades n own view r latest earlier x y z o f a₁ w₁ e₁ a₂ e₂ a₃ w₃ e₃ a₄ w₄ e₄ e₅ =
-    rw (e₅, e₄, e₃, e₂, e₁, a₁, a₂, a₃, a₄, w₁, w₃, w₄, f)
+sections-written fades n own view r latest earlier o f a₁ w₁ e₁ a₂ e₂ a₃ w₃ e₃ a₄ w₄ e₄ =
+    rw (e₄, e₃, e₂, e₁, a₁, a₂, a₃, a₄, w₁, w₃, w₄, f)
+
+-- then the accounts
+pub accounts-written : (fades : Bool) (n own view : ℕ) (r : Reading) (latest earlier : ℕ) (x y z o : List ℕ) {o₁ o₂ : List ℕ}
+    → o₁ ≡ putRuns o (ownAt (frontWords fades) n) (one (ownWord own view) ∷ rowRun n r ∷ one (syndromeWord latest) ∷ one (syndromeWord earlier) ∷ [])
+    → o₂ ≡ putRuns o₁ (accountsAt (frontWords fades) n) (lentRuns fades n x y z)
+    → o₂ ≡ putRuns o (ownAt (frontWords fades) n) (one (ownWord own view) ∷ rowRun n r ∷ one (syndromeWord latest) ∷ one (syndromeWord earlier) ∷ lentRuns fades n x y z)
+unfolding putRuns
+accounts-written fades n own view r latest earlier x y z o e₁ e₂ = rw (e₂, e₁)

@@ -18,9 +18,11 @@ use setup::bounds::front_words;
 use setup::check::check_head;
 use setup::check::check_words;
 use setup::check::size_at;
+use setup::head_ok;
 use words::Verdict;
 use words::check::accept;
 use words::check::refusal;
+use words::word::KIND;
 use words::word::word_at;
 ghost use mathlib.Core.Path.{_≡_};
 ghost use mathlib.Core.Bool.{true, false, not};
@@ -180,16 +182,24 @@ pub fn check_tail(s: &[u8], fades: bool, n: usize) -> Verdict
     then_accounts(earlier, s, fades, n)
 }
 
-// N where head and length are right, else 0.
+// N where head and length are right, else 0. Only whether they are counts: a right length is a whole number of words.
 pub fn image_size(s: &[u8]) -> usize
     ensures { λ r. ⌜ r ≡ imageSize (now (s .entry)) ⌝ }
 {
-    let head = check_head(s);
-    if head.number != 0 {
+    if s.len() < 8 {
+        return 0;
+    }
+    if !head_ok(word_at(s, 0)) {
         return 0;
     }
     let n = size_at(s);
-    if image_length(front_words(fades_at(s)), n) != s.len() {
+    if word_at(s, 1) / KIND == 0 {
+        if image_length(6, n) != s.len() {
+            return 0;
+        }
+        return n;
+    }
+    if image_length(3, n) != s.len() {
         return 0;
     }
     n

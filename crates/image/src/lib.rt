@@ -70,5 +70,6 @@ pub use read::place_in;
 pub use read::view_in;
 pub use rows::load_rows;
 pub use rows::rows_roomy;
+pub use save::save_accounts;
 pub use save::save_sections;
 pub use word::VECTOR;

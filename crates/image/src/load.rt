@@ -77,8 +77,8 @@ fn no_part() -> ImagePart
     }
 }
 
-// An image whose head and length are right: whether all its words are, and then what they hold, the arrays lent as zeros. The limits are tested first,
-// since the accounts are tested by them.
+// An image whose head and length are right: whether all its words are, and then what they hold, the arrays lent as zeros. The limits are tested before
+// the accounts, which are tested by them.
 pub fn load_image(
     s: &[u8],
     fades: bool,
@@ -96,15 +96,15 @@ pub fn load_image(
     ensures { λ r. ⌜ (r .good ≡ allRight (imageTests (now (s .entry)) n))
         × (r .good ≡ true → PartOf (now (s .entry)) fades n r (now (criticality .exit)) (now (rows .exit)) (now (first .exit)) (now (second .exit)) (now (returns .exit))) ⌝ }
 {
+    let q = field(word_at(s, 0), 8, 20);
+    let front = front_words(fades);
+    let read = load_rows(s, front, n, rows);
+    let modules = load_modules(s, front, n, criticality);
+    let alone = load_words(s, front, n);
     if !limits_right(s, fades) {
         return no_part();
     }
-    let q = field(word_at(s, 0), 8, 20);
     let limits = limits_at(s, fades);
-    let front = front_words(fades);
-    let modules = load_modules(s, front, n, criticality);
-    let alone = load_words(s, front, n);
-    let read = load_rows(s, front, n, rows);
     let right = load_accounts(
         s,
         limits,

@@ -11,7 +11,7 @@ use crate::word::save_word;
 use crate::word::syndrome_word;
 use setup::bounds::front_words;
 ghost use mathlib.Core.Path.{_≡_};
-ghost use mathlib.Core.List.{_∷_};
+ghost use mathlib.Core.List.{[], _∷_};
 ghost use Prim.Native.Nat.{ℕ, _≤_, _<_};
 ghost use lib.ListN.{length, getD};
 ghost use Rattle.words.specs.Word.{numberUnit};
@@ -22,8 +22,8 @@ ghost use Rattle.image.specs.Words.{vectorUnit, ownWord, syndromeWord};
 ghost use Rattle.image.specs.Rows.{rowRun};
 ghost use Rattle.image.specs.Part.{CountersSmall, lentRuns};
 
-// Writes the accounts, of a setup that fades or counts.
-fn save_accounts(
+// Writes the accounts, of a setup that fades or counts. Apart from the other sections, so that a step takes in the code of both.
+pub fn save_accounts(
     fades: bool,
     n: usize,
     first: &[u32; 16],
@@ -41,7 +41,7 @@ fn save_accounts(
     save_counters(n, first, second, returns, out)
 }
 
-// Writes the words after the setup's, section by section.
+// Writes the words between those of the setup and the accounts, section by section.
 pub fn save_sections(
     fades: bool,
     n: usize,
@@ -51,21 +51,16 @@ pub fn save_sections(
     rows: &[u32; 16],
     latest: u32,
     earlier: u32,
-    first: &[u32; 16],
-    second: &[u32; 16],
-    returns: &[u32; 16],
     out: &mut [u8],
 )
     requires { ⌜ (n ≤ 16) × (length (now out) ≡ imageLength (frontWords fades) n) × (own ≤ 16) × (view < vectorUnit) × (latest < vectorUnit) × (earlier < vectorUnit) ⌝ }
-    requires { ⌜ ((j : ℕ) → j < n → getD (now rows) j 0 < vectorUnit) × CountersSmall fades n (now first) (now second) (now returns) ⌝ }
+    requires { ⌜ ((j : ℕ) → j < n → getD (now rows) j 0 < vectorUnit) ⌝ }
     ensures { λ _. ⌜ now (out .exit) ≡ putRuns (now (out .entry)) (ownAt (frontWords fades) n)
-        (one (ownWord own view) ∷ rowRun n (record { heard = heard; rows = now (rows .entry) }) ∷ one (syndromeWord latest) ∷ one (syndromeWord earlier)
-        ∷ lentRuns fades n (now (first .entry)) (now (second .entry)) (now (returns .entry))) ⌝ }
+        (one (ownWord own view) ∷ rowRun n (record { heard = heard; rows = now (rows .entry) }) ∷ one (syndromeWord latest) ∷ one (syndromeWord earlier) ∷ []) ⌝ }
 {
     let front = front_words(fades);
     save_word(own_word(own, view), out, own_at(front, n));
     save_rows(n, heard, rows, out, rows_at(front, n));
     save_word(syndrome_word(latest), out, latest_at(front, n));
     save_word(syndrome_word(earlier), out, earlier_at(front, n));
-    save_accounts(fades, n, first, second, returns, out);
 }

@@ -2,6 +2,7 @@
 use crate::State;
 use image::first_of;
 use image::image_length;
+use image::save_accounts;
 use image::save_sections;
 use image::second_of;
 use setup::bounds::fades;
@@ -45,11 +46,9 @@ pub fn save_words(state: State, out: &mut [u8])
         &rows,
         state.latest,
         state.earlier,
-        &first,
-        &second,
-        &returns,
         out,
     );
+    save_accounts(form, setup.n, &first, &second, &returns, out);
 }
 
 impl State {

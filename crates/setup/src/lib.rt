@@ -45,3 +45,5 @@ pub mod part;
 pub mod read;
 mod word;
 pub mod write;
+
+pub use word::head_ok;

@@ -10,6 +10,7 @@ use Rattle.image.specs.Layout.{imageLength}
 use Rattle.presence.specs.Step.{judgementFor, afterRound}
 use Rattle.presence.specs.Image.{imageOf, stateOf}
 use Rattle.rules.specs.declared.Judgement.{Judgement}
+use Rattle.image.proofs.SectionLaws.{accounts-written}
 use Rattle.presence.proofs.StateRoundLaws.{place-small}
 use Rattle.calls.proofs.ImageStepLaws.{fits, most, length-is, place-is, own-place, small-size, small-view, filled-rows, filled-counters, counted-range, judged-held, small-health, small-next, runs-next, image-next}
 use borrow.Author.Needs.{needs}
@@ -65,31 +66,48 @@ copy-words-requires c κs =
 
 save-sections-requires : tie.Need-save-sections-requires
 save-sections-requires c κs =
-    let s = c .before .before .before .before .before .before .before .before .before .before .before .before .before .before .before .before .before .before .before .before .before .before .before .before in
+    let s = c .before .before .before .before .before .before .before .before .before .before .before .before .before .before .before .before .before .before .before .before .before in
     let a = s .pre .0 in
-    let r = c .before .before .before .before .before .before .before .before .before .before .before .before .before .before .judged-read .ensures in
-    let t = c .before .before .before .before .before .before .before .before .before .before .kept .ensures in
-    let g = judged-held _ (a .0) _ _ (a .3) (a .1) (a .2) (c .before .before .before .before .before .before .before .before .before .before .before .before .before .before .before .before .before .before .before .before .front-words .ensures .0) (c .before .before .before .before .before .before .before .before .before .before .before .before .before .before .before .before .before .before .place-in .ensures) (c .before .before .before .before .before .before .before .before .before .before .before .before .before .before .before .before .before .pick .ensures) in
+    let r = c .before .before .before .before .before .before .before .before .before .before .before .judged-read .ensures in
+    let t = c .before .before .before .before .before .before .before .kept .ensures in
+    let g = judged-held _ (a .0) _ _ (a .3) (a .1) (a .2) (c .before .before .before .before .before .before .before .before .before .before .before .before .before .before .before .before .before .front-words .ensures .0) (c .before .before .before .before .before .before .before .before .before .before .before .before .before .before .before .place-in .ensures) (c .before .before .before .before .before .before .before .before .before .before .before .before .before .before .pick .ensures) in
     let m = small-next _ (a .0) _ _ (a .3) (a .1) (a .2) (r .2 ∙ ap (λ (j : Judgement). j .health) g) (r .3 ∙ ap (λ (j : Judgement). j .syndrome) g) (r .0) (r .1) (t .0) (t .1) (t .2) (t .3) in
-    ((small-size _ (a .0) (a .3) (a .1) (a .2), c .before .before .before .before .before .before .before .copy-words .kept .1 .1 .0 ∙ s .pre .1 .2, m .0 .0, m .0 .1, m .0 .2, m .0 .3), m .1)
+    ((small-size _ (a .0) (a .3) (a .1) (a .2), c .before .before .before .before .copy-words .kept .1 .1 .0 ∙ s .pre .1 .2, m .0 .0, m .0 .1, m .0 .2, m .0 .3), m .1 .0)
+
+save-accounts-requires : tie.Need-save-accounts-requires
+save-accounts-requires c κs =
+    let s = c .before .before .before .before .before .before .before .before .before .before .before .before .before .before .before .before .before .before .before .before .before .before .before .before .before .before .before .before in
+    let a = s .pre .0 in
+    let r = c .before .before .before .before .before .before .before .before .before .before .before .before .before .before .before .before .before .before .judged-read .ensures in
+    let t = c .before .before .before .before .before .before .before .before .before .before .before .before .before .before .kept .ensures in
+    let g = judged-held _ (a .0) _ _ (a .3) (a .1) (a .2) (c .before .before .before .before .before .before .before .before .before .before .before .before .before .before .before .before .before .before .before .before .before .before .before .before .front-words .ensures .0) (c .before .before .before .before .before .before .before .before .before .before .before .before .before .before .before .before .before .before .before .before .before .before .place-in .ensures) (c .before .before .before .before .before .before .before .before .before .before .before .before .before .before .before .before .before .before .before .before .before .pick .ensures) in
+    let m = small-next _ (a .0) _ _ (a .3) (a .1) (a .2) (r .2 ∙ ap (λ (j : Judgement). j .health) g) (r .3 ∙ ap (λ (j : Judgement). j .syndrome) g) (r .0) (r .1) (t .0) (t .1) (t .2) (t .3) in (
+      small-size _ (a .0) (a .3) (a .1) (a .2),
+      c .before .before .before .before .before .before .save-sections .kept .1 .1 .1 .1 .1 .1 .1 .1 .0 ∙ c .before .before .before .before .before .before .before .before .before .before .before .copy-words .kept .1 .1 .0 ∙ s .pre .1 .2,
+      m .1 .1,
+    )
 
 returns : tie.Need-returns
 returns c =
-    let s = c .before .before .before .before .before .before .before .before .before .before .before .before .before .before .before .before .before .before .before .before .before .before .before .before .before .before .before in
+    let s = c .before .before .before .before .before .before .before .before .before .before .before .before .before .before .before .before .before .before .before .before .before .before .before .before .before .before .before .before .before .before .before in
     let a = s .pre .0 in
-    let r = c .before .before .before .before .before .before .before .before .before .before .before .before .before .before .before .before .before .judged-read .ensures in
-    let t = c .before .before .before .before .before .before .before .before .before .before .before .before .before .kept .ensures in
-    let f = c .before .before .before .before .before .before .before .before .before .before .before .before .before .before .before .before .before .before .before .before .before .before .before .front-words .ensures .0 in
-    let g = judged-held _ (a .0) _ _ (a .3) (a .1) (a .2) f (c .before .before .before .before .before .before .before .before .before .before .before .before .before .before .before .before .before .before .before .before .before .place-in .ensures) (c .before .before .before .before .before .before .before .before .before .before .before .before .before .before .before .before .before .before .before .before .pick .ensures) in
+    let r = c .before .before .before .before .before .before .before .before .before .before .before .before .before .before .before .before .before .before .before .before .before .judged-read .ensures in
+    let t = c .before .before .before .before .before .before .before .before .before .before .before .before .before .before .before .before .before .kept .ensures in
+    let f = c .before .before .before .before .before .before .before .before .before .before .before .before .before .before .before .before .before .before .before .before .before .before .before .before .before .before .before .front-words .ensures .0 in
+    let g = judged-held _ (a .0) _ _ (a .3) (a .1) (a .2) f (c .before .before .before .before .before .before .before .before .before .before .before .before .before .before .before .before .before .before .before .before .before .before .before .before .before .place-in .ensures) (c .before .before .before .before .before .before .before .before .before .before .before .before .before .before .before .before .before .before .before .before .before .before .before .before .pick .ensures) in
     let e = r .2 ∙ ap (λ (j : Judgement). j .health) g in
     let y = r .3 ∙ ap (λ (j : Judgement). j .syndrome) g in
     let st = stateOf (s .args .image .now) in
     let read = s .args .read .now in
-    let words = c .before .before .before .before .before .before .before .before .before .before .before .before .setup-words .ensures ∙ ap₂ setupWords (f ∙ ap frontWords (a .2)) (a .1) in
+    let words = c .before .before .before .before .before .before .before .before .before .before .before .before .before .before .before .before .setup-words .ensures ∙ ap₂ setupWords (f ∙ ap frontWords (a .2)) (a .1) in
     let long = s .pre .1 .2 ∙ ap₂ imageLength (ap frontWords (a .2)) (a .1) in
-    let written = runs-next _ (a .0) _ _ (a .3) (a .1) (a .2) e y (r .0) (r .1) (t .0) (t .1) (t .2) (t .3) _ (c .before .before .save-sections .ensures) in (
+    let both = accounts-written (s .args .fades) (s .args .n) (s .args .part .own) (c .before .before .before .before .before .before .before .before .before .before .before .before .before .before .before .before .before .kept .result)
+    (record { heard = c .before .before .before .before .before .before .before .before .before .before .before .before .before .before .before .before .before .before .before .before .before .judged-read .result .heard; rows = c .before .before .before .before .before .before .before .before .before .before .before .before .before .before .before .before .before .before .before .before .before .judged-read .last .1 .1 .1 .1 .1 .1 .1 .1 .1 .0 }) (c .before .before .before .before .before .before .before .before .before .before .before .before .before .before .before .before .before .before .before .before .before .judged-read .result .syndrome) (s .args .part .latest) _ _ _ _
+    (c .before .before .before .before .before .before .before .before .before .save-sections .ensures) (c .before .before .save-accounts .ensures)
+    in
+    let written = runs-next _ (a .0) _ _ (a .3) (a .1) (a .2) e y (r .0) (r .1) (t .0) (t .1) (t .2) (t .3) _ both in (
       e ∙ ap (λ (i : ℕ). judgementFor st (readingOf i read (s .args .controller)) .health) (sym (a .1)),
-      image-next _ (a .0) _ _ (s .args .out .now) (λ i. omega (arith, c .before .before .before .before .before .before .before .before .before .before .before .before .before .before .before .before .before .before .before .before .before .before .before .before .before .before .shared-slice-known .given i)) words long (c .before .before .before .before .before .before .before .before .before .before .copy-words .ensures) written
+      image-next _ (a .0) _ _ (s .args .out .now) (λ i. omega (arith, c .before .before .before .before .before .before .before .before .before .before .before .before .before .before .before .before .before .before .before .before .before .before .before .before .before .before .before .before .before .before .shared-slice-known .given i)) words long (c .before .before .before .before .before .before .before .before .before .before .before .before .before .before .copy-words .ensures) written
           ∙ ap (λ (i : ℕ). imageOf (afterRound st (readingOf i read (s .args .controller)))) (sym (a .1)),
     )
 
@@ -106,5 +124,6 @@ played-spec =
     setup-words-requires
     copy-words-requires
     save-sections-requires
+    save-accounts-requires
     (λ c. search needs)
     returns)

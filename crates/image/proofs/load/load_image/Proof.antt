@@ -18,79 +18,51 @@ use Rattle.image.proofs.load.load_image.Tie as tie
 by-front : {front k : ℕ} (b : Bool) (n : ℕ) → front ≡ frontWords b → k ≡ imageLength (frontWords b) n → k ≡ imageLength front n
 by-front b n e h = h ∙ ap (λ (x : ℕ). imageLength x n) (sym e)
 
-limits-right-requires : tie.Need-limits-right-requires
-limits-right-requires c κs = search needs
-
-no-part-requires : tie.Need-no-part-requires
-no-part-requires c κs = search needs
+load-rows-requires : tie.Need-load-rows-requires
+load-rows-requires c κs =
+    let s = c .before .before .before .before .before in
+    let f = c .before .front-words .ensures in
+    (f .2, s .pre .0 .0, by-front (s .args .fades) (s .args .n) (f .0) (s .pre .0 .1), s .pre .1 .1)
 
 returns : tie.Need-returns
 returns c =
     let f = c .no-part .ensures in
-    let a = c .before .before .before .before .pre .0 in
+    let a = c .before .before .before .before .before .before .before .before .before .before .before .before .pre .0 in
     (f ∙ limits-wrong _ _ (a .3) refl (c .before .before .limits-right .ensures) (not-true _ (c .before .if1 .taken)), λ t. absurd (true≢false (sym t ∙ f)))
-
-word-at-requires : tie.Need-word-at-requires
-word-at-requires c κs = search needs
-
-field-requires : tie.Need-field-requires
-field-requires c κs = search needs
-
-limits-at-requires : tie.Need-limits-at-requires
-limits-at-requires c κs = search needs
-
-front-words-requires : tie.Need-front-words-requires
-front-words-requires c κs = search needs
-
-load-modules-requires : tie.Need-load-modules-requires
-load-modules-requires c κs = search needs
-
-load-words-requires : tie.Need-load-words-requires
-load-words-requires c κs = search needs
-
-load-rows-requires : tie.Need-load-rows-requires
-load-rows-requires c κs =
-    let s = c .before .before .before .before .before .before .before .before .before .before .before in
-    let f = c .before .before .before .before .front-words .ensures in
-    (f .2, s .pre .0 .0, by-front (s .args .fades) (s .args .n) (f .0) (s .pre .0 .1), s .pre .1 .1)
 
 load-accounts-requires : tie.Need-load-accounts-requires
 load-accounts-requires c κs =
-    let g = c .before .before .before .before .before .before .before in
-    let f = g .before .before in
-    let q = f .before .before .field .ensures ∙ ap returnLimitIn (f .before .before .before .word-at .ensures) in
-    let i = f .before .before .before .before in
-    let s = i .before .before .before in
+    let i = c .before .before .before .before .before in
+    let q = c .before .before .before .before .before .before .before .before .before .before .before .before .before .field .ensures ∙ ap returnLimitIn (c .before .before .before .before .before .before .before .before .before .before .before .before .before .before .word-at .ensures) in
+    let s = c .before .before .before .before .before .before .before .before .before .before .before .before .before .before .before .before in
     let a = s .pre .0 in (
-      asked-by _ _ (s .args .fades) (f .before .limits-at .ensures) (f .front-words .ensures .0) (a .0) (a .1) (sym (i .before .limits-right .ensures) ∙ not-false _ (i .if1 .left)) q
-          (omega (arith, q, a .4)) (g .load-modules .ensures .1) (c .before .before .before .before .before .before .load-words .ensures .2),
+      asked-by _ _ (s .args .fades) (c .before .before .before .before .limits-at .ensures) (c .before .before .before .before .before .before .before .before .before .before .before .before .front-words .ensures .0) (a .0) (a .1) (sym (i .before .limits-right .ensures) ∙ not-false _ (i .if1 .left)) q
+          (omega (arith, q, a .4)) (c .before .before .before .before .before .before .before .before .load-modules .ensures .1) (c .before .before .before .before .before .before .before .load-words .ensures .2),
       (s .pre .1 .2, s .pre .1 .3, s .pre .1 .4),
     )
 
 returns-2 : tie.Need-returns-2
 returns-2 c =
-    let d = c .before .before .before in
-    let counted = d .load-accounts in
-    let e = d .before .before .before .before .before in
-    let read = e .load-rows in
-    let alone = e .before .before .load-words in
-    let g = e .before .before .before in
-    let modules = g .load-modules in
-    let f = g .before .before in
-    let q = f .before .before .field .ensures ∙ ap returnLimitIn (f .before .before .before .word-at .ensures) in
-    let i = f .before .before .before .before in
-    let s = i .before .before .before in
+    let counted = c .before .before .before .load-accounts in
+    let read = c .before .before .before .before .before .before .before .before .before .before .before .before .before .before .load-rows in
+    let alone = c .before .before .before .before .before .before .before .before .before .before .before .load-words in
+    let modules = c .before .before .before .before .before .before .before .before .before .before .before .before .load-modules in
+    let front = c .before .before .before .before .before .before .before .before .before .before .before .before .before .before .before .before .front-words in
+    let limits = c .before .before .before .before .before .before .before .before .limits-at .ensures in
+    let q = c .before .before .before .before .before .before .before .before .before .before .before .before .before .before .before .before .before .field .ensures ∙ ap returnLimitIn (c .before .before .before .before .before .before .before .before .before .before .before .before .before .before .before .before .before .before .word-at .ensures) in
+    let i = c .before .before .before .before .before .before .before .before .before in
+    let s = c .before .before .before .before .before .before .before .before .before .before .before .before .before .before .before .before .before .before .before .before in
     let a = s .pre .0 in
-    let x = given-by _ _ (s .args .fades) (f .before .limits-at .ensures) (counted .ensures) in (
-      limits-fine _ _ (a .3) (f .front-words .ensures .0) (i .before .limits-right .ensures) (not-false _ (i .if1 .left)) (modules .ensures .0) (alone .ensures .0) (read .ensures .0) (x .0),
+    let x = given-by _ _ (s .args .fades) limits (counted .ensures) in (
+      limits-fine _ _ (a .3) (front .ensures .0) (i .before .limits-right .ensures) (not-false _ (i .if1 .left)) (modules .ensures .0) (alone .ensures .0) (read .ensures .0) (x .0),
       λ t.
           let others = and-r (modules .result .good) _ t in
           let arrays = x .1 (and-r (read .result .good) _ (and-r (alone .result .good) _ others)) in
-          let place : f .front-words .result ≡ frontWords (s .args .fades) = f .front-words .ensures .0 in
+          let place : front .result ≡ frontWords (s .args .fades) = front .ensures .0 in
           record {
             skew = rw place at (modules .ensures .2 (and-l (modules .result .good) _ t));
             q = q;
-            limits = f .before .limits-at .ensures;
+            limits = limits;
             own = rw place at (alone .ensures .1);
             view = rw place at (alone .ensures .2);
             heard = rw place at (read .ensures .1);
@@ -108,15 +80,15 @@ pub load-image-spec : {M : Type 1} → statement M
 load-image-spec =
     tie.close
     (tie.spec
-    limits-right-requires
-    no-part-requires
-    returns
-    word-at-requires
-    field-requires
-    limits-at-requires
-    front-words-requires
-    load-modules-requires
-    load-words-requires
+    (λ c κs. search needs)
+    (λ c κs. search needs)
+    (λ c κs. search needs)
     load-rows-requires
+    (λ c κs. search needs)
+    (λ c κs. search needs)
+    (λ c κs. search needs)
+    (λ c κs. search needs)
+    returns
+    (λ c κs. search needs)
     load-accounts-requires
     returns-2)
