@@ -44,7 +44,7 @@ def functions(source):
     for number, line in enumerate(lines):
         opened = re.match(r"impl (\w+)", line)
         struct = opened[1] if opened else None if line.startswith("}") else struct
-        head = re.match(r'(\s*)(pub )?(extern "C" )?fn (\w+)', line)
+        head = re.match(r'(\s*)(pub )?(?:pub\(crate\) )?(extern "C" )?fn (\w+)', line)
         if head:
             last = next(k for k in range(number, len(lines)) if lines[k] == head[1] + "}")
             body = next((k for k in range(number, last) if lines[k].rstrip().endswith("{")), last)

@@ -10,16 +10,19 @@ use image::image_length;
 use image::latest_in;
 use image::load_image;
 use image::own_in;
-use presence::State;
-use presence::save::save_words;
-use setup::bounds::fades;
+use image::save_accounts;
+use image::save_sections;
 use setup::bounds::fades_at;
 use setup::bounds::front_words;
 use setup::check::size_at;
 use setup::layout::LEAST_MODULES;
 use setup::layout::MOST_MODULES;
+use setup::layout::setup_words;
+use words::array::filled;
 use words::bits::bit_at;
+use words::bits::full_of;
 use words::bits::power;
+use words::word::copy_words;
 use words::word::word_at;
 ghost use mathlib.Core.Path.{_≡_};
 ghost use Rattle.image.specs.Check.{checkImage};
@@ -46,26 +49,31 @@ pub extern "C" fn presence_check_setup(bytes: &[u8]) -> Answer
     refuse(v.number, v.index)
 }
 
-// Opens module `own` of a setup, and writes its image: 1 to 6 and 22, 7, 9.
+// Opens module `own` of a setup, and writes its image: 1 to 6 and 22, 7, 9. There is no state between, whose arrays were copied by calls of memcpy.
+// The words of the setup are copied: those of an accepted setup are in their one form.
 #[no_mangle]
 pub extern "C" fn presence_open(bytes: &[u8], own: u32, out: &mut [u8]) -> Answer
     ensures { λ r. ⌜ called r (now (out .exit)) ≡ openCall (now (bytes .entry)) own (now (out .entry)) ⌝ }
 {
-    let read = setup::read::read(bytes);
-    if read.number != 0 {
-        return refuse(read.number, read.index);
+    let v = setup::check::check(bytes);
+    if v.number != 0 {
+        return refuse(v.number, v.index);
     }
-    let setup = read.setup;
-    let opened = State::open(setup, own as usize);
-    if opened.number != 0 {
-        return refuse(opened.number, opened.index);
+    let n = size_at(bytes);
+    let fades = fades_at(bytes);
+    let front = front_words(fades);
+    if (own < 1) | (n < own as usize) {
+        return refuse(7, 0);
     }
-    let state = opened.state;
-    let limits = setup.limits;
-    if out.len() != image_length(front_words(fades(limits)), setup.n) {
+    if out.len() != image_length(front, n) {
         return refuse(9, 0);
     }
-    save_words(state, out);
+    let full = full_of(n);
+    let rows = filled(n, full);
+    let zeros = [0u32; 16];
+    copy_words(bytes, setup_words(front, n), out);
+    save_sections(fades, n, own as usize, full, full, &rows, full, full, out);
+    save_accounts(fades, n, &zeros, &zeros, &zeros, out);
     refuse(0, 0)
 }
 
