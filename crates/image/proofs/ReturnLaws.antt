@@ -1,6 +1,6 @@
 -- The return counts: what their test says, and that a round keeps what passes it.
-use mathlib.Core.Path.{_≡_, refl, ap}
-use mathlib.Core.Bool.{Bool, true, false, not, false≢true}
+use mathlib.Core.Path.{_≡_, refl, ap, _∙_, sym}
+use mathlib.Core.Bool.{Bool, true, false, cond, not, _&&_, _||_, false≢true}
 use mathlib.Core.List.{List}
 use mathlib.Core.Logic.{_⊎_, inl, inr, ⊎-elim}
 use Prim.Native.Nat.{ℕ, _-_, _<_, _≤_}
@@ -8,11 +8,11 @@ use native.Mathlib.Omega.{arith}
 use native.Mathlib.Nat.{eq-zero-or-pos}
 use lib.ListN.{getD}
 use lib.Dec.{eqb, ltb}
-use borrow.Author.Tests.{eqb-true, eq-eqb, ltb-true, lt-ltb}
+use borrow.Author.Tests.{eqb-true, eqb-false, eq-eqb, ltb-true, lt-ltb}
 use Rattle.words.specs.Word.{wordAt}
 use Rattle.words.specs.Bits.{bit}
 use Rattle.words.proofs.ArrayLaws.{clearFrom, array-clear}
-use Rattle.words.proofs.Truth.{and-true, or-l, or-r, or-cases}
+use Rattle.words.proofs.Truth.{and-true, or-l, or-r, or-cases, iff-eq}
 use Rattle.setup.specs.Layout.{headAt}
 use Rattle.setup.specs.Limits.{mostReturnLimit}
 use Rattle.setup.specs.Setup.{returnLimitIn, setupOf}
@@ -29,6 +29,32 @@ use Rattle.image.proofs.CounterSectionLaws.{SectionHolds}
 -- ---- one return count
 
 -- in the view it is 0
+-- by one comparison
+pub return-one : {x y : ℕ} (q count : ℕ) (present : Bool) → y ≡ cond (eqb q 0) 1 q → x ≡ cond present 1 y → ltb count x ≡ returnFits q present count
+return-one q count present ey ex = ap (ltb count) (ex ∙ ap (cond present 1) ey) ∙ go present
+  where
+    below : (b : Bool) → eqb q 0 ≡ b → ltb count (cond b 1 q) ≡ eqb count 0 || ltb count q
+    below true e =
+        let z = eqb-true q 0 e in
+        iff-eq _ _ (λ t. let l = ltb-true count 1 t in or-l (eqb count 0) _ (eq-eqb count 0 (omega arith)))
+        (λ t. ⊎-elim (λ (a : eqb count 0 ≡ true). lt-ltb count 1 (let i = eqb-true count 0 a in omega arith))
+        (λ (a : ltb count q ≡ true). let l = ltb-true count q a in absurd (omega arith)) (or-cases (eqb count 0) _ t))
+    below false e =
+        let z = eqb-false q 0 e in
+        iff-eq _ _ (λ t. or-r (eqb count 0) _ t)
+        (λ t. ⊎-elim (λ (a : eqb count 0 ≡ true). lt-ltb count q (let i = eqb-true count 0 a in omega (arith, pos q z)))
+        (λ (a : ltb count q ≡ true). a) (or-cases (eqb count 0) _ t))
+      where
+        pos : (m : ℕ) → (m ≡ 0 → ⊥) → 0 < m
+        pos m f = omega arith
+
+    go : (b : Bool) → ltb count (cond b 1 (cond (eqb q 0) 1 q)) ≡ eqb count 0 || (not b && ltb count q)
+    go true =
+        iff-eq _ _ (λ t. let l = ltb-true count 1 t in or-l (eqb count 0) _ (eq-eqb count 0 (omega arith)))
+        (λ t. ⊎-elim (λ (a : eqb count 0 ≡ true). lt-ltb count 1 (let i = eqb-true count 0 a in omega arith)) (λ (a : false ≡ true). absurd (false≢true a))
+        (or-cases (eqb count 0) false t))
+    go false = below (eqb q 0) refl
+
 pub return-none : (q count : ℕ) → returnFits q true count ≡ true → count ≡ 0
 return-none q count e = ⊎-elim (λ (t : eqb count 0 ≡ true). eqb-true count 0 t) (λ (t : false ≡ true). absurd (false≢true t)) (or-cases (eqb count 0) false e)
 

@@ -98,9 +98,9 @@ pub fn load_image(
 {
     let q = field(word_at(s, 0), 8, 20);
     let front = front_words(fades);
-    let read = load_rows(s, front, n, rows);
     let modules = load_modules(s, front, n, criticality);
     let alone = load_words(s, front, n);
+    let read = load_rows(s, front, n, rows);
     if !limits_right(s, fades) {
         return no_part();
     }

@@ -20,8 +20,8 @@ by-front b n e h = h ∙ ap (λ (x : ℕ). imageLength x n) (sym e)
 
 load-rows-requires : tie.Need-load-rows-requires
 load-rows-requires c κs =
-    let s = c .before .before .before .before .before in
-    let f = c .before .front-words .ensures in
+    let s = c .before .before .before .before .before .before .before .before in
+    let f = c .before .before .before .before .front-words .ensures in
     (f .2, s .pre .0 .0, by-front (s .args .fades) (s .args .n) (f .0) (s .pre .0 .1), s .pre .1 .1)
 
 returns : tie.Need-returns
@@ -37,16 +37,16 @@ load-accounts-requires c κs =
     let s = c .before .before .before .before .before .before .before .before .before .before .before .before .before .before .before .before in
     let a = s .pre .0 in (
       asked-by _ _ (s .args .fades) (c .before .before .before .before .limits-at .ensures) (c .before .before .before .before .before .before .before .before .before .before .before .before .front-words .ensures .0) (a .0) (a .1) (sym (i .before .limits-right .ensures) ∙ not-false _ (i .if1 .left)) q
-          (omega (arith, q, a .4)) (c .before .before .before .before .before .before .before .before .load-modules .ensures .1) (c .before .before .before .before .before .before .before .load-words .ensures .2),
+          (omega (arith, q, a .4)) (c .before .before .before .before .before .before .before .before .before .before .load-modules .ensures .1) (c .before .before .before .before .before .before .before .before .before .load-words .ensures .2),
       (s .pre .1 .2, s .pre .1 .3, s .pre .1 .4),
     )
 
 returns-2 : tie.Need-returns-2
 returns-2 c =
     let counted = c .before .before .before .load-accounts in
-    let read = c .before .before .before .before .before .before .before .before .before .before .before .before .before .before .load-rows in
-    let alone = c .before .before .before .before .before .before .before .before .before .before .before .load-words in
-    let modules = c .before .before .before .before .before .before .before .before .before .before .before .before .load-modules in
+    let read = c .before .before .before .before .before .before .before .before .before .before .before .load-rows in
+    let alone = c .before .before .before .before .before .before .before .before .before .before .before .before .before .load-words in
+    let modules = c .before .before .before .before .before .before .before .before .before .before .before .before .before .before .load-modules in
     let front = c .before .before .before .before .before .before .before .before .before .before .before .before .before .before .before .before .front-words in
     let limits = c .before .before .before .before .before .before .before .before .limits-at .ensures in
     let q = c .before .before .before .before .before .before .before .before .before .before .before .before .before .before .before .before .before .field .ensures ∙ ap returnLimitIn (c .before .before .before .before .before .before .before .before .before .before .before .before .before .before .before .before .before .before .word-at .ensures) in
@@ -83,9 +83,9 @@ load-image-spec =
     (λ c κs. search needs)
     (λ c κs. search needs)
     (λ c κs. search needs)
+    (λ c κs. search needs)
+    (λ c κs. search needs)
     load-rows-requires
-    (λ c κs. search needs)
-    (λ c κs. search needs)
     (λ c κs. search needs)
     (λ c κs. search needs)
     returns
