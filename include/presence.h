@@ -29,22 +29,36 @@
  * A module's state is its image, a block of bytes that the caller keeps.
  * Nothing is kept between calls: the result of a call and the bytes it writes
  * follow from its arguments alone.  The functions use no heap, no static
- * variables and no C library calls.  With counts (see SETUP) presence_step
- * takes 976 bytes of stack (measured, for every N), presence_page_step 1,168;
- * no other call takes more than 1,056.
+ * variables and no C library calls.  With counts and with fading (see SETUP)
+ * an accepted presence_step takes 1,016 bytes of stack (measured, for N = 2,
+ * 4, 8 and 16) and a refused one 1,064, presence_page_step 1,272 and 1,320,
+ * presence_open 1,592, presence_page_open 1,896; no other call takes more than
+ * 200.
  *
- * Instructions of an accepted presence_step and presence_page_step (page) with
- * counts, the most that were counted in quiet and loud rounds and in rounds in
- * which modules outside the view count or return, with every l at N and with
- * others.  They do not grow steadily with N: 3 modules take more than 4, 5 to 7
- * more than 8, 11 more than 12, 13 to 15 more than 16.
+ * Instructions of an accepted presence_step and presence_page_step (page), the
+ * most that were counted in quiet and loud rounds and in rounds in which
+ * modules outside the view count or return, with every l at N and with others.
+ * They do not grow steadily with N: with counts 3 modules take more than 4, 5
+ * to 7 more than 8, 11 more than 12, 13 to 15 more than 16; with fading 6 and 7
+ * more than 8, 11 more than 12, 14 and 15 more than 16.
+ *
+ * With counts:
  *
  *    N   step   page        N   step   page        N   step   page
- *    2  1,048  1,216        7  1,945  2,172       12  2,060  2,284
- *    3  1,255  1,444        8  1,441  1,630       13  2,420  2,665
- *    4  1,155  1,319        9  1,834  2,044       14  2,639  2,905
- *    5  1,517  1,702       10  2,043  2,274       15  2,846  3,133
- *    6  1,738  1,944       11  2,250  2,502       16  2,303  2,551
+ *    2  1,120  1,292        7  2,064  2,286       12  2,272  2,497
+ *    3  1,324  1,515        8  1,607  1,804       13  2,631  2,875
+ *    4  1,282  1,447        9  1,999  2,216       14  2,844  3,107
+ *    5  1,645  1,829       10  2,205  2,441       15  3,048  3,330
+ *    6  1,860  2,063       11  2,409  2,664       16  2,554  2,809
+ *
+ * With fading:
+ *
+ *    N   step   page        N   step   page        N   step   page
+ *    2  1,125  1,303        7  2,308  2,549       12  2,766  3,027
+ *    3  1,392  1,591        8  1,944  2,165       13  3,132  3,415
+ *    4  1,432  1,609        9  2,319  2,563       14  3,380  3,684
+ *    5  1,798  1,997       10  2,543  2,808       15  3,640  3,965
+ *    6  2,048  2,268       11  2,810  3,096       16  3,239  3,542
  *
  *
  * CALLS AT THE SAME TIME
