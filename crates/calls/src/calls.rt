@@ -55,9 +55,9 @@ pub extern "C" fn presence_check_setup(bytes: &[u8]) -> Answer
 pub extern "C" fn presence_open(bytes: &[u8], own: u32, out: &mut [u8]) -> Answer
     ensures { λ r. ⌜ called r (now (out .exit)) ≡ openCall (now (bytes .entry)) own (now (out .entry)) ⌝ }
 {
-    let v = setup::check::check(bytes);
-    if v.number != 0 {
-        return refuse(v.number, v.index);
+    let found = setup::check::check(bytes);
+    if found.number != 0 {
+        return refuse(found.number, found.index);
     }
     let n = size_at(bytes);
     let fades = fades_at(bytes);

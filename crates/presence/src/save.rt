@@ -22,7 +22,7 @@ ghost use Rattle.presence.specs.Image.{imageOf};
 ghost use Rattle.presence.specs.Valid.{roomy, saveVerdict, savedOut};
 
 // Writes all words of a state.
-pub fn save_words(state: State, out: &mut [u8])
+pub(crate) fn save_words(state: State, out: &mut [u8])
     requires { ⌜ (setupVerdict (state .setup) .number ≡ 0) × (roomy state ≡ true) × (length (now out) ≡ imageLength (frontOf (state .setup)) (state .setup .n)) ⌝ }
     ensures { λ _. ⌜ now (out .exit) ≡ imageOf state ⌝ }
 {
