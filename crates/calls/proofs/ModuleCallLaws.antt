@@ -19,12 +19,10 @@ use Rattle.words.proofs.Truth.{cond-true, cond-false}
 use Rattle.words.specs.Verdict.{verdict, accepted, isAccepted, between, allRight}
 use Rattle.setup.specs.Layout.{frontWords}
 use Rattle.setup.specs.Limits.{fades}
-use Rattle.setup.specs.Setup.{sizeIn, markIn, fadesIn, frontIn, frontOf, setupOf, blankSetup}
+use Rattle.setup.specs.Setup.{sizeIn, markIn, fadesIn, frontIn, frontOf, setupOf}
 use Rattle.setup.proofs.BoundLaws.{read-fades}
 use Rattle.words.proofs.VerdictLaws.{between-of}
-use Rattle.setup.specs.Check.{checkSetup, readSetup}
-use Rattle.setup.specs.declared.Setup.{Setup}
-use Rattle.setup.specs.declared.SetupRead.{SetupRead}
+use Rattle.setup.specs.Check.{checkSetup}
 use Rattle.words.specs.declared.Verdict.{Verdict}
 use Rattle.image.specs.Layout.{ownAt, latestAt, earlierAt, imageLength}
 use Rattle.image.specs.Words.{ownIn, syndromeIn}
@@ -32,7 +30,6 @@ use Rattle.image.specs.Check.{imageTests, imageSize, checkImage}
 use Rattle.image.proofs.ImageAnswers.{size-fits, by-words}
 use Rattle.image.proofs.TailLaws.{ImageFits, image-pass, image-zero}
 use Rattle.presence.specs.Valid.{Valid}
-use Rattle.presence.specs.Opening.{fresh, openOf}
 use Rattle.presence.specs.Step.{markOf, outgoingFor, afterRound, acceptedStep, stepOf}
 use Rattle.presence.specs.Image.{imageOf, stateOf, roomFor}
 use Rattle.calls.specs.Calls.{answer, called, refusedCall, wrote, openCall, stepCall, saveCall, handedOut, outgoingCall, refusedCause, causeCall}
@@ -40,9 +37,7 @@ use Rattle.presence.specs.declared.State.{State}
 use Rattle.calls.specs.declared.Answer.{Answer}
 use Rattle.calls.specs.declared.WordAnswer.{WordAnswer}
 use Rattle.calls.specs.declared.CauseAnswer.{CauseAnswer}
-use Rattle.presence.specs.declared.Opened.{Opened}
 use Rattle.presence.specs.declared.Stepped.{Stepped}
-use Rattle.presence.proofs.StateStepLaws.{open-valid, open-fresh, open-passed}
 use Rattle.presence.proofs.StateRoundLaws.{not-between, is-between}
 use Rattle.presence.proofs.ImageState.{image-state, load-valid}
 use Rattle.presence.proofs.RoundTrip.{written-read}
@@ -51,31 +46,6 @@ use Rattle.presence.proofs.RoundTrip.{written-read}
 refused-by : {v w : Verdict} (out : List ℕ) → v ≡ w → called (answer (v .number) (v .index) 0) out ≡ refusedCall (w .number) (w .index) out
 unfolding refusedCall
 refused-by out e = ap (λ (x : Verdict). called (answer (x .number) (x .index) 0) out) e
-
--- what was opened is valid
-pub opened-valid : (s : Setup) (own : ℕ) {o : Opened} → o ≡ openOf s own → o .number ≡ 0 → Valid (o .state)
-opened-valid s own {o} e z =
-    subst (λ (x : Opened). Valid (x .state)) (sym e) (open-valid s own (ap (λ (x : Opened). x .number) (sym e) ∙ z))
-
--- of a setup within the limits
-pub opened-most : (s : Setup) (own : ℕ) {o : Opened} → o ≡ openOf s own → o .number ≡ 0 → s .n ≤ 16
-opened-most s own {o} e z = open-passed s own (ap (λ (x : Opened). x .number) (sym e) ∙ z) .0 .most
-
--- which it has
-pub opened-setup : (s : Setup) (own : ℕ) {o : Opened} → o ≡ openOf s own → o .number ≡ 0 → o .state .setup ≡ s
-unfolding fresh
-opened-setup s own {o} e z =
-    ap (λ (x : Opened). x .state .setup) e
-    ∙ ap (λ (x : State). x .setup) (open-fresh s own (ap (λ (x : Opened). x .number) (sym e) ∙ z))
-
--- the output has room for a state with this setup, or not
-pub room-is : (st : State) {s : Setup} (out : List ℕ) → st .setup ≡ s → length out ≡ imageLength (frontOf s) (s .n) → roomFor st out ≡ true
-unfolding roomFor
-room-is st out e l = eq-eqb (length out) _ (l ∙ ap (λ (x : Setup). imageLength (frontOf x) (x .n)) (sym e))
-
-pub room-not : (st : State) {s : Setup} (out : List ℕ) → st .setup ≡ s → (length out ≡ imageLength (frontOf s) (s .n) → ⊥) → roomFor st out ≡ false
-unfolding roomFor
-room-not st out e f = ne-eqb (length out) _ (λ l. f (l ∙ ap (λ (x : Setup). imageLength (frontOf x) (x .n)) e))
 
 -- a setup that is read is of the form that its second word says
 pub read-front : (s : List ℕ) → frontOf (setupOf s) ≡ frontIn (wordAt s)
@@ -149,54 +119,12 @@ module _ (image : List ℕ) {v : Verdict} (e : v ≡ checkImage image) where
       → _≡_ {A = WordAnswer} (record { number = 0; index = 0; word = w }) (outgoingCall image)
   outgoing-made z h = out-by {a = accepted} (sym (image-zero image (ap (λ (x : Verdict). x .number) (sym e) ∙ z))) h
 
--- ---- the setup that was read
-
-abbrev pub setupVerdictIn : SetupRead → Verdict
-setupVerdictIn r = verdict (r .number) (r .index)
-
-module _ (bytes : List ℕ) {r : SetupRead} (e : r ≡ readSetup bytes) where
-  pub setup-verdict : setupVerdictIn r ≡ checkSetup bytes
-  unfolding readSetup
-  setup-verdict = ap setupVerdictIn e
-
-  pub setup-read : r .number ≡ 0 → r .setup ≡ setupOf bytes
-  unfolding readSetup
-  setup-read z = ap (λ (x : SetupRead). x .setup) e ∙ cond-true (setupOf bytes) blankSetup (eq-eqb _ 0 (ap (λ (x : SetupRead). x .number) (sym e) ∙ z))
-
 -- ---- opening
 
 module _ (setup : List ℕ) (own : ℕ) (out : List ℕ) {v : Verdict} (e : v ≡ checkSetup setup) where
   pub open-bad-setup : (v .number ≡ 0 → ⊥) → called (answer (v .number) (v .index) 0) out ≡ openCall setup own out
   unfolding openCall
   open-bad-setup f = refused-by out e ∙ sym (cond-false _ _ (ap isAccepted (sym e) ∙ ne-eqb (v .number) 0 f))
-
-  module _ (z : v .number ≡ 0) {o : Opened} (h : o ≡ openOf (setupOf setup) own) where
-    inside : cond (eqb (openOf (setupOf setup) own .number) 0)
-        (cond (roomFor (openOf (setupOf setup) own .state) out) (wrote 0 (openOf (setupOf setup) own .state)) (refusedCall 9 0 out))
-        (refusedCall (openOf (setupOf setup) own .number) (openOf (setupOf setup) own .index) out)
-        ≡ openCall setup own out
-    unfolding openCall
-    inside = sym (cond-true _ _ (ap isAccepted (sym e) ∙ eq-eqb (v .number) 0 z))
-
-    pub open-refused-call : (o .number ≡ 0 → ⊥) → called (answer (o .number) (o .index) 0) out ≡ openCall setup own out
-    unfolding refusedCall
-    open-refused-call f =
-        ap (λ (x : Opened). called (answer (x .number) (x .index) 0) out) h
-        ∙ sym (cond-false _ _ (ap (λ (x : Opened). eqb (x .number) 0) (sym h) ∙ ne-eqb (o .number) 0 f)) ∙ inside
-
-    pub open-no-room : o .number ≡ 0 → roomFor (o .state) out ≡ false → called (answer 9 0 0) out ≡ openCall setup own out
-    unfolding refusedCall
-    open-no-room n f =
-        sym (cond-true _ _ (ap (λ (x : Opened). eqb (x .number) 0) (sym h) ∙ eq-eqb (o .number) 0 n)
-        ∙ cond-false _ _ (ap (λ (x : Opened). roomFor (x .state) out) (sym h) ∙ f)) ∙ inside
-
-    pub open-wrote : {r : Answer} {b : List ℕ} → r ≡ answer 0 0 0 → o .number ≡ 0 → roomFor (o .state) out ≡ true → b ≡ imageOf (o .state)
-        → called r b ≡ openCall setup own out
-    unfolding wrote
-    open-wrote q n t w =
-        ap₂ called q (w ∙ ap (λ (x : Opened). imageOf (x .state)) h)
-        ∙ sym (cond-true _ _ (ap (λ (x : Opened). eqb (x .number) 0) (sym h) ∙ eq-eqb (o .number) 0 n)
-        ∙ cond-true _ _ (ap (λ (x : Opened). roomFor (x .state) out) (sym h) ∙ t)) ∙ inside
 
 -- ---- an image that is checked
 
