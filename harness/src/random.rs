@@ -1,7 +1,6 @@
 //! A small deterministic generator (splitmix64) and what is made with it.
 
 pub mod damage;
-pub mod doubles;
 pub mod pages;
 pub mod reached;
 pub mod reads;

@@ -7,4 +7,3 @@ pub mod Existence
 pub mod Ledger
 pub mod Images
 pub mod Stars
-pub mod ScoresCounted

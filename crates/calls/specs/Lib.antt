@@ -3,4 +3,3 @@ pub mod Refusals
 pub mod OutgoingImage
 pub mod ReturnCases
 pub mod Held
-pub mod Cases

@@ -9,7 +9,7 @@ mod step;
 mod verdict;
 mod view;
 
-use accounts::Counters;
+use rules::Counters;
 use rules::Reading;
 use setup::Setup;
 

@@ -1,5 +1,4 @@
 pub mod WordFields
-pub mod BoundLaws
 pub mod SetupCheckLaws
 pub mod SetupWords
 pub mod SetupLaws

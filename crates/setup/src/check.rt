@@ -1,9 +1,12 @@
-// The check of a setup in lent bytes: numbers 1 to 6 and 22, each with the index of the first word that is wrong.
-use crate::bounds::check_limits;
-use crate::bounds::fades_at;
-use crate::bounds::front_words;
+// The check of a setup in lent bytes: numbers 1 to 6, each with the index of the first word that is wrong.
+use crate::layout::MODULES_AT;
+use crate::layout::MOST_PENALTY_LIMIT;
+use crate::layout::MOST_REWARD_LIMIT;
+use crate::layout::PENALTY_LIMIT_AT;
+use crate::layout::REWARD_LIMIT_AT;
 use crate::layout::setup_length;
 use crate::word::head_ok;
+use crate::word::limit_ok;
 use crate::word::mark_ok;
 use crate::word::module_ok;
 use words::Verdict;
@@ -17,9 +20,10 @@ ghost use lib.ListN.{length};
 ghost use Rattle.words.specs.Word.{wordAt};
 ghost use Rattle.words.specs.Count.{lowest};
 ghost use Rattle.words.specs.Verdict.{andThen, outcome};
-ghost use Rattle.setup.specs.Layout.{frontWords, setupLength};
-ghost use Rattle.setup.specs.Setup.{sizeIn, fadesIn};
+ghost use Rattle.setup.specs.Layout.{setupLength};
+ghost use Rattle.setup.specs.Setup.{sizeIn};
 ghost use Rattle.setup.specs.Check.{moduleTest, moduleTests, checkHead, checkWords, checkSetup, checkFront};
+ghost use Rattle.setup.specs.Modules.{limitsRight};
 
 // The N of the head word.
 pub fn size_at(s: &[u8]) -> usize
@@ -29,12 +33,21 @@ pub fn size_at(s: &[u8]) -> usize
     (word_at(s, 0) % 32) as usize
 }
 
-// Whether the word of module j + 1 is right by number 5 or by number 6.
-fn module_right(s: &[u8], front: usize, n: usize, number: u32, j: usize) -> bool
-    requires { ⌜ (front ≤ 6) × (n ≤ 16) × (setupLength front n ≤ length (now s)) × (j < n) ⌝ }
-    ensures { λ r. ⌜ r ≡ moduleTest (wordAt (now (s .entry))) front n number j ⌝ }
+// Whether the words of both limits are right.
+pub fn limits_right(s: &[u8]) -> bool
+    requires { ⌜ 12 ≤ length (now s) ⌝ }
+    ensures { λ r. ⌜ r ≡ limitsRight (now (s .entry)) ⌝ }
 {
-    let w = word_at(s, front + j);
+    limit_ok(2, MOST_PENALTY_LIMIT, word_at(s, PENALTY_LIMIT_AT))
+        & limit_ok(3, MOST_REWARD_LIMIT, word_at(s, REWARD_LIMIT_AT))
+}
+
+// Whether the word of module j + 1 is right by number 5 or by number 6.
+fn module_right(s: &[u8], n: usize, number: u32, j: usize) -> bool
+    requires { ⌜ (n ≤ 16) × (setupLength n ≤ length (now s)) × (j < n) ⌝ }
+    ensures { λ r. ⌜ r ≡ moduleTest (now (s .entry)) n number j ⌝ }
+{
+    let w = word_at(s, MODULES_AT + j);
     if number == 5 {
         return module_ok(n, j, w);
     }
@@ -42,16 +55,16 @@ fn module_right(s: &[u8], front: usize, n: usize, number: u32, j: usize) -> bool
 }
 
 // The first module whose word is wrong by that number, or 0.
-fn wrong_module(s: &[u8], front: usize, n: usize, number: u32) -> usize
-    requires { ⌜ (front ≤ 6) × (n ≤ 16) × (setupLength front n ≤ length (now s)) ⌝ }
-    ensures { λ r. ⌜ r ≡ lowest n (λ j. not (moduleTest (wordAt (now (s .entry))) front n number j)) ⌝ }
+fn wrong_module(s: &[u8], n: usize, number: u32) -> usize
+    requires { ⌜ (n ≤ 16) × (setupLength n ≤ length (now s)) ⌝ }
+    ensures { λ r. ⌜ r ≡ lowest n (λ j. not (moduleTest (now (s .entry)) n number j)) ⌝ }
 {
     let mut j: usize = 0;
     loop {
         if n <= j {
             break 0;
         }
-        if !module_right(s, front, n, number, j) {
+        if !module_right(s, n, number, j) {
             break j + 1;
         }
         j += 1;
@@ -59,29 +72,33 @@ fn wrong_module(s: &[u8], front: usize, n: usize, number: u32) -> usize
 }
 
 // The answer v, then that number at the first module word that is wrong by it.
-fn then_modules(v: Verdict, s: &[u8], front: usize, n: usize, number: u32) -> Verdict
-    requires { ⌜ (front ≤ 6) × (n ≤ 16) × (setupLength front n ≤ length (now s)) ⌝ }
-    ensures { λ r. ⌜ r ≡ andThen v (outcome (moduleTests (wordAt (now (s .entry))) front n number)) ⌝ }
+fn then_modules(v: Verdict, s: &[u8], n: usize, number: u32) -> Verdict
+    requires { ⌜ (n ≤ 16) × (setupLength n ≤ length (now s)) ⌝ }
+    ensures { λ r. ⌜ r ≡ andThen v (outcome (moduleTests (now (s .entry)) n number)) ⌝ }
 {
     if v.number != 0 {
         return v;
     }
-    let found = wrong_module(s, front, n, number);
+    let found = wrong_module(s, n, number);
     if found == 0 {
         return accept();
     }
-    refusal(number, (front + found - 1) as u32)
+    refusal(number, (MODULES_AT + found - 1) as u32)
 }
 
-// Numbers 4 or 22, 5 and 6, of bytes that hold the words of n modules, whatever follows them.
-pub fn check_words(s: &[u8], fades: bool, n: usize) -> Verdict
-    requires { ⌜ (n ≤ 16) × (setupLength (frontWords fades) n ≤ length (now s)) × (fades ≡ fadesIn (wordAt (now s))) ⌝ }
+// Numbers 4 to 6, of bytes that hold the words of n modules, whatever follows them.
+pub fn check_words(s: &[u8], n: usize) -> Verdict
+    requires { ⌜ (n ≤ 16) × (setupLength n ≤ length (now s)) ⌝ }
     ensures { λ r. ⌜ r ≡ checkWords (now (s .entry)) n ⌝ }
 {
-    let front = front_words(fades);
-    let limits = check_limits(s, fades);
-    let modules = then_modules(limits, s, front, n, 5);
-    then_modules(modules, s, front, n, 6)
+    if !limit_ok(2, MOST_PENALTY_LIMIT, word_at(s, PENALTY_LIMIT_AT)) {
+        return refusal(4, PENALTY_LIMIT_AT as u32);
+    }
+    if !limit_ok(3, MOST_REWARD_LIMIT, word_at(s, REWARD_LIMIT_AT)) {
+        return refusal(4, REWARD_LIMIT_AT as u32);
+    }
+    let modules = then_modules(accept(), s, n, 5);
+    then_modules(modules, s, n, 6)
 }
 
 // Numbers 1 and 2.
@@ -97,7 +114,7 @@ pub fn check_head(s: &[u8]) -> Verdict
     accept()
 }
 
-// Numbers 1 to 6 and 22 of a setup by itself.
+// Numbers 1 to 6 of a setup by itself.
 pub fn check(s: &[u8]) -> Verdict
     ensures { λ r. ⌜ r ≡ checkSetup (now (s .entry)) ⌝ }
 {
@@ -106,14 +123,13 @@ pub fn check(s: &[u8]) -> Verdict
         return head;
     }
     let n = size_at(s);
-    let fades = fades_at(s);
-    if s.len() != setup_length(front_words(fades), n) {
+    if s.len() != setup_length(n) {
         return refusal(3, 0);
     }
-    check_words(s, fades, n)
+    check_words(s, n)
 }
 
-// Numbers 1 to 6 and 22 of the setup at the front of a run script.
+// Numbers 1 to 6 of the setup at the front of a run script.
 pub fn check_front(s: &[u8]) -> Verdict
     ensures { λ r. ⌜ r ≡ checkFront (now (s .entry)) ⌝ }
 {
@@ -122,9 +138,8 @@ pub fn check_front(s: &[u8]) -> Verdict
         return head;
     }
     let n = size_at(s);
-    let fades = fades_at(s);
-    if s.len() < setup_length(front_words(fades), n) {
+    if s.len() < setup_length(n) {
         return refusal(3, 0);
     }
-    check_words(s, fades, n)
+    check_words(s, n)
 }

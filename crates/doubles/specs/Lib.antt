@@ -1,2 +1,0 @@
-pub mod Double
-pub mod Array

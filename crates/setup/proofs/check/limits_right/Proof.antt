@@ -1,0 +1,29 @@
+-- Each limit's word is read and tested.
+use borrow.Author.Needs.{needs}
+use mathlib.Core.Path.{ap, ap₂, _∙_}
+use mathlib.Core.Bool.{_&&_}
+use Rattle.setup.specs.Check.{limitOk}
+use Rattle.setup.proofs.check.limits_right.Statement.{statement}
+use Rattle.setup.proofs.check.limits_right.Tie as tie
+
+word-at-requires : tie.Need-word-at-requires
+word-at-requires c κs = search needs
+
+limit-ok-requires : tie.Need-limit-ok-requires
+limit-ok-requires c κs = search needs
+
+word-at-requires-2 : tie.Need-word-at-requires-2
+word-at-requires-2 c κs = search needs
+
+limit-ok-requires-2 : tie.Need-limit-ok-requires-2
+limit-ok-requires-2 c κs = search needs
+
+returns : tie.Need-returns
+returns c =
+    ap₂ _&&_ (c .before .before .limit-ok .ensures ∙ ap (limitOk _ _) (c .before .before .before .word-at .ensures))
+    (c .limit-ok2 .ensures ∙ ap (limitOk _ _) (c .before .word-at2 .ensures))
+
+pub limits-right-spec : {M : Type 1} → statement M
+limits-right-spec =
+    tie.close
+    (tie.spec word-at-requires limit-ok-requires word-at-requires-2 limit-ok-requires-2 returns)
