@@ -14,6 +14,8 @@ CALLS ?= $(sort $(wildcard harness/data/*calls.txt))
 C_BUILD ?= target/c
 
 C_FLAGS = -std=c99 -Wall -Wextra -Werror -Iinclude
+# A score is rounded after each operation (E9 of document 02), so none may be fused with another.
+C_ROUNDED = -ffp-contract=off
 C_LINK = -L$(PRESENCE_LIB) -lgirmaut $(PRESENCE_LIBS)
 C_ARCHIVE = $(PRESENCE_LIB)/libgirmaut.a
 
@@ -73,10 +75,10 @@ CHECK_HEADERS = $(wildcard harness/c/check/*.h harness/c/check/groups/*.h) harne
 CHECK_NEEDS = $(CHECK) $(CHECK_HEADERS) $(C_ARCHIVE)
 
 $(C_BUILD)/check: $(CHECK_NEEDS) | $(C_BUILD)
-	gcc $(C_FLAGS) -Iharness/c -O2 $(CHECK) $(C_LINK) -o $@
+	gcc $(C_FLAGS) $(C_ROUNDED) -Iharness/c -O2 $(CHECK) $(C_LINK) -o $@
 
 $(C_BUILD)/check-asan: $(CHECK_NEEDS) | $(C_BUILD)
-	gcc $(C_FLAGS) -Iharness/c -O1 -g -fsanitize=address,undefined -fno-sanitize-recover=all $(CHECK) $(C_LINK) -o $@
+	gcc $(C_FLAGS) $(C_ROUNDED) -Iharness/c -O1 -g -fsanitize=address,undefined -fno-sanitize-recover=all $(CHECK) $(C_LINK) -o $@
 
 $(C_BUILD)/card: examples/firmware/card.c include/presence.h $(C_ARCHIVE) | $(C_BUILD)
 	gcc $(C_FLAGS) -O2 examples/firmware/card.c $(C_LINK) -o $@

@@ -29,22 +29,36 @@
  * A module's state is its image, a block of bytes that the caller keeps.
  * Nothing is kept between calls: the result of a call and the bytes it writes
  * follow from its arguments alone.  The functions use no heap, no static
- * variables and no C library calls.  presence_step takes 976 bytes of stack
- * (measured, for every N), presence_page_step 1,168; no other call takes more
- * than 1,056.
+ * variables and no C library calls.  With counts and with fading (see SETUP)
+ * an accepted presence_step takes 1,016 bytes of stack (measured, for N = 2,
+ * 4, 8 and 16) and a refused one 1,064, presence_page_step 1,272 and 1,320,
+ * presence_open 1,592, presence_page_open 1,896; no other call takes more than
+ * 200.
  *
- * Instructions of an accepted presence_step and presence_page_step (page),
- * the most that were counted in quiet and loud rounds and in rounds in which
+ * Instructions of an accepted presence_step and presence_page_step (page), the
+ * most that were counted in quiet and loud rounds and in rounds in which
  * modules outside the view count or return, with every l at N and with others.
- * They do not grow steadily with N: 3 modules take more than 4, 5 to 7 more
- * than 8, 11 more than 12, 13 to 15 more than 16.
+ * They do not grow steadily with N: with counts 3 modules take more than 4, 5
+ * to 7 more than 8, 11 more than 12, 13 to 15 more than 16; with fading 6 and 7
+ * more than 8, 11 more than 12, 14 and 15 more than 16.
+ *
+ * With counts:
  *
  *    N   step   page        N   step   page        N   step   page
- *    2  1,048  1,216        7  1,945  2,172       12  2,060  2,284
- *    3  1,255  1,444        8  1,441  1,630       13  2,420  2,665
- *    4  1,155  1,319        9  1,834  2,044       14  2,639  2,905
- *    5  1,517  1,702       10  2,043  2,274       15  2,846  3,133
- *    6  1,738  1,944       11  2,250  2,502       16  2,303  2,551
+ *    2  1,120  1,292        7  2,064  2,286       12  2,272  2,497
+ *    3  1,324  1,515        8  1,607  1,804       13  2,631  2,875
+ *    4  1,282  1,447        9  1,999  2,216       14  2,844  3,107
+ *    5  1,645  1,829       10  2,205  2,441       15  3,048  3,330
+ *    6  1,860  2,063       11  2,409  2,664       16  2,554  2,809
+ *
+ * With fading:
+ *
+ *    N   step   page        N   step   page        N   step   page
+ *    2  1,125  1,303        7  2,308  2,549       12  2,766  3,027
+ *    3  1,392  1,591        8  1,944  2,165       13  3,132  3,415
+ *    4  1,432  1,609        9  2,319  2,563       14  3,380  3,684
+ *    5  1,798  1,997       10  2,543  2,808       15  3,640  3,965
+ *    6  2,048  2,268       11  2,810  3,096       16  3,239  3,542
  *
  *
  * CALLS AT THE SAME TIME
@@ -91,20 +105,34 @@
  *
  * Under Linux the kernel sees to all of this, for signal handlers too.
  *
+ * With fading (see SETUP) a step computes scores in doubles, by SSE2.  Cards
+ * hold the same bits only if all of them round alike.  So in a step MXCSR has
+ * to hold what the ABI gives a program at its start, 0x1F80 (bits 5..0, the
+ * flags, may be set): rounding to nearest, exceptions masked, FZ and DAZ off.
+ * A handler that makes a step loads this first (ldmxcsr).  A program must not
+ * be linked with gcc's -ffast-math or -Ofast, which switch FZ and DAZ on at its
+ * start.
+ *
  *
  * WORDS, VECTORS
  *
  * All byte blocks are sequences of 32-bit words, big-endian: the first byte
- * of a word holds bits 31..24.  Bits 31..28 are the kind of the word.  Bits
- * that the tables below do not name must be 0.  A block may stand at any
- * address; no alignment is asked.
+ * of a word holds bits 31..24.  Bits 31..28 are the kind of the word, except in
+ * the two halves of a double.  Bits that the tables below do not name must be
+ * 0.  A block may stand at any address; no alignment is asked.
  *
  * In a vector (health, view, controller, syndrome, row) module j is bit j-1.
  * A row is the syndrome that a module sent: bit j-1 is 1 if the sender found
  * module j good.
  *
  *
- * SETUP: N+3 words, the same for all modules of a backplane
+ * SETUP: the same for all modules of a backplane
+ *
+ * A setup has one of two forms, which differ in how a card leaves the view (see
+ * HOW A CARD LEAVES AND COMES BACK).  The kind of word 1 tells which: 2 for
+ * counts, 0 for fading.  An image has the form of its setup.
+ *
+ * Counts, N+3 words:
  *
  *   word      kind  content
  *   0         1     27..8 return limit Q, 0..1,000,000 (0: never);
@@ -114,6 +142,25 @@
  *   2+j       4     module j, for j = 1..N in this order:
  *                   27..23 j; 22 send mark; 21..17 read place l, 0..N;
  *                   16..0 criticality, 1..100,000
+ *
+ * Fading, N+6 words:
+ *
+ *   word      kind  content
+ *   0         1     as above
+ *   1         0     nothing: the word is 0x00000000
+ *   2, 3      -     factor, a double, from 0.0 to 1.0
+ *   4, 5      -     limit, a double, above 0.0 and at most 1,000,000.0
+ *   5+j       4     module j, as above; its criticality has to be in range too,
+ *                   but counts nothing
+ *
+ * A double (IEEE 754 binary64) stands in two words: first its high half, bits
+ * 63..32, then its low half.  Minus zero counts as negative.
+ * presence_fading_front writes words 0 to 5 of a fading setup.  Where the bytes
+ * have to be constants, some doubles are
+ *
+ *   0.5   0x3FE00000 0x00000000        1.0   0x3FF00000 0x00000000
+ *   0.9   0x3FECCCCC 0xCCCCCCCD        3.0   0x40080000 0x00000000
+ *   0.99  0x3FEFAE14 0x7AE147AE       10.0   0x40240000 0x00000000
  *
  * The read place l says when in the round the module takes its read and makes
  * its step: after the words of modules 1..l of this round have come in and
@@ -127,37 +174,79 @@
  * round before handed out; in round 1 the word of the opened image.
  *
  *
- * IMAGE: 5N+6 words
+ * IMAGE: 5N+6 words with counts, 5N+9 with fading
  *
- *   word      kind  content
- *   0..N+2          the setup
- *   N+3       10    20..16 own number, 15..0 view
- *   N+3+j     11    previous read, j = 1..N: 27..23 j; 22 heard; 15..0 row
- *                   (0 if not heard)
- *   2N+4      12    15..0 syndrome of the latest step
- *   2N+5      12    15..0 syndrome of the step before
- *   2N+5+j    13    27..23 j; 20..0 penalty of j
- *   3N+5+j    14    27..23 j; 22..0 reward of j
- *   4N+5+j    15    27..23 j; 19..0 return count of j: below Q; 0 while j is
- *                   in the view, and where Q is 0
+ *   counts    fading     kind  content
+ *   0..N+2    0..N+5           the setup
+ *   N+3       N+6        10    20..16 own number, 15..0 view
+ *   N+3+j     N+6+j      11    previous read, j = 1..N: 27..23 j; 22 heard;
+ *                              15..0 row (0 if not heard)
+ *   2N+4      2N+7       12    15..0 syndrome of the latest step
+ *   2N+5      2N+8       12    15..0 syndrome of the step before
+ *   2N+5+j    none       13    27..23 j; 20..0 penalty of j
+ *   3N+5+j    none       14    27..23 j; 22..0 reward of j
+ *   none      2N+7+2j,   -     score of j, a double: high half, low half
+ *             2N+8+2j
+ *   4N+5+j    4N+8+j     15    27..23 j; 19..0 return count of j: below Q; 0
+ *                              while j is in the view, and where Q is 0
+ *
+ * So in a fading image the view stands three words later: read it by
+ * PRESENCE_FADING_VIEW there, by PRESENCE_VIEW in an image with counts.
  *
  * A fresh image has all modules in the view, all rows heard and all ones,
- * both syndromes all ones and all counters 0.
+ * both syndromes all ones, all counters 0 and all scores 0.0.
  *
  *
  * HOW A CARD LEAVES AND COMES BACK
  *
- * A module in the view whose health is 0 in a step is charged: its penalty
- * grows by its criticality and its reward becomes 0.  Above P it leaves the
- * view.  With health 1 and a penalty its reward grows by 1; at R both become
- * 0.
+ * A module in the view whose health is 0 in a step is charged.
+ *
+ * With counts a charge makes its penalty grow by its criticality, and its
+ * reward becomes 0.  Above P it leaves the view.  With health 1 and a penalty
+ * its reward grows by 1; at R both become 0.
+ *
+ * With fading a charge adds 1.0 to its score, whatever its criticality is.
+ * With health 1 its score is multiplied by the factor.  Each result is rounded
+ * once, to the nearest double.  At or above the limit it leaves the view, and
+ * its score stays as it is while it is outside.  So the score is the number of
+ * its charges, where a charge counts the less the more good rounds came after
+ * it.  With factor 1.0 it is exactly the number of charges since the opening or
+ * the last return, with 0.0 the number since the last good round in the view.
+ * presence_score reads it.
  *
  * A module outside the view counts the steps running in which its health is 1.
  * A health of 0 makes the count 0 again.  At Q it returns: it is in the view
- * that this step leaves, with penalty P, reward 0 and count 0, and votes from
- * the next step on.  So the next bad round puts it out at once, until R good
- * ones in the view have cleared its penalty.  With Q = 0 it never returns.
- * The count is in the image, so a saved one goes on where it was.
+ * that this step leaves, with count 0, and votes from the next step on.  With
+ * Q = 0 it never returns.  The count is in the image, so a saved one goes on
+ * where it was.
+ *
+ *   - With counts it returns with penalty P and reward 0.  So the next bad
+ *     round puts it out at once, until R good ones in the view have cleared its
+ *     penalty.
+ *   - With fading it returns with score 0.0, as if it were fresh.  So the next
+ *     bad round puts it out only if the limit is 1.0 or less.
+ *
+ * Choosing factor and limit.  From score 0.0 as many bad rounds running put a
+ * card out as the limit says, rounded up to a whole number.  The factor says
+ * how fast charges fade.  The good rounds in which a score is halved, and their
+ * time at 2.5 ms a round:
+ *
+ *     factor    rounds       time
+ *     0.5            1     2.5 ms
+ *     0.9          6.6      16 ms
+ *     0.99          69     172 ms
+ *     0.99827      400        1 s
+ *
+ * To halve it in h good rounds the factor is 0.5^(1/h).  If a card has a bad
+ * round after every g good ones, its score after the bad one tends to
+ * 1 / (1 - factor^g).  With a limit clearly above this it stays in the view,
+ * however long that goes on; with one clearly below it leaves.
+ *
+ * For example factor 0.5 and limit 3.0.  Three bad rounds running, 7.5 ms, put
+ * a card out: its score is 1.0, 2.0, 3.0.  A bad round every other round never
+ * does: 1.0, 0.5, 1.5, 0.75, 1.75 and so on, which tends to 2.0 after a bad
+ * round.  Two bad ones of every three do, in the fifth round: 1.0, 2.0, 1.0,
+ * 2.0, 3.0.
  *
  * What the others see.  Let r be the first round, after the card has left
  * their views, from which on all of them hear it.  They have its health for
@@ -173,8 +262,9 @@
  *     4,000    10,002.5 ms  10,007.5 ms
  *
  * What the card does.  One that was not heard, but made the step of every
- * round, has nothing to do.  It holds the same view and counters as the others
- * all along, its own return included, while the fault limit is kept (proved).
+ * round, has nothing to do.  It holds the same view and counters as the others,
+ * and the same bits of each score, all along, its own return included, while
+ * the fault limit is kept (proved).
  *
  * One that lost its state, or left a step out, opens anew (presence_open)
  * before the first round in which it sends, and then makes the step of every
@@ -192,8 +282,12 @@
  *     leave its own view; then it returns there in the same step as in theirs.
  *   - If it opens while it is still in the others' views, its first words,
  *     which may differ from theirs, can be held against it.
- *   - R good rounds after its return it holds what the others hold, if no other
- *     card has a penalty or is outside.
+ *   - With counts it holds what the others hold R good rounds after its return,
+ *     if no other card has a penalty or is outside.
+ *   - With fading its scores differ from the others' where a card was charged
+ *     before it opened, and may differ in its own.  They fade alike, with a
+ *     factor below 1.0: what is left of a score below 2^-53 is gone with the
+ *     next charge, which makes it 1.0 everywhere.
  *
  * That cards agree is proved of cards that were opened before round 1 and made
  * every step since.  In the fault limit a card that opened anew counts as a
@@ -258,7 +352,8 @@
  * number is 0 if the call is accepted.  Otherwise the call is refused: it
  * writes nothing, not even a part of the output or of the page, and answers
  * health 0, word 0, or cause 0 and row 0.  Of several reasons the lowest number
- * is answered.
+ * is answered; 22 stands in the place of 4, here and in every order of checks
+ * below.
  * index is a word index from 0 in the setup or image that was passed, and
  * names the first word that is wrong for this number.
  *
@@ -270,29 +365,34 @@
  *    2   first word no head: kind not 1, N not 2..16, Q     0
  *        over 1,000,000, or one of bits 7..5 set; n of
  *        presence_read_cause not 2..16
- *    3   setup not of N+3 words, image not of 5N+6 words    0
- *    4   limit word wrong: kind, or P or R out of range     1 (P) or 2 (R)
+ *    3   setup not of N+3 words, image not of 5N+6 words;   0
+ *        where word 1 is of kind 0, not of N+6 and 5N+9
+ *    4   limit word wrong: kind (word 1 of neither 2 nor    1 (P) or 2 (R)
+ *        0), or P or R out of range
  *    5   module word wrong: kind, number not in turn, l     its word,
- *        over N, criticality out of range                   3..N+2
+ *        over N, criticality out of range                   3..N+2;
+ *                                                           fading 6..N+5
  *    6   send mark on module 1, or on a module whose l is   its word,
- *        its own number or more                             3..N+2
+ *        its own number or more                             as with 5
  *    7   own number not 1..N                                presence_open: 0
- *        (in an image tested only if word N+3 is of         image: N+3
- *        kind 10)
+ *        (in an image tested only if that word is of        image: N+3;
+ *        kind 10)                                           fading N+6
  *    8   wrong word in the part of an image after the       its word,
- *        setup: kind, order or number of a word; a bit set  N+3..5N+5
- *        that must be 0; a vector with a bit at N or        (view against
- *        above; a row that is not 0 though not heard;       penalty: the
- *        penalty over P + criticality; reward R or more,    penalty word;
+ *        setup: kind, order or number of a word; a bit set  N+3..5N+5; fading
+ *        that must be 0; a vector with a bit at N or        N+6..5N+8 (view
+ *        above; a row that is not 0 though not heard;       against penalty:
+ *        penalty over P + criticality; reward R or more,    the penalty word;
  *        or over 0 with penalty 0; a module in the view     reward with
  *        with penalty over P, or out of it without; a       penalty 0: the
  *        return count of Q or more, or over 0 for a module  reward word;
- *        in the view or where Q is 0                        view against
- *                                                           return count:
- *                                                           the count's)
- *    9   read not of N words, output not of 5N+6 words, or  0
- *        page not of 16 (a length that is no multiple of
- *        4 included)
+ *        in the view or where Q is 0; a score that is       view against
+ *        negative, infinite or no number (NaN); a module    return count:
+ *        in the view with a score at or above the limit,    the count's;
+ *        or out of it with one below                        score: its high
+ *                                                           half)
+ *    9   read not of N words, output not of the words of    0
+ *        an image of this form, 5N+6 or 5N+9, or page not
+ *        of 16 (a length that is no multiple of 4 included)
  *   10   controller has a bit at N or above; that of        0
  *        presence_read_cause is not 0 or 1
  *   11   retired: no call answers it; every word that a
@@ -300,6 +400,10 @@
  *   17   byte offset that is not the start of one of the    0
  *        page's 16 words
  *   18   write outside words 2 and 3 of the page            0
+ *   22   fading setup wrong, in the place of 4: a bit set   1, 2 (factor's
+ *        in word 1; factor negative, over 1.0 or no number  high half) or
+ *        (NaN); limit not above 0.0, over 1,000,000.0 or    4 (limit's)
+ *        no number
  *
  * Other numbers do not occur in these functions.
  *
@@ -317,9 +421,9 @@
  * Inputs are only read, and may overlap one another.
  *
  * An accepted call of presence_open, presence_step or presence_save, with a
- * page or without, writes all 5N+6 words of the output.  presence_page_open
- * writes all 16 words of the page, presence_page_step words 0 to 2 and 4 to 7,
- * presence_page_write the one word.
+ * page or without, writes all words of the output, 5N+6 with counts and 5N+9
+ * with fading.  presence_page_open writes all 16 words of the page,
+ * presence_page_step words 0 to 2 and 4 to 7, presence_page_write the one word.
  */
 #ifndef PRESENCE_H
 #define PRESENCE_H
@@ -334,15 +438,29 @@ extern "C" {
 /* Largest N. */
 #define PRESENCE_MAX_MODULES 16u
 
-/* Lengths in bytes for n modules: setup n+3, image 5n+6, read n words. */
+/* Lengths in bytes for n modules with counts, setup n+3 and image 5n+6 words,
+   and with fading, setup n+6 and image 5n+9 words.  A read has n words with
+   both. */
 #define PRESENCE_SETUP_BYTES(n) (4u * ((size_t)(n) + 3u))
 #define PRESENCE_IMAGE_BYTES(n) (4u * (5u * (size_t)(n) + 6u))
+#define PRESENCE_FADING_SETUP_BYTES(n) (4u * ((size_t)(n) + 6u))
+#define PRESENCE_FADING_IMAGE_BYTES(n) (4u * (5u * (size_t)(n) + 9u))
 #define PRESENCE_READ_BYTES(n) (4u * (size_t)(n))
 
-/* The same for N = 16. */
+/* The same for N = 16.  A setup and an image of either form have room in those
+   with fading. */
 #define PRESENCE_MAX_SETUP_BYTES 76u
 #define PRESENCE_MAX_IMAGE_BYTES 344u
+#define PRESENCE_MAX_FADING_SETUP_BYTES 88u
+#define PRESENCE_MAX_FADING_IMAGE_BYTES 356u
 #define PRESENCE_MAX_READ_BYTES 64u
+
+/* The words of a fading setup before those of the modules, in bytes. */
+#define PRESENCE_FADING_FRONT_BYTES 24u
+
+/* Whether an accepted setup or image, given as a pointer to uint8_t, is of the
+   fading form: 1 or 0. */
+#define PRESENCE_IS_FADING(bytes) ((bytes)[4] >> 4 == 0)
 
 /* The page: its length, the offsets of its words, and the flags. */
 #define PRESENCE_PAGE_BYTES 64u
@@ -366,11 +484,15 @@ extern "C" {
 
 /*
  * The view in an accepted image of n modules, given as a pointer to uint8_t:
- * bits 15..0 of word n+3.  Uses its arguments twice.
+ * with counts bits 15..0 of word n+3, with fading of word n+6.  Each is for
+ * images of its form alone.  Both use their arguments twice.
  */
 #define PRESENCE_VIEW(image, n)                              \
     (((uint32_t)(image)[PRESENCE_SETUP_BYTES(n) + 2u] << 8) | \
      (uint32_t)(image)[PRESENCE_SETUP_BYTES(n) + 3u])
+#define PRESENCE_FADING_VIEW(image, n)                              \
+    (((uint32_t)(image)[PRESENCE_FADING_SETUP_BYTES(n) + 2u] << 8) | \
+     (uint32_t)(image)[PRESENCE_FADING_SETUP_BYTES(n) + 3u])
 
 /* The answer numbers by name; the table is above. */
 #define PRESENCE_ACCEPTED 0u
@@ -386,6 +508,7 @@ extern "C" {
 #define PRESENCE_WRONG_CONTROLLER 10u
 #define PRESENCE_WRONG_OFFSET 17u
 #define PRESENCE_WRONG_WRITE 18u
+#define PRESENCE_WRONG_FADING 22u
 
 /* Answer of the functions that answer no presence_word or presence_cause. */
 typedef struct presence_answer {
@@ -411,8 +534,13 @@ typedef struct presence_cause {
 } presence_cause;
 
 /*
+ * The functions.  Each takes modules with counts and modules with fading.
+ */
+
+/*
  * Tests a setup.
- *   setup, setup_len   the setup, PRESENCE_SETUP_BYTES(N)
+ *   setup, setup_len   the setup, PRESENCE_SETUP_BYTES(N); fading
+ *                      PRESENCE_FADING_SETUP_BYTES(N)
  * Order of the checks: 1, 2, 3, 4, 5, 6.
  * Writes nothing.  Health is 0.
  */
@@ -420,9 +548,11 @@ presence_answer presence_check_setup(const uint8_t *setup, size_t setup_len);
 
 /*
  * Opens a module: writes the image of a fresh one.
- *   setup, setup_len   the setup, PRESENCE_SETUP_BYTES(N)
+ *   setup, setup_len   the setup, PRESENCE_SETUP_BYTES(N); fading
+ *                      PRESENCE_FADING_SETUP_BYTES(N)
  *   own                the module's own number, 1..N
- *   out, out_len       output, PRESENCE_IMAGE_BYTES(N)
+ *   out, out_len       output, PRESENCE_IMAGE_BYTES(N); fading
+ *                      PRESENCE_FADING_IMAGE_BYTES(N)
  * Order of the checks: 1, 2, 3, 4, 5, 6 (setup), 7 (own, index 0),
  * 9 (output).
  * Accepted: the output holds the fresh image.  Health is 0.
@@ -434,11 +564,13 @@ presence_answer presence_open(const uint8_t *setup, size_t setup_len,
 /*
  * Makes the step of one round.
  *   state, state_len   the image that the step before, or the opening, wrote,
- *                      PRESENCE_IMAGE_BYTES(N)
+ *                      PRESENCE_IMAGE_BYTES(N); fading
+ *                      PRESENCE_FADING_IMAGE_BYTES(N)
  *   read, read_len     the read of this round, PRESENCE_READ_BYTES(N)
  *   controller         bit j-1 is 1 if the controller calls the reception
  *                      from module j valid; bits at N or above must be 0
- *   out, out_len       output, PRESENCE_IMAGE_BYTES(N)
+ *   out, out_len       output, PRESENCE_IMAGE_BYTES(N); fading
+ *                      PRESENCE_FADING_IMAGE_BYTES(N)
  * Order of the checks: 1, 2, 3, 4, 5, 6, 7, 8 (image), 9 (read and output),
  * 10 (controller).
  * Accepted: the output holds the image after the step, and health is the
@@ -465,9 +597,12 @@ presence_answer presence_step(const uint8_t *state, size_t state_len,
  * to put a state into a store that survives a restart, and to take it back
  * from there: an accepted image is one that a step may go on from.  An image
  * of another setup or another slot is accepted too: a card that goes on from a
- * stored image compares the setup and the own number (word N+3) itself.
- *   state, state_len   the image, PRESENCE_IMAGE_BYTES(N)
- *   out, out_len       output, PRESENCE_IMAGE_BYTES(N)
+ * stored image compares the setup and the own number (in the word after the
+ * setup) itself.
+ *   state, state_len   the image, PRESENCE_IMAGE_BYTES(N); fading
+ *                      PRESENCE_FADING_IMAGE_BYTES(N)
+ *   out, out_len       output, PRESENCE_IMAGE_BYTES(N); fading
+ *                      PRESENCE_FADING_IMAGE_BYTES(N)
  * Order of the checks: 1, 2, 3, 4, 5, 6, 7, 8 (image), 9 (output).
  * Health is 0.
  * Refused: the output stays as it was.
@@ -479,7 +614,8 @@ presence_answer presence_save(const uint8_t *state, size_t state_len,
  * The word handed out by the step, or the opening, that wrote this image:
  * kind 5 with the syndrome of the latest step, or of the step before it if
  * the module's own send mark is set.
- *   state, state_len   the image, PRESENCE_IMAGE_BYTES(N)
+ *   state, state_len   the image, PRESENCE_IMAGE_BYTES(N); fading
+ *                      PRESENCE_FADING_IMAGE_BYTES(N)
  * Order of the checks: 1, 2, 3, 4, 5, 6, 7, 8 (image).
  * Writes nothing.
  * With the send mark the word is to be sent in the round of that step,
@@ -566,6 +702,48 @@ presence_word presence_page_write(uint8_t *page, size_t page_len,
  * Writes nothing.
  */
 presence_word presence_page_interrupt(const uint8_t *page, size_t page_len);
+
+/*
+ * Two helpers for fading, which are no part of the library.  They copy a double
+ * byte by byte, so that nothing of the C library is needed.
+ */
+
+/* The score of module j, 1..n, in an accepted fading image of n modules. */
+static inline double presence_score(const uint8_t *image, uint32_t n,
+                                    uint32_t j)
+{
+    const uint8_t *from = image + 4u * (2u * n + 7u + 2u * j);
+    uint64_t bits = 0;
+    double score = 0.0;
+    unsigned i;
+
+    for (i = 0; i < 8u; i++)
+        bits = bits << 8 | from[i];
+    for (i = 0; i < sizeof score; i++)
+        ((unsigned char *)&score)[i] = ((const unsigned char *)&bits)[i];
+    return score;
+}
+
+/*
+ * Writes the PRESENCE_FADING_FRONT_BYTES before the modules' words in a fading
+ * setup of n modules with return limit q.  Tests nothing but leaves that to
+ * presence_check_setup.
+ */
+static inline void presence_fading_front(uint8_t *setup, uint32_t n, uint32_t q,
+                                         double factor, double limit)
+{
+    const uint64_t head = 0x10000000u | q << 8 | n;
+    uint64_t part[3] = {0, 0, 0}; /* two words each */
+    unsigned i;
+
+    part[0] = head << 32;
+    for (i = 0; i < sizeof factor; i++) {
+        ((unsigned char *)&part[1])[i] = ((const unsigned char *)&factor)[i];
+        ((unsigned char *)&part[2])[i] = ((const unsigned char *)&limit)[i];
+    }
+    for (i = 0; i < PRESENCE_FADING_FRONT_BYTES; i++)
+        setup[i] = (uint8_t)(part[i / 8u] >> (56u - 8u * (i % 8u)));
+}
 
 #ifdef __cplusplus
 }

@@ -197,7 +197,8 @@ scanlock_answer scanlock_open(uint32_t n, uint8_t *out, size_t out_len);
 
 /*
  * Hands over the view, right after each accepted presence_step: PRESENCE_VIEW
- * of the image that it wrote.  Holders that are not in it lose their locks.
+ * of the image that it wrote, with fading PRESENCE_FADING_VIEW.  Holders that
+ * are not in it lose their locks.
  *   image, image_len   the scan lock, SCANLOCK_IMAGE_BYTES
  *   view               module j is bit j-1
  *   out, out_len       output, SCANLOCK_IMAGE_BYTES

@@ -30,7 +30,18 @@
 #define MODULE(number, mark, place, criticality) \
     WORD(0x40000000u | (number) << 23 | (mark) << 22 | (place) << 17 | (criticality))
 
-/* The setup, the same in all cards: Q = 8, P = 4, R = 6. */
+/*
+ * The setup, the same in all cards: Q = 8, P = 4, R = 6.
+ *
+ * With fading scores five words stand in the place of P and R, here with factor
+ * 0.5 and limit 3.0:
+ *
+ *     WORD(0u), WORD(0x3FE00000u), WORD(0u), WORD(0x40080000u), WORD(0u),
+ *
+ * The lengths are then PRESENCE_FADING_SETUP_BYTES and
+ * PRESENCE_FADING_IMAGE_BYTES, the view is read by PRESENCE_FADING_VIEW, and
+ * the cards' words begin at word 6 and not at 3 (has_send_mark, read_place).
+ */
 static const uint8_t setup[PRESENCE_SETUP_BYTES(N)] = {
     WORD(0x10000000u | 8u << 8 | N),
     WORD(0x20000000u | 4u),

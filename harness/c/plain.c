@@ -2,21 +2,35 @@
  * plain.c - the functions of presence.h by hand in plain C99.
  *
  * Rule numbers are those of "One step, round k", refusal numbers those of
- * "Answers and their order" in document 01; E4 and E6 of document 02 change
+ * "Answers and their order" in document 01; E4, E6 and E9 of document 02 change
  * rules 4, 5 and 8.  Module j stands at place j-1 of
  * the arrays and is bit j-1 of the vectors.
+ *
+ * A setup has one of two forms: counts, with P and R, or fading, with a factor
+ * and a limit (E9).  An image has the form of its setup.  Scores take as many
+ * words as penalties and rewards, so what comes after the setup stands at the
+ * same distance from its end in both forms.
  *
  * load_setup, load_state and plain_step are longer than 40 lines.  They stay
  * so because `make measure` counts their instructions, and gcc -O2 makes other
  * code of them when parts move into functions, static inline ones too.
  */
+#include <float.h>
+#include <math.h>
 #include <stdbool.h>
+#include <string.h>
 
 #include "plain.h"
+
+/* A score is rounded to a double after each operation (E9). */
+#if FLT_EVAL_METHOD != 0
+#error "doubles are computed with excess precision"
+#endif
 
 #define MAX PRESENCE_MAX_MODULES
 
 enum kind {
+    FADING = 0,
     HEAD = 1,
     PENALTY_LIMIT = 2,
     REWARD_LIMIT = 3,
@@ -32,8 +46,11 @@ enum kind {
 
 struct setup {
     uint32_t n;             /* number of modules */
-    uint32_t penalty_limit; /* P */
-    uint32_t reward_limit;  /* R */
+    bool fading;            /* else counts */
+    uint32_t words;         /* length */
+    uint32_t penalty_limit; /* P, of counts */
+    uint32_t reward_limit;  /* R, of counts */
+    double factor, limit;   /* of fading */
     uint32_t return_limit;  /* Q, 0 for never */
     bool mark[MAX];         /* send mark */
     uint32_t place[MAX];    /* read place l */
@@ -48,8 +65,9 @@ struct state {
     uint32_t row[MAX];   /* previous read, 0 if not heard */
     uint32_t latest;     /* syndrome of the latest step */
     uint32_t before;     /* syndrome of the step before */
-    uint32_t penalty[MAX];
-    uint32_t reward[MAX];
+    uint32_t penalty[MAX]; /* of counts */
+    uint32_t reward[MAX];  /* of counts */
+    double score[MAX];     /* of fading */
     uint32_t returns[MAX]; /* good rounds running outside the view */
 };
 
@@ -81,6 +99,26 @@ static void put_word(uint8_t *bytes, uint32_t index, uint32_t word)
     b[3] = (uint8_t)word;
 }
 
+/* A double in two words, the high half first. */
+static double get_double(const uint8_t *bytes, uint32_t index)
+{
+    uint64_t bits = (uint64_t)get_word(bytes, index) << 32 |
+                    get_word(bytes, index + 1);
+    double value;
+
+    memcpy(&value, &bits, sizeof value);
+    return value;
+}
+
+static void put_double(uint8_t *bytes, uint32_t index, double value)
+{
+    uint64_t bits;
+
+    memcpy(&bits, &value, sizeof bits);
+    put_word(bytes, index, (uint32_t)(bits >> 32));
+    put_word(bytes, index + 1, (uint32_t)bits);
+}
+
 static uint32_t kind_of(uint32_t word)
 {
     return word >> 28;
@@ -109,30 +147,34 @@ static bool is_bus_word(uint32_t word, uint32_t n)
     return kind_of(word) == BUS_WORD && (word & 0x0FFFFFFF) <= all(n);
 }
 
-/*
- * Reads a setup, or the setup part of an image.  Refusals 1 to 6; an image
- * differs in the length asked for by 3.
- */
-static presence_answer load_setup(struct setup *s, const uint8_t *bytes,
-                                  size_t len, bool image)
+/* Words of an image with this setup. */
+static uint32_t image_words(const struct setup *s)
 {
-    uint32_t word, j;
+    return s->words + 4 * s->n + 3;
+}
 
-    if (len == 0 || len % 4 != 0)
-        return answer(1, 0, 0);
+/* Factor and limit of fading.  Refusal 22; minus zero is negative. */
+static presence_answer load_fading(struct setup *s, const uint8_t *bytes)
+{
+    if (get_word(bytes, 1) != (uint32_t)FADING << 28)
+        return answer(22, 1, 0);
 
-    word = get_word(bytes, 0);
-    s->n = word & 0x1F;
-    s->return_limit = word >> 8 & 0xFFFFF;
-    if (kind_of(word) != HEAD || (word & 0xE0) != 0 ||
-        s->n < 2 || s->n > MAX || s->return_limit > 1000000)
-        return answer(2, 0, 0);
+    s->factor = get_double(bytes, 2);
+    if (signbit(s->factor) || !(s->factor <= 1.0))
+        return answer(22, 2, 0);
 
-    if (len != (image ? PRESENCE_IMAGE_BYTES(s->n)
-                      : PRESENCE_SETUP_BYTES(s->n)))
-        return answer(3, 0, 0);
+    s->limit = get_double(bytes, 4);
+    if (!(s->limit > 0.0 && s->limit <= 1000000.0))
+        return answer(22, 4, 0);
 
-    word = get_word(bytes, 1);
+    return answer(0, 0, 0);
+}
+
+/* P and R of counts.  Refusal 4. */
+static presence_answer load_limits(struct setup *s, const uint8_t *bytes)
+{
+    uint32_t word = get_word(bytes, 1);
+
     s->penalty_limit = word & 0x0FFFFFFF;
     if (kind_of(word) != PENALTY_LIMIT ||
         s->penalty_limit < 1 || s->penalty_limit > 1000000)
@@ -144,36 +186,119 @@ static presence_answer load_setup(struct setup *s, const uint8_t *bytes,
         s->reward_limit < 1 || s->reward_limit > 8000000)
         return answer(4, 2, 0);
 
+    return answer(0, 0, 0);
+}
+
+/*
+ * Reads a setup, or the setup part of an image.  Refusals 1 to 6, 22 in the
+ * place of 4; an image differs in the length asked for by 3.
+ */
+static presence_answer load_setup(struct setup *s, const uint8_t *bytes,
+                                  size_t len, bool image)
+{
+    presence_answer a;
+    uint32_t word, at, j;
+
+    if (len == 0 || len % 4 != 0)
+        return answer(1, 0, 0);
+
+    word = get_word(bytes, 0);
+    s->n = word & 0x1F;
+    s->return_limit = word >> 8 & 0xFFFFF;
+    if (kind_of(word) != HEAD || (word & 0xE0) != 0 ||
+        s->n < 2 || s->n > MAX || s->return_limit > 1000000)
+        return answer(2, 0, 0);
+
+    /* The kind of the second word tells the form; a lone head is of counts. */
+    s->fading = len > 4 && kind_of(get_word(bytes, 1)) == FADING;
+    s->words = s->n + (s->fading ? 6 : 3);
+    if (len != 4 * (size_t)(image ? image_words(s) : s->words))
+        return answer(3, 0, 0);
+
+    a = s->fading ? load_fading(s, bytes) : load_limits(s, bytes);
+    if (a.number != 0)
+        return a;
+
+    at = s->words - s->n;
     for (j = 0; j < s->n; j++) {
-        word = get_word(bytes, 3 + j);
+        word = get_word(bytes, at + j);
         s->mark[j] = bit(word, 22);
         s->place[j] = word >> 17 & 0x1F;
         s->criticality[j] = word & 0x1FFFF;
         if (kind_of(word) != MODULE || number_of(word) != j + 1 ||
             s->place[j] > s->n ||
             s->criticality[j] < 1 || s->criticality[j] > 100000)
-            return answer(5, 3 + j, 0);
+            return answer(5, at + j, 0);
     }
 
     for (j = 0; j < s->n; j++)
         if (s->mark[j] && (j == 0 || s->place[j] >= j + 1))
-            return answer(6, 3 + j, 0);
+            return answer(6, at + j, 0);
 
     return answer(0, 0, 0);
 }
 
-/* Reads an image.  Refusals 1 to 8. */
+/* Penalties and rewards of counts, which begin at a word.  Refusal 8. */
+static presence_answer load_counts(struct state *s, const uint8_t *bytes,
+                                   uint32_t first)
+{
+    uint32_t n = s->setup.n, at, word, j;
+
+    for (j = 0; j < n; j++) {
+        at = first + j;
+        word = get_word(bytes, at);
+        s->penalty[j] = word & 0x001FFFFF;
+        if (kind_of(word) != PENALTY || number_of(word) != j + 1 ||
+            (word & 0x00600000) != 0 ||
+            s->penalty[j] > s->setup.penalty_limit + s->setup.criticality[j] ||
+            bit(s->view, j) != (s->penalty[j] <= s->setup.penalty_limit))
+            return answer(8, at, 0);
+    }
+
+    for (j = 0; j < n; j++) {
+        at = first + n + j;
+        word = get_word(bytes, at);
+        s->reward[j] = word & 0x007FFFFF;
+        if (kind_of(word) != REWARD || number_of(word) != j + 1 ||
+            s->reward[j] >= s->setup.reward_limit ||
+            (s->reward[j] > 0 && s->penalty[j] == 0))
+            return answer(8, at, 0);
+    }
+
+    return answer(0, 0, 0);
+}
+
+/* Scores of fading, which begin at a word.  Refusal 8; minus zero is
+   negative. */
+static presence_answer load_scores(struct state *s, const uint8_t *bytes,
+                                   uint32_t first)
+{
+    uint32_t at, j;
+
+    for (j = 0; j < s->setup.n; j++) {
+        at = first + 2 * j;
+        s->score[j] = get_double(bytes, at);
+        if (signbit(s->score[j]) || !isfinite(s->score[j]) ||
+            bit(s->view, j) != (s->score[j] < s->setup.limit))
+            return answer(8, at, 0);
+    }
+
+    return answer(0, 0, 0);
+}
+
+/* Reads an image.  Refusals 1 to 8, 22 in the place of 4. */
 static presence_answer load_state(struct state *s, const uint8_t *bytes,
                                   size_t len)
 {
     presence_answer a = load_setup(&s->setup, bytes, len, true);
-    uint32_t n, at, word, j;
+    uint32_t n, first, at, word, j;
 
     if (a.number != 0)
         return a;
     n = s->setup.n;
+    first = s->setup.words;
 
-    at = n + 3;
+    at = first;
     word = get_word(bytes, at);
     if (kind_of(word) != OWN_AND_VIEW)
         return answer(8, at, 0);
@@ -185,7 +310,7 @@ static presence_answer load_state(struct state *s, const uint8_t *bytes,
         return answer(8, at, 0);
 
     for (j = 0; j < n; j++) {
-        at = n + 4 + j;
+        at = first + 1 + j;
         word = get_word(bytes, at);
         s->heard[j] = bit(word, 22);
         s->row[j] = word & 0xFFFF;
@@ -195,41 +320,25 @@ static presence_answer load_state(struct state *s, const uint8_t *bytes,
             return answer(8, at, 0);
     }
 
-    at = 2 * n + 4;
+    at = first + n + 1;
     word = get_word(bytes, at);
     s->latest = word & 0x0FFFFFFF;
     if (kind_of(word) != SYNDROME || s->latest > all(n))
         return answer(8, at, 0);
 
-    at = 2 * n + 5;
+    at = first + n + 2;
     word = get_word(bytes, at);
     s->before = word & 0x0FFFFFFF;
     if (kind_of(word) != SYNDROME || s->before > all(n))
         return answer(8, at, 0);
 
-    for (j = 0; j < n; j++) {
-        at = 2 * n + 6 + j;
-        word = get_word(bytes, at);
-        s->penalty[j] = word & 0x001FFFFF;
-        if (kind_of(word) != PENALTY || number_of(word) != j + 1 ||
-            (word & 0x00600000) != 0 ||
-            s->penalty[j] > s->setup.penalty_limit + s->setup.criticality[j] ||
-            bit(s->view, j) != (s->penalty[j] <= s->setup.penalty_limit))
-            return answer(8, at, 0);
-    }
+    at = first + n + 3;
+    a = s->setup.fading ? load_scores(s, bytes, at) : load_counts(s, bytes, at);
+    if (a.number != 0)
+        return a;
 
     for (j = 0; j < n; j++) {
-        at = 3 * n + 6 + j;
-        word = get_word(bytes, at);
-        s->reward[j] = word & 0x007FFFFF;
-        if (kind_of(word) != REWARD || number_of(word) != j + 1 ||
-            s->reward[j] >= s->setup.reward_limit ||
-            (s->reward[j] > 0 && s->penalty[j] == 0))
-            return answer(8, at, 0);
-    }
-
-    for (j = 0; j < n; j++) {
-        at = 4 * n + 6 + j;
+        at = first + 3 * n + 3 + j;
         word = get_word(bytes, at);
         s->returns[j] = word & 0x000FFFFF;
         if (kind_of(word) != RETURN || number_of(word) != j + 1 ||
@@ -244,13 +353,19 @@ static presence_answer load_state(struct state *s, const uint8_t *bytes,
 
 static void store_setup(const struct setup *s, uint8_t *out)
 {
-    uint32_t j;
+    uint32_t first = s->words - s->n, j;
 
     put_word(out, 0, (uint32_t)HEAD << 28 | s->return_limit << 8 | s->n);
-    put_word(out, 1, (uint32_t)PENALTY_LIMIT << 28 | s->penalty_limit);
-    put_word(out, 2, (uint32_t)REWARD_LIMIT << 28 | s->reward_limit);
+    if (s->fading) {
+        put_word(out, 1, (uint32_t)FADING << 28);
+        put_double(out, 2, s->factor);
+        put_double(out, 4, s->limit);
+    } else {
+        put_word(out, 1, (uint32_t)PENALTY_LIMIT << 28 | s->penalty_limit);
+        put_word(out, 2, (uint32_t)REWARD_LIMIT << 28 | s->reward_limit);
+    }
     for (j = 0; j < s->n; j++)
-        put_word(out, 3 + j,
+        put_word(out, first + j,
                  (uint32_t)MODULE << 28 | (j + 1) << 23 |
                  (uint32_t)s->mark[j] << 22 | s->place[j] << 17 |
                  s->criticality[j]);
@@ -261,21 +376,27 @@ static void store_state(const struct state *s, uint8_t *out)
     uint32_t n = s->setup.n, j;
 
     store_setup(&s->setup, out);
-    put_word(out, n + 3, (uint32_t)OWN_AND_VIEW << 28 | s->own << 16 | s->view);
+    out += 4 * s->setup.words;
+    put_word(out, 0, (uint32_t)OWN_AND_VIEW << 28 | s->own << 16 | s->view);
     for (j = 0; j < n; j++)
-        put_word(out, n + 4 + j,
+        put_word(out, 1 + j,
                  (uint32_t)PREVIOUS << 28 | (j + 1) << 23 |
                  (uint32_t)s->heard[j] << 22 | s->row[j]);
-    put_word(out, 2 * n + 4, (uint32_t)SYNDROME << 28 | s->latest);
-    put_word(out, 2 * n + 5, (uint32_t)SYNDROME << 28 | s->before);
+    put_word(out, n + 1, (uint32_t)SYNDROME << 28 | s->latest);
+    put_word(out, n + 2, (uint32_t)SYNDROME << 28 | s->before);
+    if (s->setup.fading) {
+        for (j = 0; j < n; j++)
+            put_double(out, n + 3 + 2 * j, s->score[j]);
+    } else {
+        for (j = 0; j < n; j++)
+            put_word(out, n + 3 + j,
+                     (uint32_t)PENALTY << 28 | (j + 1) << 23 | s->penalty[j]);
+        for (j = 0; j < n; j++)
+            put_word(out, 2 * n + 3 + j,
+                     (uint32_t)REWARD << 28 | (j + 1) << 23 | s->reward[j]);
+    }
     for (j = 0; j < n; j++)
-        put_word(out, 2 * n + 6 + j,
-                 (uint32_t)PENALTY << 28 | (j + 1) << 23 | s->penalty[j]);
-    for (j = 0; j < n; j++)
-        put_word(out, 3 * n + 6 + j,
-                 (uint32_t)REWARD << 28 | (j + 1) << 23 | s->reward[j]);
-    for (j = 0; j < n; j++)
-        put_word(out, 4 * n + 6 + j,
+        put_word(out, 3 * n + 3 + j,
                  (uint32_t)RETURN << 28 | (j + 1) << 23 | s->returns[j]);
 }
 
@@ -333,30 +454,34 @@ static bool is_accused(uint32_t j, uint32_t row, uint32_t health)
     return ((row ^ health) & ~(1u << j)) != 0;
 }
 
-/* E6 of document 02: a module that rule 8 finds outside the view returns with
-   health 1 for Q rounds running. */
-static void count_outside(struct state *s, uint32_t j, bool healthy)
+/* E6 of document 02: whether a module that rule 8 finds outside the view
+   returns, with health 1 for Q rounds running. */
+static bool returns(struct state *s, uint32_t j, bool healthy)
 {
     if (s->setup.return_limit == 0)
-        return;
+        return false;
     if (!healthy) {
         s->returns[j] = 0;
-    } else if (++s->returns[j] == s->setup.return_limit) {
-        s->view |= 1u << j;
-        s->penalty[j] = s->setup.penalty_limit;
-        s->reward[j] = 0;
-        s->returns[j] = 0;
+        return false;
     }
+    if (++s->returns[j] < s->setup.return_limit)
+        return false;
+    s->view |= 1u << j;
+    s->returns[j] = 0;
+    return true;
 }
 
-/* Rule 8. */
+/* Rule 8 with counts. */
 static void count(struct state *s, uint32_t health)
 {
     uint32_t j;
 
     for (j = 0; j < s->setup.n; j++) {
         if (!bit(s->view, j)) {
-            count_outside(s, j, bit(health, j));
+            if (returns(s, j, bit(health, j))) {
+                s->penalty[j] = s->setup.penalty_limit;
+                s->reward[j] = 0;
+            }
         } else if (!bit(health, j)) {
             s->penalty[j] += s->setup.criticality[j];
             s->reward[j] = 0;
@@ -368,6 +493,26 @@ static void count(struct state *s, uint32_t health)
                 s->penalty[j] = 0;
                 s->reward[j] = 0;
             }
+        }
+    }
+}
+
+/* Rule 8 with fading: a charge adds 1.0, whatever the criticality is. */
+static void fade(struct state *s, uint32_t health)
+{
+    uint32_t j;
+
+    for (j = 0; j < s->setup.n; j++) {
+        if (!bit(s->view, j)) {
+            if (returns(s, j, bit(health, j)))
+                s->score[j] = 0.0;
+        } else {
+            if (bit(health, j))
+                s->score[j] *= s->setup.factor;
+            else
+                s->score[j] += 1.0;
+            if (s->score[j] >= s->setup.limit)
+                s->view &= ~(1u << j);
         }
     }
 }
@@ -391,7 +536,7 @@ presence_answer plain_open(const uint8_t *setup, size_t setup_len,
     n = s.setup.n;
     if (own < 1 || own > n)
         return answer(7, 0, 0);
-    if (out_len != PRESENCE_IMAGE_BYTES(n))
+    if (out_len != 4 * (size_t)image_words(&s.setup))
         return answer(9, 0, 0);
 
     s.own = own;
@@ -401,6 +546,7 @@ presence_answer plain_open(const uint8_t *setup, size_t setup_len,
         s.row[j] = all(n);
         s.penalty[j] = 0;
         s.reward[j] = 0;
+        s.score[j] = 0.0;
         s.returns[j] = 0;
     }
     s.latest = all(n);
@@ -424,7 +570,7 @@ presence_answer plain_step(const uint8_t *state, size_t state_len,
         return a;
     n = s.setup.n;
     if (read_len != PRESENCE_READ_BYTES(n) ||
-        out_len != PRESENCE_IMAGE_BYTES(n))
+        out_len != 4 * (size_t)image_words(&s.setup))
         return answer(9, 0, 0);
     if (controller > all(n))
         return answer(10, 0, 0);
@@ -459,7 +605,10 @@ presence_answer plain_step(const uint8_t *state, size_t state_len,
         if (present[j] && !(voter[j] && is_accused(j, aligned[j], health)))
             syndrome |= 1u << j;
 
-    count(&s, health);
+    if (s.setup.fading)
+        fade(&s, health);
+    else
+        count(&s, health);
 
     s.before = s.latest;
     s.latest = syndrome;
@@ -480,7 +629,7 @@ presence_answer plain_save(const uint8_t *state, size_t state_len,
 
     if (a.number != 0)
         return a;
-    if (out_len != PRESENCE_IMAGE_BYTES(s.setup.n))
+    if (out_len != 4 * (size_t)image_words(&s.setup))
         return answer(9, 0, 0);
     store_state(&s, out);
     return answer(0, 0, 0);

@@ -1,6 +1,6 @@
 /*
  * plain_page.c - the register page of presence.h, and why a word was not heard,
- * by hand in plain C99, after E1 and E5 of document 02.  Apart from plain.c,
+ * by hand in plain C99, after E1, E5 and E9 of document 02.  Apart from plain.c,
  * whose instructions are counted.
  */
 #include <string.h>
@@ -45,6 +45,18 @@ static presence_word told(uint32_t number, uint32_t word)
     w.index = 0;
     w.word = word;
     return w;
+}
+
+static size_t image_bytes(const uint8_t *setup, uint32_t n)
+{
+    return PRESENCE_IS_FADING(setup) ? PRESENCE_FADING_IMAGE_BYTES(n)
+                                     : PRESENCE_IMAGE_BYTES(n);
+}
+
+static uint32_t view_of(const uint8_t *image, uint32_t n)
+{
+    return PRESENCE_IS_FADING(image) ? PRESENCE_FADING_VIEW(image, n)
+                                     : PRESENCE_VIEW(image, n);
 }
 
 static uint32_t interrupt_of(const uint8_t *page)
@@ -105,12 +117,12 @@ presence_answer plain_page_open(const uint8_t *setup, size_t setup_len,
     n = setup[3] & 31u;
     if (own < 1 || own > n)
         return refused(7, 0);
-    if (out_len != PRESENCE_IMAGE_BYTES(n) || page_len != PRESENCE_PAGE_BYTES)
+    if (out_len != image_bytes(setup, n) || page_len != PRESENCE_PAGE_BYTES)
         return refused(9, 0);
     a = plain_open(setup, setup_len, own, out, out_len);
     memset(page, 0, page_len);
     put_word(page, HEALTH, (1u << n) - 1);
-    put_word(page, VIEW, PRESENCE_VIEW(out, n));
+    put_word(page, VIEW, view_of(out, n));
     return a;
 }
 
@@ -132,8 +144,8 @@ presence_answer plain_page_step(const uint8_t *state, size_t state_len,
     if (a.number != 0)
         return a;
     n = state[3] & 31u;
-    found = PRESENCE_VIEW(state, n);
-    left = PRESENCE_VIEW(out, n);
+    found = view_of(state, n);
+    left = view_of(out, n);
     flags = get_word(page, FLAGS);
     if (left != get_word(page, VIEW))
         flags |= PRESENCE_PAGE_VIEW_CHANGED;

@@ -1,5 +1,5 @@
 #!/usr/bin/env python3
-"""Writes own-calls.txt: calls with the answers that document 01 gives, and E1, E4, E5 and E6 of document 02.
+"""Writes own-calls.txt: calls with the answers that document 01 gives, and E1, E4, E5, E6 and E9 of document 02.
 
     python3 make_own_calls.py > own-calls.txt
 
@@ -9,7 +9,8 @@ the fields after each step, are written here after the paper; no model computes 
 
 import copy
 
-from setup_words import bus, head, limit_p, limit_r, module
+from setup_words import (ABOVE_1, ABOVE_MOST, BELOW_1, BELOW_MOST, GREATEST, INFINITE, LEAST, LEAST_NORMAL, MINUS_INFINITE, MOST, NO_NUMBERS,
+                         bus, double, head, limit_p, limit_r, module, setup_words)
 
 # ---- words ----
 
@@ -58,14 +59,6 @@ def full(n):
 # ---- setups ----
 
 
-def setup_words(n, p=1, r=3, q=0, l=None, crit=None, marks=()):
-    """l and crit: one a module; the default is l = N and criticality 1."""
-    l = l or [n] * n
-    crit = crit or [1] * n
-    modules = [module(j, l[j - 1], crit[j - 1], int(j in marks)) for j in range(1, n + 1)]
-    return [head(n, q), limit_p(p), limit_r(r)] + modules
-
-
 SHEET = setup_words(4)
 TWO = setup_words(2)
 THREE = setup_words(3)
@@ -88,12 +81,16 @@ MARKED_RETURN = setup_words(4, q=2, l=[0, 0, 1, 2], marks=[2, 3, 4])
 # ---- states ----
 
 
+def fades(setup):
+    return setup[1] >> 28 == 0
+
+
 class State:
     """A fresh module; row None is unheard."""
 
     def __init__(self, setup, own):
         self.setup = setup
-        self.n = len(setup) - 3
+        self.n = setup[0] & 31
         self.own = own
         self.view = full(self.n)
         self.row = [full(self.n)] * self.n
@@ -101,10 +98,11 @@ class State:
         self.before = full(self.n)
         self.penalty = [0] * self.n
         self.reward = [0] * self.n
+        self.score = [0.0] * self.n
         self.returns = [0] * self.n
 
     def but(self, **fields):
-        """A copy with other fields; row, penalty, reward and returns take {module: value}."""
+        """A copy with other fields; row, penalty, reward, score and returns take {module: value}."""
         state = copy.deepcopy(self)
         for name, value in fields.items():
             if isinstance(value, dict):
@@ -119,8 +117,11 @@ class State:
         words = self.setup + [own_view(self.own, self.view)]
         words += [previous(j, int(self.row[j - 1] is not None), self.row[j - 1] or 0) for j in numbers]
         words += [syndrome(self.latest), syndrome(self.before)]
-        words += [penalty(j, self.penalty[j - 1]) for j in numbers]
-        words += [reward(j, self.reward[j - 1]) for j in numbers]
+        if fades(self.setup):
+            words += [half for score in self.score for half in double(score)]
+        else:
+            words += [penalty(j, self.penalty[j - 1]) for j in numbers]
+            words += [reward(j, self.reward[j - 1]) for j in numbers]
         words += [returns(j, self.returns[j - 1]) for j in numbers]
         return words
 
@@ -159,14 +160,14 @@ def state(data, number, index):
     print(f"state {text(data)} = {number} {index}")
 
 
-def image_bytes(n):
-    return 4 * (5 * n + 6)
+def image_bytes(image):
+    return 4 * (5 * image.n + (9 if fades(image.setup) else 6))
 
 
 def opened(words, own):
     """An accepted opening."""
     image = State(words, own)
-    print(f"open {text(words)} {own} {image_bytes(image.n)} = 0 0 0000 {text(image)}")
+    print(f"open {text(words)} {own} {image_bytes(image)} = 0 0 0000 {text(image)}")
 
 
 def open_refused(data, own, out, number, index):
@@ -174,7 +175,7 @@ def open_refused(data, own, out, number, index):
 
 
 def saved(image):
-    print(f"save {text(image)} {image_bytes(image.n)} = 0 0 0000 {text(image)}")
+    print(f"save {text(image)} {image_bytes(image)} = 0 0 0000 {text(image)}")
 
 
 def save_refused(data, out, number, index):
@@ -186,7 +187,7 @@ def stepped(image, read, controller, health, rows, latest, **fields):
     read: words; rows: the read as the image keeps it, None if unheard."""
     after = image.but(row=list(rows), latest=latest, before=image.latest, **fields)
     print(
-        f"step {text(image)} {text(read)} {controller:X} {image_bytes(image.n)}"
+        f"step {text(image)} {text(read)} {controller:X} {image_bytes(image)}"
         f" = 0 0 {health:04X} {text(after)}"
     )
     return after
@@ -219,7 +220,7 @@ def four_causes(causes, first):
 
 def page_opened(words, own, page):
     image = State(words, own)
-    print(f"pageopen {text(words)} {own} {image_bytes(image.n)} 64 = 0 0 0000 {text(image)} {text(page)}")
+    print(f"pageopen {text(words)} {own} {image_bytes(image)} 64 = 0 0 0000 {text(image)} {text(page)}")
 
 
 def page_open_refused(data, own, out, page, number, index):
@@ -230,7 +231,7 @@ def page_stepped(image, page, after_page, read, controller, health, rows, latest
     """As stepped, with the page before and after; answers the new state."""
     after = image.but(row=list(rows), latest=latest, before=image.latest, **fields)
     print(
-        f"pagestep {text(image)} {text(read)} {controller:X} {image_bytes(image.n)} {text(page)}"
+        f"pagestep {text(image)} {text(read)} {controller:X} {image_bytes(image)} {text(page)}"
         f" = 0 0 {health:04X} {text(after)} {text(after_page)}"
     )
     return after
@@ -1159,7 +1160,359 @@ def causes_told():
         cause_refused(16, bit, bus(0), 10)
 
 
-print("# Calls and their answers after document 01 and E1, E4, E5 and E6 of document 02, in the format of e06-calls.txt;")
+# ---- fading scores (document 02, E9) ----
+
+# Factor 1/2, limit 2.0. Words 0 to 9 are the setup, with the kind 0 word at 1, the factor at 2 and the limit at 4, the modules from 6 on;
+# 10 own number and view, 11 to 14 the previous read, 15 and 16 the syndromes, 17 to 24 the scores, those of module j at 15 + 2j; 25 to
+# 28 return counts.
+FADING = setup_words(4, fading=(0.5, 2.0))
+FADING_TWO = setup_words(2, fading=(0.5, 2.0))
+FADING_SIXTEEN = setup_words(16, fading=(0.5, 2.0))
+FADING_MARKED = setup_words(4, l=[0, 0, 1, 2], marks=[2, 3, 4], fading=(0.5, 2.0))
+FADING_THREE = setup_words(4, q=3, fading=(0.5, 2.0))
+FADES = State(FADING, 2)
+FADES_WORDS = FADES.words()
+
+# Q = 3, module 1 of four; 2 is out of the view with a score above the limit.
+FADED = State(FADING_THREE, 1).but(view=0xD, score={2: 2.5})
+
+# The next doubles below and above 2.0.
+BELOW_2, ABOVE_2 = 2 - 2.0 ** -52, 2 + 2.0 ** -51
+
+
+def with_double(words, at, value):
+    """The words with a double in the place of two of them."""
+    high, low = double(value)
+    return put(words, {at: high, at + 1: low})
+
+
+def fading_setups_accepted():
+    note("Fading setups that are accepted: N = 4, 2 and 16, marks, Q = 3; N+6 words.")
+    for words in (FADING, FADING_TWO, FADING_SIXTEEN, FADING_MARKED, FADING_THREE):
+        setup(words, 0, 0)
+    also("Factors: 0, the least double above it, the least normal one, a tenth, the one before 1.0, 1.0.")
+    for factor in (0.0, LEAST, LEAST_NORMAL, 0.1, BELOW_1, 1.0):
+        setup(setup_words(4, fading=(factor, 2.0)), 0, 0)
+    also("Limits: the least double above 0, the least normal one, one half, 1.0, 2.7, the one before 1,000,000, 1,000,000.")
+    for limit in (LEAST, LEAST_NORMAL, 0.5, 1.0, 2.7, BELOW_MOST, MOST):
+        setup(setup_words(4, fading=(0.5, limit)), 0, 0)
+    also("Both at an end; the highest criticality and Q.")
+    for fading in ((0.0, LEAST), (1.0, MOST), (0.0, MOST), (1.0, LEAST)):
+        setup(setup_words(4, fading=fading), 0, 0)
+    setup(setup_words(16, q=1000000, crit=[100000] * 16, fading=(1.0, MOST)), 0, 0)
+
+
+def fading_setups_of_wrong_length():
+    note("3: where the second word is of kind 0, one word short of N+6, one word over, N+3 words, the first two words alone.")
+    for words in (FADING[:9], FADING + [module(5, 4)], FADING[:7], FADING[:2]):
+        setup(words, 3, 0)
+    also("3: N+3 words of counts with 0 in the place of P's word; spare bits in it do not matter yet.")
+    setup(put(SHEET, {1: 0}), 3, 0)
+    setup(put(SHEET, {1: 0x0FFFFFFF}), 3, 0)
+    also("3: N = 2 and N = 16, one word short and one word over; a saved state.")
+    for words in (FADING_TWO, FADING_SIXTEEN):
+        setup(words[:-1], 3, 0)
+        setup(words + [0], 3, 0)
+    setup(FADES, 3, 0)
+    also("3: N+6 words where the second word is of another kind; 4 where there are N+3.")
+    for other in (1, 2, 3, 4, 8, 15):
+        setup(put(FADING, {1: other << 28 | 1}), 3, 0)
+    for other in (1, 3, 4, 8, 15):
+        setup(put(SHEET, {1: other << 28 | 1}), 4, 1)
+    also("3 before 22: a spare bit, and one word short. 2 before 3: N = 17. 1: two bytes over.")
+    setup(put(FADING, {1: 1})[:9], 3, 0)
+    setup(put(FADING, {0: head(17)})[:9], 2, 0)
+    setup(raw(FADING) + bytes(2), 1, 0)
+
+
+def fading_setups_refused():
+    note("22 at 1: each spare bit of the kind 0 word.")
+    for bit in range(28):
+        setup(put(FADING, {1: 1 << bit}), 22, 1)
+    note("22 at 2, the factor's high half: the double after 1.0, 1.5, the greatest; minus zero, the least below 0, -0.5;",
+         "infinite with either sign; no number, with bits in either half.")
+    for factor in (ABOVE_1, 1.5, GREATEST, -0.0, -LEAST, -0.5, INFINITE, MINUS_INFINITE) + NO_NUMBERS:
+        setup(with_double(FADING, 2, factor), 22, 2)
+    note("22 at 4, the limit's high half: 0.0 and minus zero, the least below 0, -2.0; the double after 1,000,000, 1,000,001.0, the",
+         "greatest; infinite with either sign; no number.")
+    for limit in (0.0, -0.0, -LEAST, -2.0, ABOVE_MOST, 1000001.0, GREATEST, INFINITE, MINUS_INFINITE) + NO_NUMBERS:
+        setup(with_double(FADING, 4, limit), 22, 4)
+    note("22 at several words, the first counts.")
+    setup(put(setup_words(4, fading=(2.0, 0.0)), {1: 1}), 22, 1)
+    setup(setup_words(4, fading=(2.0, 0.0)), 22, 2)
+    also("22 before 5 and 6: a mark on 1, l = 5 at module 1, a word of kind 0 for module 4.")
+    setup(put(with_double(FADING, 4, 0.0), {6: module(1, 0, mark=1)}), 22, 4)
+    setup(put(with_double(FADING, 2, -0.0), {6: module(1, 5)}), 22, 2)
+    setup(put(FADING, {1: 1 << 27, 9: 0}), 22, 1)
+    note("5 and 6 lie three words further: l = 5 at modules 1 and 4, criticality 0 and 100,001, a mark on 1, and on 2 with l = 2.")
+    setup(put(FADING, {6: module(1, 5)}), 5, 6)
+    setup(put(FADING, {9: module(4, 5)}), 5, 9)
+    setup(put(FADING, {7: module(2, 4, crit=0)}), 5, 7)
+    setup(put(FADING, {7: module(2, 4, crit=100001)}), 5, 7)
+    setup(put(FADING, {6: module(1, 0, mark=1)}), 6, 6)
+    setup(put(FADING, {7: module(2, 2, mark=1)}), 6, 7)
+    setup(put(FADING_SIXTEEN, {21: module(16, 16, mark=1)}), 6, 21)
+    also("5 before 6 though it lies later.")
+    setup(put(FADING, {6: module(1, 0, mark=1), 9: module(4, 4, crit=0)}), 5, 9)
+
+
+def fading_states():
+    note("Fading states that are accepted: fresh ones, N = 4, 2 and 16; one where 2 is out of the view.")
+    for image in (FADES, State(FADING_TWO, 1), State(FADING_SIXTEEN, 16), FADED, FADED.but(returns={2: 2})):
+        state(image, 0, 0)
+    note("A score in the view, limit 2.0, module 1 (word 17): 0.0, the least above it, 1.0, the one before 2.0 are accepted; 2.0, the one",
+         "after it, 3.0 and the greatest are not.")
+    for score in (0.0, LEAST, LEAST_NORMAL, 1.0, BELOW_2):
+        state(FADES.but(score={1: score}), 0, 0)
+    for score in (2.0, ABOVE_2, 3.0, GREATEST):
+        state(FADES.but(score={1: score}), 8, 17)
+    also("Out of the view: 2.0, the one after it, 1e300 and the greatest are accepted; the one before 2.0, 1.0 and 0.0 are not.")
+    for score in (2.0, ABOVE_2, 1e300, GREATEST):
+        state(FADES.but(view=0xE, score={1: score}), 0, 0)
+    for score in (BELOW_2, 1.0, 0.0):
+        state(FADES.but(view=0xE, score={1: score}), 8, 17)
+    also("Neither in the view nor out of it: minus zero, below 0, infinite, no number. Module 4 (word 23).")
+    for score in (-0.0, -LEAST, -1.0, -2.0, -GREATEST, INFINITE, MINUS_INFINITE) + NO_NUMBERS:
+        state(FADES.but(score={4: score}), 8, 23)
+        state(FADES.but(view=0x7, score={4: score}), 8, 23)
+    also("The limit is the setup's: the least above 0, one half, 2.7, 1,000,000.")
+    for limit, score, number in ((LEAST, 0.0, 0), (LEAST, LEAST, 8), (0.5, 0.49, 0), (0.5, 0.5, 8), (2.7, 2.5, 0), (2.7, 3.0, 8),
+                                 (MOST, 999999.0, 0), (MOST, BELOW_MOST, 0), (MOST, MOST, 8)):
+        image = State(setup_words(4, fading=(1.0, limit)), 1).but(score={1: score})
+        state(image, number, 17 if number else 0)
+    also("The factor and criticalities have no say: 1.5 with factor 0, criticality 100,000.")
+    state(State(setup_words(4, crit=[100000] * 4, fading=(0.0, 2.0)), 1).but(score={1: 1.5, 2: 1.5}), 0, 0)
+    also("N = 16: the score of 16 is at 71 and 72.")
+    state(State(FADING_SIXTEEN, 3).but(score={16: 2.0}), 8, 71)
+    state(State(FADING_SIXTEEN, 3).but(view=0x7FFF, score={16: 2.0}), 0, 0)
+    note("8 at several words, the first counts: scores of 2 and 3, in either half; a syndrome before them, a return count behind them.")
+    state(FADES.but(score={2: 3.0, 3: -0.0}), 8, 19)
+    state(FADES.but(score={3: NO_NUMBERS[1], 4: NO_NUMBERS[2]}), 8, 21)
+    state(put(FADES.but(score={1: 2.0}).words(), {16: syndrome(0x10)}), 8, 16)
+    state(FADES.but(score={4: 2.0}, returns={1: 1}), 8, 23)
+    also("Return counts, Q = 3, 2 out of the view (word 26): 2 is accepted, 3 is not; in the view (word 25) 1 is not.")
+    state(FADED.but(returns={2: 2}), 0, 0)
+    state(FADED.but(returns={2: 3}), 8, 26)
+    state(FADED.but(returns={1: 1}), 8, 25)
+    state(put(FADED.words(), {28: penalty(4, 0)}), 8, 28)
+    also("8: words of kinds 13 and 14 in the place of scores, which are doubles below 0.")
+    words = FADES_WORDS[:17] + [penalty(j, 0) for j in range(1, 5)] + [reward(j, 0) for j in range(1, 5)] + FADES_WORDS[25:]
+    state(words, 8, 17)
+
+
+def fading_states_with_wrong_setup():
+    note("Numbers 1 to 7 in a fading state: one byte over; N = 17; one word short, one over, 5N+6 words; the setup alone.")
+    state(raw(FADES_WORDS) + b"\x00", 1, 0)
+    state(put(FADES_WORDS, {0: head(17)}), 2, 0)
+    for words in (FADES_WORDS[:-1], FADES_WORDS + [0], FADES_WORDS[:26], FADING):
+        state(words, 3, 0)
+    also("3: a state with counts of 5N+9 words; one with counts and 0 for P's word.")
+    state(FRESH_WORDS + [0, 0, 0], 3, 0)
+    state(put(FRESH_WORDS, {1: 0}), 3, 0)
+    state(put(FADES_WORDS, {1: limit_p(1)}), 3, 0)
+    also("22: a spare bit, the factor, the limit. 22 before 5, 7 and 8.")
+    state(put(FADES_WORDS, {1: 1}), 22, 1)
+    state(with_double(FADES_WORDS, 2, ABOVE_1), 22, 2)
+    state(with_double(FADES_WORDS, 4, -0.0), 22, 4)
+    state(put(with_double(FADES_WORDS, 4, INFINITE), {6: 0, 10: own_view(0, 0xF), 17: 0xFFF00000}), 22, 4)
+    also("5 and 6 at 6 to 9. 7 at 10: own number 0 and 5; 8 where the word is not of kind 10, or a view bit at N.")
+    state(put(FADES_WORDS, {9: module(4, 5)}), 5, 9)
+    state(put(FADES_WORDS, {7: module(2, 2, mark=1)}), 6, 7)
+    state(put(FADES_WORDS, {10: own_view(0, 0xF)}), 7, 10)
+    state(put(FADES_WORDS, {10: own_view(5, 0xF), 17: 0xFFF00000}), 7, 10)
+    state(put(FADES_WORDS, {10: kind(own_view(2, 0xF), 9)}), 8, 10)
+    state(put(FADES_WORDS, {10: own_view(2, 0x1F)}), 8, 10)
+    state(put(FADES_WORDS, {12: previous(2, 0, 1)}), 8, 12)
+
+
+def fading_openings():
+    note("Fading openings: every score 0.0. N = 4, 2 and 16, marks, Q = 3.")
+    for words, own in ((FADING, 1), (FADING_TWO, 2), (FADING_SIXTEEN, 16), (FADING_MARKED, 3), (FADING_THREE, 4)):
+        opened(words, own)
+    note("22 before 7 and 9; 7 before 9; 9: output empty, as long as with counts, one word short, one byte over, one word over.")
+    open_refused(put(FADING, {1: 2}), 0, 0, 22, 1)
+    open_refused(with_double(FADING, 2, 1.5), 0, 0, 22, 2)
+    open_refused(with_double(FADING, 4, 0.0), 0, 0, 22, 4)
+    open_refused(FADING, 5, 0, 7, 0)
+    for out in (0, 104, 112, 117, 120):
+        open_refused(FADING, 1, out, 9, 0)
+    also("9: with counts, as long as with fading.")
+    open_refused(SHEET, 1, 116, 9, 0)
+
+
+def fading_savings():
+    note("Fading savings write the image, every bit of the scores as it was.")
+    saved(FADES)
+    saved(FADED.but(view=0x5, score={1: LEAST, 3: 0.1, 4: 1e300}, returns={2: 2, 4: 1}))
+    saved(State(FADING_SIXTEEN, 7).but(view=0x7FFF, score={1: BELOW_2, 2: LEAST_NORMAL / 2, 16: GREATEST}))
+    also("22 and 8 before 9; 9 as in an opening.")
+    save_refused(with_double(FADES_WORDS, 2, NO_NUMBERS[0]), 0, 22, 2)
+    save_refused(FADES.but(score={3: -0.0}), 0, 8, 21)
+    for out in (0, 104, 112, 117, 120):
+        save_refused(FADES, out, 9, 0)
+
+
+def fading_steps_refused():
+    note("Fading steps: 22 and 8 before 9, 9 before 10, 10.")
+    step_refused(put(FADES_WORDS, {1: 1 << 27}), b"", 1 << 31, 0, 22, 1)
+    step_refused(FADES.but(view=0x7), b"", 1 << 31, 0, 8, 23)
+    for out in (0, 104, 112, 117, 120):
+        step_refused(FADES, ALL_ONES, 0xF, out, 9, 0)
+    step_refused(FADES, ALL_ONES[:3], 0x10, 116, 9, 0)
+    step_refused(FADES, ALL_ONES, 0x10, 116, 10, 0)
+
+
+def charged(image, j, **fields):
+    """A step in which all rows lack j, so that j has health 0 and the others have 1."""
+    lack = full(image.n) & ~(1 << j - 1)
+    return stepped(image, buses(*[lack] * image.n), full(image.n), lack, [lack] * image.n, full(image.n), **fields)
+
+
+def good(image, **fields):
+    """A step in which all have health 1."""
+    ones = full(image.n)
+    return stepped(image, buses(*[ones] * image.n), ones, ones, [ones] * image.n, ones, **fields)
+
+
+def fading_steps():
+    fresh = State(FADING, 1)
+    note("Factor 1/2, limit 2.0. A charge adds 1.0, a good round halves: 1.0, 0.5, 1.5, 0.75, 1.75; then 2.75, and 2 leaves.")
+    one = charged(fresh, 2, score={2: 1.0})
+    half = good(one, score={2: 0.5})
+    more = good(charged(half, 2, score={2: 1.5}), score={2: 0.75})
+    last = charged(more, 2, score={2: 1.75})
+    out = charged(last, 2, score={2: 2.75}, view=0xD)
+    also("Out of the view it freezes: with health 0 and with health 1.")
+    charged(out, 2)
+    good(out)
+    also("So does any score from the limit on: 2.0, 1e300, the greatest.")
+    for score in (2.0, 1e300, GREATEST):
+        charged(fresh.but(view=0xD, score={2: score}), 2)
+        good(fresh.but(view=0xD, score={2: score}))
+    also("A good round leaves 0.0 as it is. Nobody but 2 is charged: the scores of the others are halved.")
+    good(fresh)
+    charged(fresh.but(score={1: 1.0, 3: 1.5, 4: LEAST_NORMAL}), 2, score={1: 0.5, 2: 1.0, 3: 0.75, 4: LEAST_NORMAL / 2})
+    also("All are charged: 1 and 4 reach the limit and leave, 2 and 3 do not.")
+    stepped(fresh.but(score={1: 1.0, 2: 0.5, 3: 0.0, 4: 1.5}), buses(0, 0, 0, 0), 0xF, 0x0, [0] * 4, 0xF,
+            score={1: 2.0, 2: 1.5, 3: 1.0, 4: 2.5}, view=0x6)
+    also("Nobody is heard, latest syndrome 1011: the vote is empty, 2 is charged.")
+    stepped(fresh.but(latest=0xD), ALL_ONES, 0x0, 0xD, [None] * 4, 0x0, score={2: 1.0})
+
+
+def fading_steps_at_the_limit():
+    fresh = State(FADING, 1)
+    note("At the limit it leaves: from 1.0 to 2.0. Below it stays: from 1 - 2^-52 to the double before 2.0.")
+    charged(fresh.but(score={2: 1.0}), 2, score={2: 2.0}, view=0xD)
+    charged(fresh.but(score={2: 1 - 2.0 ** -52}), 2, score={2: BELOW_2})
+    also("The sum is rounded: 1 - 2^-53 and 1.0 make 2 - 2^-53, halfway between two doubles; to even, which is 2.0. It leaves.")
+    charged(fresh.but(score={2: BELOW_1}), 2, score={2: 2.0}, view=0xD)
+    also("The least double and 1.0 make 1.0.")
+    charged(fresh.but(score={2: LEAST}), 2, score={2: 1.0})
+    also("From the double before 2.0: 3 - 2^-52 is halfway too, and becomes 3.0.")
+    charged(fresh.but(score={2: BELOW_2}), 2, score={2: 3.0}, view=0xD)
+    note("Limits up to 1.0: the first charge is enough. Just above 1.0 it is not; the second is.")
+    for limit in (LEAST, 0.5, BELOW_1, 1.0):
+        charged(State(setup_words(4, fading=(0.5, limit)), 1), 2, score={2: 1.0}, view=0xD)
+    stays = charged(State(setup_words(4, fading=(1.0, ABOVE_1)), 1), 2, score={2: 1.0})
+    charged(stays, 2, score={2: 2.0}, view=0xD)
+    also("Limit 2.7, factor 1: 1.0, 2.0, and at 3.0 it leaves.")
+    two = charged(charged(State(setup_words(4, fading=(1.0, 2.7)), 1), 2, score={2: 1.0}), 2, score={2: 2.0})
+    charged(two, 2, score={2: 3.0}, view=0xD)
+    also("Limit 1,000,000, factor 1: 999,999 charges stay, one more leaves.")
+    late = State(setup_words(4, fading=(1.0, MOST)), 1).but(score={2: 999998.0})
+    charged(charged(late, 2, score={2: 999999.0}), 2, score={2: 1000000.0}, view=0xD)
+
+
+def fading_steps_of_factors():
+    note("Factor 1: good rounds take nothing off, the score is the number of charges.")
+    one = charged(State(setup_words(4, fading=(1.0, 3.0)), 1), 2, score={2: 1.0})
+    two = charged(good(good(one)), 2, score={2: 2.0})
+    charged(good(two), 2, score={2: 3.0}, view=0xD)
+    note("Factor 0: a good round takes off all.")
+    one = charged(State(setup_words(4, fading=(0.0, 3.0)), 1), 2, score={2: 1.0})
+    two = charged(one, 2, score={2: 2.0})
+    none = good(two, score={2: 0.0})
+    charged(none, 2, score={2: 1.0})
+    note("Factor 1/10, each product rounded once: 1.0, 0.1, 0.010000000000000002; from there a charge makes 1.01. From 1.1",
+         "0.11000000000000001.")
+    tenth = setup_words(4, fading=(0.1, 2.0))
+    small = good(good(State(tenth, 1).but(score={2: 1.0}), score={2: 0.1}), score={2: 0.010000000000000002})
+    charged(small, 2, score={2: 1.01})
+    good(State(tenth, 1).but(score={2: 1.1}), score={2: 0.11000000000000001})
+    note("Below the least normal double products are rounded too, to even where it is halfway, and not put to 0: with factor 1/2 the least",
+         "becomes 0.0, three times it twice it, five times it twice it; the least normal one its half. With factor 3/4 the least stays.")
+    fresh = State(FADING, 1)
+    for score, after in ((LEAST, 0.0), (3 * LEAST, 2 * LEAST), (5 * LEAST, 2 * LEAST), (LEAST_NORMAL, 2.0 ** -1023)):
+        good(fresh.but(score={2: score}), score={2: after})
+    good(State(setup_words(4, fading=(0.75, 2.0)), 1).but(score={2: LEAST}))
+    also("The least factor: 1.0 becomes the least double, then 0.0. The factor before 1.0: 1.0 becomes it, the least stays.")
+    least = State(setup_words(4, fading=(LEAST, 2.0)), 1)
+    good(good(least.but(score={2: 1.0}), score={2: LEAST}), score={2: 0.0})
+    near = State(setup_words(4, fading=(BELOW_1, 2.0)), 1)
+    good(near.but(score={2: 1.0, 3: LEAST}), score={2: BELOW_1})
+    note("Criticalities change nothing: 100,000 for 2.")
+    heavy = State(setup_words(4, crit=[1, 100000, 7, 3], fading=(0.5, 3.0)), 1)
+    charged(charged(heavy, 2, score={2: 1.0}), 2, score={2: 2.0})
+
+
+def fading_steps_of_returns():
+    note("Q = 3, 2 is out of the view with 2.5. Health 1: count 1, count 2; at 3 it returns with score 0.0 and count 0.")
+    one = good(FADED, returns={2: 1})
+    two = good(one, returns={2: 2})
+    back = good(two, view=0xF, score={2: 0.0}, returns={2: 0})
+    also("Back, a bad round is one charge of two: it stays; the second makes it leave, which counts no round.")
+    again = charged(charged(back, 2, score={2: 1.0}), 2, score={2: 2.0}, view=0xD)
+    good(again, returns={2: 1})
+    also("A health 0 restarts the run; the score stays.")
+    charged(two, 2, returns={2: 0})
+    also("From the greatest score too it returns with 0.0. 2 itself returns as the others see it.")
+    good(FADED.but(score={2: GREATEST}, returns={2: 2}), view=0xF, score={2: 0.0}, returns={2: 0})
+    good(FADED.but(own=2, returns={2: 2}), view=0xF, score={2: 0.0}, returns={2: 0})
+    also("Q = 0: never.")
+    good(State(FADING, 1).but(view=0xD, score={2: 2.0}))
+    also("Q = 1, limit 1/2: out with one charge, back with one good round. 3 leaves and 2 returns in one step.")
+    quick = State(setup_words(4, q=1, fading=(0.5, 0.5)), 1)
+    good(charged(quick, 2, score={2: 1.0}, view=0xD), score={2: 0.0}, view=0xF)
+    charged(quick.but(view=0xD, score={2: 1.0}), 3, score={2: 0.0, 3: 1.0}, view=0xB)
+    note("Out of the view its row does not vote: on 1 rows 3 and 4 vote 1 and 0, equal, 1; row 4 is accused.")
+    rows = [0xF, 0xE, 0xF, 0xE]
+    stepped(FADED, buses(*rows), 0xF, 0xF, rows, 0x7, returns={2: 1})
+
+
+def fading_steps_of_other_n():
+    note("N = 2: row 1 lacks 2, which is charged.")
+    stepped(State(FADING_TWO, 1), buses(0x1, 0x3), 0x3, 0x1, [0x1, 0x3], 0x3, score={2: 1.0})
+    note("N = 16: 16 is charged and leaves; the scores of the others are halved.")
+    charged(State(FADING_SIXTEEN, 5).but(score={j: j / 16 for j in range(1, 17)}), 16, view=0x7FFF,
+            score=dict([(j, j / 32) for j in range(1, 16)] + [(16, 2.0)]))
+    note("u = 1, module 4 with l = 2 and the mark: rows 1 and 2 of the previous read and 3 and 4 of this one lack 2.")
+    stepped(State(FADING_MARKED, 4).but(row=[0xD, 0xD, 0xF, 0xF], score={2: 1.0, 3: 1.0}), buses(0xF, 0xF, 0xD, 0xD), 0xF, 0xD,
+            [0xF, 0xF, 0xD, 0xD], 0xF, score={2: 2.0, 3: 0.5}, view=0xD)
+
+
+def fading_pages():
+    note("Pages with fading. Opened; 9 for an output as long as with counts; 22 before 9.")
+    page_opened(FADING, 1, FRESH_PAGE)
+    page_open_refused(FADING, 1, 104, 64, 9, 0)
+    page_open_refused(put(FADING, {1: 1}), 1, 0, 63, 22, 1)
+    also("2 is charged and stays: bit 1. A second charge, it leaves: bits 0 and 1. Out of the view it is not charged.")
+    seen, lack = buses(0xD, 0xD, 0xD, 0xD), [0xD] * 4
+    quiet, some, left = page_words(0xF, 0xF, 0, 3), page_words(0xD, 0xF, 2, 3), page_words(0xD, 0xD, 3, 3)
+    one = page_stepped(State(FADING, 1), quiet, some, seen, 0xF, 0xD, lack, 0xF, score={2: 1.0})
+    out = page_stepped(one, some, left, seen, 0xF, 0xD, lack, 0xF, score={2: 2.0}, view=0xD)
+    clear = page_words(0xD, 0xD, 0, 3)
+    page_stepped(out, clear, clear, seen, 0xF, 0xD, lack, 0xF)
+    also("It returns: bit 0.")
+    page_stepped(FADED.but(returns={2: 2}), clear, page_words(0xF, 0xF, 1, 3), ALL_ONES, 0xF, 0xF, [0xF] * 4, 0xF, view=0xF,
+                 score={2: 0.0}, returns={2: 0})
+    also("22 and 8 before 9; 9; 10.")
+    page_step_refused(with_double(FADES_WORDS, 4, ABOVE_MOST), ALL_ONES, 0xF, 116, b"", 22, 4)
+    page_step_refused(FADES.but(score={1: INFINITE}), ALL_ONES, 0xF, 116, b"", 8, 17)
+    page_step_refused(FADES, ALL_ONES, 0x10, 104, ANY_PAGE, 9, 0)
+    page_step_refused(FADES, ALL_ONES, 0x10, 116, ANY_PAGE, 10, 0)
+
+
+print("# Calls and their answers after document 01 and E1, E4, E5, E6 and E9 of document 02, in the format of e09-calls.txt;")
 print("# a cause that is refused is written cause CTLBIT WORD N = refused NUMBER at INDEX.")
 print("# A number before a colon or a comma at the start of a comment is the answer's number.")
 print("# Vectors in the comments are as printed: module 1 stands leftmost.")
@@ -1201,3 +1554,17 @@ page_reads()
 page_writes()
 page_interrupts()
 causes_told()
+fading_setups_accepted()
+fading_setups_of_wrong_length()
+fading_setups_refused()
+fading_states()
+fading_states_with_wrong_setup()
+fading_openings()
+fading_savings()
+fading_steps_refused()
+fading_steps()
+fading_steps_at_the_limit()
+fading_steps_of_factors()
+fading_steps_of_returns()
+fading_steps_of_other_n()
+fading_pages()

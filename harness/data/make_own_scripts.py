@@ -16,7 +16,8 @@ import os
 import subprocess
 import sys
 
-from setup_words import bus, head, limit_p, limit_r, module
+from setup_words import (ABOVE_1, ABOVE_MOST, BELOW_1, BELOW_MOST, INFINITE, LEAST, MINUS_INFINITE, MOST, NO_NUMBERS, bus, head, limit_p, limit_r,
+                         module, setup_words)
 
 # ---- words ----
 
@@ -69,14 +70,6 @@ def raw(words):
 
 
 # ---- setups ----
-
-
-def setup_words(n, p=1, r=3, q=0, l=None, crit=None, marks=()):
-    """l and crit: one a module; the default is l = N and criticality 1."""
-    l = l or [n] * n
-    crit = crit or [1] * n
-    modules = [module(j, l[j - 1], crit[j - 1], int(j in marks)) for j in range(1, n + 1)]
-    return [head(n, q), limit_p(p), limit_r(r)] + modules
 
 
 def late(n, **fields):
@@ -812,6 +805,102 @@ def returning_runs():
             "in round 3 2 and 3 miss 1: a = 1, b = 1, 4 > 4 fails. Step 4, in which 2 returns, finds it outside: rows 3 and 4 vote 0 and 1 on 1: 1; row 3 is accused")
 
 
+# ---- fading scores (document 02, E9) ----
+
+
+def fading_limits():
+    fading = setup_words(4, fading=(0.5, 2.0)) + TAIL
+    for name, value in (("0", 0.0), ("least", LEAST), ("below-1", BELOW_1), ("1", 1.0)):
+        played("fading-factor-" + name, setup_words(4, fading=(value, 2.0)) + TAIL, "a factor at its end, or next to it", limit="in")
+    for name, value in (("least", LEAST), ("below-most", BELOW_MOST), ("most", MOST)):
+        played("fading-limit-" + name, setup_words(4, fading=(0.5, value)) + TAIL, "a limit at its end, or next to it", limit="in")
+    for n in (2, 16):
+        played("fading-n%d" % n, setup_words(n, fading=(0.5, 2.0)) + TAIL, "a setup of N+6 words", limit="in")
+    for bit in range(28):
+        refused("spare-bit-%d" % bit, put(fading, {1: 1 << bit}), 22, 1, "the kind 0 word has no fields")
+    for name, value in (("above-1", ABOVE_1), ("2", 2.0), ("minus-0", -0.0), ("minus-least", -LEAST), ("minus-half", -0.5)):
+        refused("factor-" + name, setup_words(4, fading=(value, 2.0)) + TAIL, 22, 2, "a factor is within 0 to 1")
+    for name, value in (("0", 0.0), ("minus-0", -0.0), ("minus-2", -2.0), ("above-most", ABOVE_MOST), ("1000001", 1000001.0)):
+        refused("limit-" + name, setup_words(4, fading=(0.5, value)) + TAIL, 22, 4, "a limit is above 0 and at most 1,000,000")
+    for at, value in enumerate((INFINITE, MINUS_INFINITE) + NO_NUMBERS):
+        refused("factor-no-number-%d" % at, setup_words(4, fading=(value, 2.0)) + TAIL, 22, 2, "%016X is infinite or no number" % value)
+        refused("limit-no-number-%d" % at, setup_words(4, fading=(0.5, value)) + TAIL, 22, 4, "%016X is infinite or no number" % value)
+    refused("first-of-three", put(setup_words(4, fading=(2.0, 0.0)) + TAIL, {1: 1}), 22, 1, "all three are wrong: the first")
+    refused("first-of-two", setup_words(4, fading=(2.0, 0.0)) + TAIL, 22, 2, "both doubles are wrong: the first")
+    refused("before-5-and-12", put(setup_words(4, fading=(0.5, 0.0)) + TAIL, {6: 0, 10: 0}), 22, 4, "module word and cast are wrong too")
+    refused("before-14", setup_words(4, fading=(0.5, 0.0)), 22, 4, "no cast, no play")
+
+
+def fading_lengths():
+    fading = setup_words(4, fading=(0.5, 2.0))
+    for count in (2, 7, 9):
+        refused("fading-%d-words" % count, fading[:count], 3, 0, "fewer than N+6 where the second word is of kind 0")
+    refused("fading-before-22", put(fading, {1: 1})[:9], 3, 0, "a spare bit too")
+    refused("counts-with-kind-0", put(SHEET, {1: 0}) + TAIL, 3, 0, "nine words, N+6 = 10")
+    refused("counts-with-kind-0-and-more", put(SHEET, {1: 0}) + [cast(), play(1), play(1)], 5, 6,
+            "ten words are a fading setup: 30000003 40880001 is a factor, 41080001 41880001 a limit, and the word of 4 stands first")
+    for kind in (1, 3, 4, 6, 9, 15):
+        refused("fading-kind-%d" % kind, put(fading, {1: kind << 28}) + TAIL, 4, 1, "no limit word: read as counts")
+    refused("fading-kind-2", put(fading, {1: limit_p(1)}) + TAIL, 4, 2, "read as counts: the factor stands in R's place")
+    refused("fading-no-cast", fading, 14, 10, "the setup alone")
+    refused("fading-no-play", fading + [cast()], 14, 11, "setup and cast alone")
+    refused("fading-cast", fading + [play(1)], 12, 10, "the word behind the setup is no cast")
+    refused("fading-loss", fading + [cast(), loss(5, 1), play(1)], 12, 11, "senders are 1 to N = 4")
+    refused("fading-lie", fading + [cast(), lie(2, 1), bus(15), play(1)], 13, 11, "nobody is in the cast")
+    refused("fading-rounds", fading + [cast()] + [play(1000)] * 100 + [play(1)], 15, 111, "100,001 rounds")
+    refused("fading-module", put(fading, {9: module(4, 5)}) + TAIL, 5, 9, "l of 4 is wrong; its word is at 9")
+    refused("fading-mark", put(fading, {7: module(2, 2, 1, 1)}) + TAIL, 6, 7, "a mark with l = own number")
+
+
+def fading_runs():
+    """2 is unheard in some rounds, each judged in the next."""
+    def four(factor, limit, **fields):
+        return setup_words(4, fading=(factor, limit), **fields) + [cast()]
+
+    bad, out_bad, out_good = "1011 1111 in", "1011 1011 in", "1111 1011 in"
+    by_hand("fading-leaves-at-the-limit", four(0.5, 2.0) + lost_by(4, 2, 1, 1) + [play(3)], [GOOD, bad, out_bad, out_good, out_good],
+            "1.0, then 2.0: at the limit it leaves")
+    by_hand("fading-faded", four(0.5, 2.0) + lost_by(4, 2, 1, 0, 1) + [play(2)], [GOOD, bad, GOOD, bad, GOOD],
+            "1.0, 0.5, 1.5: it stays")
+    by_hand("fading-four-of-six", four(0.5, 2.0) + lost_by(4, 2, 1, 0, 1, 0, 1, 1) + [play(2)],
+            [GOOD, bad, GOOD, bad, GOOD, bad, out_bad, out_good], "1.0, 0.5, 1.5, 0.75, 1.75, 2.75")
+    by_hand("fading-never", four(0.5, 2.0) + lost_by(4, 2, *[1, 0] * 10) + [play(2)], [GOOD] + [bad, GOOD] * 10 + [GOOD],
+            "every second round is bad: the score comes near 2.0, and the sums stay below it")
+    by_hand("fading-rounded-to-the-limit", four(0.5, 2.0) + lost_by(4, 2, *[1, 0] * 53 + [1]) + [play(2)],
+            [GOOD] + [bad, GOOD] * 53 + [out_bad, out_good],
+            "after 53 times 1.0 and one half the score is 1 - 2^-53, and with 1.0 it is rounded to 2.0")
+    by_hand("fading-factor-1", four(1.0, 3.0) + lost_by(4, 2, 1, 0, 0, 1, 0, 0, 0, 1) + [play(2)],
+            [GOOD, bad, GOOD, GOOD, bad, GOOD, GOOD, GOOD, out_bad, out_good], "the third charge, whatever lies between")
+    by_hand("fading-factor-0", four(0.0, 3.0) + lost_by(4, 2, 1, 1, 0, 1, 1, 0, 1, 1, 1) + [play(2)],
+            [GOOD, bad, bad, GOOD, bad, bad, GOOD, bad, bad, out_bad, out_good], "three charges running")
+    for name, limit in (("least", LEAST), ("half", 0.5), ("1", 1.0)):
+        by_hand("fading-first-charge-%s" % name, four(1.0, limit) + lost_by(4, 2, 1) + [play(2)], [GOOD, out_bad, out_good],
+                "limit %r: one charge is enough" % limit)
+    by_hand("fading-above-1", four(1.0, ABOVE_1) + lost_by(4, 2, 1, 1) + [play(2)], [GOOD, bad, out_bad, out_good],
+            "the limit is the double after 1.0: one charge is not enough")
+    by_hand("fading-limit-2-7", four(1.0, 2.7) + lost_by(4, 2, 1, 1, 1) + [play(2)], [GOOD, bad, bad, out_bad, out_good],
+            "limit 2.7: the third charge")
+    by_hand("fading-criticality", four(1.0, 3.0, crit=[1, 100000, 1, 1]) + lost_by(4, 2, 1, 1, 1) + [play(2)],
+            [GOOD, bad, bad, out_bad, out_good], "a charge adds 1.0, whatever the criticality")
+    by_hand("fading-return-q2", four(0.5, 2.0, q=2) + lost_by(4, 2, 1, 1) + [play(5)],
+            [GOOD, bad, out_bad, out_good, GOOD, GOOD, GOOD], "out in 3, good in 4 and 5, back in 5")
+    by_hand("fading-return-at-0", four(1.0, 2.0, q=1) + lost_by(4, 2, 1, 1, 0, 1, 1) + [play(2)],
+            [GOOD, bad, out_bad, GOOD, bad, out_bad, GOOD], "back in 4 with 0.0: in 5 one charge, in 6 the second, back in 7")
+    by_hand("fading-return-restarted", four(0.5, 1.0, q=2) + lost_by(4, 2, 1, 0, 1) + [play(4)],
+            [GOOD, out_bad, out_good, out_bad, out_good, GOOD, GOOD], "out in 2, good in 3, bad in 4, good in 5 and 6, back in 6")
+    by_hand("fading-u1", late(4, q=2, fading=(0.5, 2.0)) + [cast()] + lost_by(4, 2, 1, 1) + [play(6)],
+            [GOOD] * 3 + [bad, out_bad, out_good, GOOD, GOOD], "u = 1: judged in 4 and 5, out in 5, back in 7")
+    by_hand("fading-marks", setup_words(4, l=[0, 0, 1, 2], marks=[2, 3, 4], fading=(0.5, 2.0)) + [cast()] + lost_by(4, 2, 1, 0, 1) + [play(4)],
+            [GOOD] * 3 + [bad, GOOD, bad, GOOD], "with marks: 1.0, 0.5, 1.5")
+    everybody = [loss(j, ALL) for j in (1, 2, 3, 4)]
+    by_hand("fading-all", four(0.5, 2.0, q=2) + by_round(everybody, everybody) + [play(5)],
+            [GOOD, "0000 1111 in", "0000 0000 in", "1111 0000 in", GOOD, GOOD, GOOD],
+            "all leave in 3; their own syndromes, all ones, bring all back in 5")
+    by_hand("fading-votes-not", four(0.5, 2.0) + lost_by(4, 2, 1, 1, 0) + [play(1), loss(1, of(2, 3)), play(4)],
+            [GOOD, bad, out_bad, out_good, "1111 1011 out", "1111 1011 out", "1101 1011 out", "1111 1011 out"],
+            "2 has left; in round 5 2 and 3 miss 1: out. In round 6 rows 3 and 4 vote 0 and 1 on 1: 1; row 3 is accused, row 2 is not")
+
+
 def write(player):
     folder = os.path.join(os.path.dirname(os.path.abspath(__file__)), "own-scripts")
     names = ["%03d-%s" % (at + 1, each[0]) for at, each in enumerate(CASES)]
@@ -858,7 +947,7 @@ def main():
     for part in (lengths, heads, short, limits, modules, marks, casts, kinds, senders_and_masks, plays, outside_the_cast, missing,
                  many_rounds, two_numbers, quiet_runs, event_runs, told_runs, counter_runs, differing_runs, late_runs, limit_edges,
                  limit_over_two_rounds, limit_of_unheard_breakers, limit_by_receivers, limit_of_told_words, replaced_runs, every_n,
-                 marked_runs, leaving_runs, back_in, return_limits, returning_runs):
+                 marked_runs, leaving_runs, back_in, return_limits, returning_runs, fading_limits, fading_lengths, fading_runs):
         part()
     write(sys.argv[1])
 

@@ -1,7 +1,7 @@
 /*
  * driver.c - makes steps for callgrind to count.
  *
- *   driver N U quiet|loud|late|away|back ROUNDS
+ *   driver N U counts|fading quiet|loud|late|away|back ROUNDS
  *
  * Prints a checksum over the final image and all health vectors, how many rows
  * of the table are present and different after alignment, and how often modules
@@ -21,30 +21,37 @@ static uint32_t ones(uint32_t vector)
     return count;
 }
 
+/* The view stands in the word after the setup. */
+static uint32_t view_of(const struct rounds *r, const uint8_t *image)
+{
+    return (uint32_t)image[r->setup_len + 2] << 8 | image[r->setup_len + 3];
+}
+
 int main(int argc, char **argv)
 {
     static struct rounds r;
-    static uint8_t image[2][PRESENCE_MAX_IMAGE_BYTES];
+    static uint8_t image[2][PRESENCE_MAX_FADING_IMAGE_BYTES];
     presence_answer a;
     uint32_t k, rounds, now = 0, sum = 2166136261u, healths = 0;
     uint32_t view, before, left = 0, returned = 0;
     size_t len, i;
 
-    if (argc != 5 || !rounds_from(&r, argv + 1)) {
-        fprintf(stderr, "driver N U quiet|loud|late|away|back ROUNDS\n");
+    if (argc != 6 || !rounds_from(&r, argv + 1)) {
+        fprintf(stderr, "driver N U counts|fading quiet|loud|late|away|back "
+                        "ROUNDS\n");
         return 2;
     }
-    rounds = (uint32_t)atoi(argv[4]);
-    len = PRESENCE_IMAGE_BYTES(r.n);
-    a = OPEN(r.setup, PRESENCE_SETUP_BYTES(r.n), r.own, image[0], len);
+    rounds = (uint32_t)atoi(argv[5]);
+    len = r.image_len;
+    a = OPEN(r.setup, r.setup_len, r.own, image[0], len);
     rounds_begin(&r, image[0]);
-    before = PRESENCE_VIEW(image[0], r.n);
+    before = view_of(&r, image[0]);
     for (k = 0; a.number == 0 && k < rounds; k++) {
         a = STEP(image[now], len, r.read[k % PERIOD], 4 * r.n,
                  r.controller[k % PERIOD], image[1 - now], len);
         healths = healths * 31 + a.health;
         now = 1 - now;
-        view = PRESENCE_VIEW(image[now], r.n);
+        view = view_of(&r, image[now]);
         left += ones(before & ~view);
         returned += ones(view & ~before);
         before = view;

@@ -1,5 +1,6 @@
 #!/usr/bin/env python3
-"""Measures the calls of the library, the step against plain.c.
+"""Measures the calls of the library, the step against plain.c, with counts and
+with fading.
 
   harness/measure/measure.py --lib FOLDER [--libs "-lpthread ..."] [--n 4,16]
 
@@ -18,15 +19,16 @@ for it, and no other.
 
 Code size: of plain.o and of each object of the archive, as size gives it.
 
-The table of include/presence.h: for each N the most instructions of a step,
-without and with a page, over u and all kinds of rounds.  Exit status 1 if the
-header has another table.
+The tables of include/presence.h, one for each form: for each N the most
+instructions of a step, without and with a page, over u and all kinds of
+rounds.  Exit status 1 if the header has another table.
 
 With --goals only the goals of speed are tried, for the gate: of plain C's
 instructions a step takes at most what GOALS says, for each u and in every kind
-of round, and the same number in every kind.  Exit status 1 if one is not met.
+of round, and with counts the same number in every kind.  Exit status 1 if one
+is not met.
 
-With --steps only the table of include/presence.h is tried.
+With --steps only the tables of include/presence.h are tried.
 """
 import argparse
 import math
@@ -37,10 +39,13 @@ import sys
 
 HERE = os.path.dirname(os.path.abspath(__file__))
 ROOT = os.path.normpath(os.path.join(HERE, "..", ".."))
-GCC = ["gcc", "-std=c99", "-O2", "-Wall", "-Wextra", "-Werror", "-Wl,--gc-sections",
+# a score is rounded after each operation (E9 of document 02), so none may be fused with another
+ROUNDED = "-ffp-contract=off"
+GCC = ["gcc", "-std=c99", "-O2", ROUNDED, "-Wall", "-Wextra", "-Werror", "-Wl,--gc-sections",
        "-I" + ROOT + "/include", "-I" + ROOT + "/harness/c", "-I" + HERE]
 STACK = ["stack/stack.c", "stack/given.c", "stack/calls.c", "stack/painted.c"]
 ADDRESS_BYTES = 8  # of a return address
+FORMS = ["counts", "fading"]  # of a setup
 KINDS = ["quiet", "loud", "late", "away", "back"]
 FEW, MANY = 64, 320  # rounds, multiples of PERIOD in rounds.h
 
@@ -68,11 +73,11 @@ class Implementation:
         run([*GCC, *self.flags, *(os.path.join(HERE, source) for source in sources), *link, "-o", program])
         return program
 
-    def instructions(self, n, u, kind, rounds):
+    def instructions(self, form, n, u, kind, rounds):
         """Instructions of the program, of the step function, and what it printed."""
         out = os.path.join(self.build, "callgrind.out")
         printed = run(["valgrind", "--tool=callgrind", "--callgrind-out-file=" + out, "-q",
-                       self.driver, str(n), str(u), kind, str(rounds)])
+                       self.driver, str(n), str(u), form, kind, str(rounds)])
         table = run(["callgrind_annotate", "--inclusive=yes", "--threshold=100", out])
         os.remove(out)
         total = re.search(r"^\s*([\d,]+).*PROGRAM TOTALS", table, re.M)
@@ -82,8 +87,8 @@ class Implementation:
         number = lambda found: int(found.group(1).replace(",", ""))
         return number(total), number(step), printed
 
-    def per_step(self, n, u, kind):
-        few, many = (self.instructions(n, u, kind, rounds) for rounds in (FEW, MANY))
+    def per_step(self, form, n, u, kind):
+        few, many = (self.instructions(form, n, u, kind, rounds) for rounds in (FEW, MANY))
         between = MANY - FEW
         return (many[0] - few[0]) / between, (many[1] - few[1]) / between, many[2]
 
@@ -91,11 +96,11 @@ class Implementation:
 # ---- instructions ----
 
 
-def print_instructions(plain, presence, page, n, u, kind):
+def print_instructions(plain, presence, page, form, n, u, kind):
     """One line of the table.  Answers whether all printed the same."""
-    plain_total, plain_step, plain_says = plain.per_step(n, u, kind)
-    total, step, says = presence.per_step(n, u, kind)
-    _, page_step, page_says = page.per_step(n, u, kind)
+    plain_total, plain_step, plain_says = plain.per_step(form, n, u, kind)
+    total, step, says = presence.per_step(form, n, u, kind)
+    _, page_step, page_says = page.per_step(form, n, u, kind)
     words = plain_says.split()
     differ = "%d%%" % round(100 * int(words[9]) / int(words[7]))
     print("%2d %d %-6s %11s | %11.1f %13.1f %5.2f | %11.1f %14.1f %5.2f | %9.1f %5.2f"
@@ -108,35 +113,36 @@ def print_instructions(plain, presence, page, n, u, kind):
     return equal
 
 
-def print_all_instructions(plain, presence, page, sizes):
+def print_all_instructions(plain, presence, page, form, sizes):
     """Answers whether the results were equal everywhere."""
-    print("Instructions a step (callgrind, gcc -O2; ratios are presence / plain, and page / presence)")
+    print("Instructions a step with %s (callgrind, gcc -O2; ratios are presence / plain, and page / presence)" % form)
     print(" N u rounds rows differ |  plain step presence step ratio"
           " | plain total presence total ratio | page step ratio")
     equal = True
     for n in sizes:
         for u in (0, 1):
             for kind in KINDS:
-                equal = print_instructions(plain, presence, page, n, u, kind) and equal
+                equal = print_instructions(plain, presence, page, form, n, u, kind) and equal
+    print()
     return equal
 
 
 # ---- stack ----
 
 
-def depths(program, n, u, kind):
+def depths(program, form, n, u, kind):
     """By call: depth accepted and refused, numbers that the header names, numbers answered."""
-    lines = [line.split() for line in run([program, str(n), str(u), kind]).splitlines()]
+    lines = [line.split() for line in run([program, str(n), str(u), form, kind]).splitlines()]
     return {name: (int(accepted), int(refused), int(named, 16), int(answered, 16))
             for name, accepted, refused, named, answered in lines}
 
 
-def deepest(program, n, empty):
+def deepest(program, form, n, empty):
     """By call: bytes accepted and refused, the largest over u and the kinds of rounds."""
     largest = {name: (0, 0) for name in empty}
     for u in (0, 1):
         for kind in KINDS:
-            for name, (accepted, refused, named, answered) in depths(program, n, u, kind).items():
+            for name, (accepted, refused, named, answered) in depths(program, form, n, u, kind).items():
                 if named != answered:
                     sys.exit("%s: answered numbers %X, the header names %X" % (name, answered, named))
                 own = ADDRESS_BYTES - empty[name][0]
@@ -144,26 +150,27 @@ def deepest(program, n, empty):
     return largest
 
 
-def print_stacks(one, sizes):
+def print_stacks(one, form, sizes):
     """Answers the calls."""
     program = one.compile(STACK, one.link)
     in_place = ["-Wl,--defsym=%s=nothing" % name for name in exported(one.link[0])]
-    empty = depths(one.compile([*STACK, "stack/nothing.c"], in_place), 2, 0, "quiet")
-    found = [deepest(program, n, empty) for n in sizes]
+    empty = depths(one.compile([*STACK, "stack/nothing.c"], in_place), form, 2, 0, "quiet")
+    found = [deepest(program, form, n, empty) for n in sizes]
     for name in empty:
         accepted, refused = ("".join("%6d" % at_n[name][which] for at_n in found) for which in (0, 1))
         print("  %-23s |%s |%s" % (name, accepted, refused), flush=True)
     return list(empty)
 
 
-def print_all_stacks(plain, presence, sizes):
-    print("\nStack in bytes (painted, return address included; left the deepest accepted call, right refused)")
+def print_all_stacks(plain, presence, form, sizes):
+    print("Stack in bytes with %s (painted, return address included; left the deepest accepted call, right refused)" % form)
     columns = "".join("%6s" % ("N=%d" % n) for n in sizes)
     print("  %-23s |%s |%s" % ("call", columns, columns))
-    print_stacks(plain, sizes)
-    missing = set(exported(presence.link[0])) - set(print_stacks(presence, sizes))
+    print_stacks(plain, form, sizes)
+    missing = set(exported(presence.link[0])) - set(print_stacks(presence, form, sizes))
     if missing:
         sys.exit("stack not measured: %s" % ", ".join(sorted(missing)))
+    print()
 
 
 # ---- code size ----
@@ -180,7 +187,7 @@ OBJECTS = {"plain": "plain.o", "presence": "calls.o"}
 
 
 def print_code_sizes(both, archive):
-    print("\nCode size in bytes (text of size: code, constants, unwind tables)")
+    print("Code size in bytes (text of size: code, constants, unwind tables)")
     for one in both:
         own = OBJECTS[one.name]
         linked = sum(text_bytes(one.compile(["use.c"], one.link)).values())
@@ -191,27 +198,27 @@ def print_code_sizes(both, archive):
     print("  %s: %s" % (os.path.basename(archive), ", ".join(objects)))
 
 
-# ---- the header's table ----
+# ---- the header's tables ----
 
 HEADER = os.path.join(ROOT, "include", "presence.h")
-ROWS = 5  # of the table; its columns go through N = 2 to 16
+ROWS = 5  # of a table, of which the header has one for each form; its columns go through N = 2 to 16
 
 
-def most(one, n):
+def most(one, form, n):
     """Instructions of a step, the most over u and the kinds of rounds."""
-    return math.ceil(max(one.per_step(n, u, kind)[1] for u in (0, 1) for kind in KINDS))
+    return math.ceil(max(one.per_step(form, n, u, kind)[1] for u in (0, 1) for kind in KINDS))
 
 
-def step_table(presence, page):
-    """The lines of the header's table."""
-    cells = ["%2d %6s %6s" % (n, *("{:,}".format(most(one, n)) for one in (presence, page))) for n in range(2, 17)]
+def step_table(presence, page, form):
+    """The lines of a table of the header."""
+    cells = ["%2d %6s %6s" % (n, *("{:,}".format(most(one, form, n)) for one in (presence, page))) for n in range(2, 17)]
     head = "       ".join([" N   step   page"] * (len(cells) // ROWS))
     return [" *   " + head] + [" *   " + "       ".join(cells[row::ROWS]) for row in range(ROWS)]
 
 
-def steps_as_said(presence, page):
-    lines = step_table(presence, page)
-    print("Instructions of a step, the most over u and the kinds of rounds\n" + "\n".join(lines))
+def steps_as_said(presence, page, form):
+    lines = step_table(presence, page, form)
+    print("Instructions of a step with %s, the most over u and the kinds of rounds\n%s" % (form, "\n".join(lines)))
     with open(HEADER, encoding="ascii") as file:
         same = "\n".join(lines) in file.read()
     print("include/presence.h has %s table" % ("this" if same else "ANOTHER"))
@@ -220,21 +227,25 @@ def steps_as_said(presence, page):
 
 # ---- goals ----
 
-# the most that a step may take of plain C's instructions, by N: what was reached, rounded up
-GOALS = {2: 1.0, 4: 0.66, 8: 0.43, 16: 0.32}
+# by form and N the most that a step may take of plain C's instructions: what was reached, rounded up
+GOALS = {"counts": {2: 1.0, 4: 0.66, 8: 0.43, 16: 0.32},
+         "fading": {2: 1.15, 4: 0.90, 8: 0.65, 16: 0.49}}
+ALIKE = {"counts"}  # the forms of which the same number of instructions in every kind of round is asked
+
+
+def goal_met(plain, presence, form, n, u, most):
+    steps = {kind: presence.per_step(form, n, u, kind)[1] for kind in KINDS}
+    ratio = max(steps[kind] / plain.per_step(form, n, u, kind)[1] for kind in KINDS)
+    alike = len(set(steps.values())) == 1
+    print("step of %d modules with %s, u = %d: %.3f of plain C's instructions at most, the goal is %.2f; %s"
+          % (n, form, u, ratio, most,
+             "the same number in every kind of round" if alike else "NOT the same number in every kind of round"), flush=True)
+    return ratio <= most and (alike or form not in ALIKE)
 
 
 def goals_met(plain, presence):
-    met = True
-    for n, most in GOALS.items():
-        for u in (0, 1):
-            steps = {kind: presence.per_step(n, u, kind)[1] for kind in KINDS}
-            ratio = max(steps[kind] / plain.per_step(n, u, kind)[1] for kind in KINDS)
-            alike = len(set(steps.values())) == 1
-            print("step of %d modules, u = %d: %.3f of plain C's instructions at most, the goal is %.2f; %s"
-                  % (n, u, ratio, most, "the same number in every kind of round" if alike else "NOT the same number in every kind of round"))
-            met = met and ratio <= most and alike
-    return met
+    return all([goal_met(plain, presence, form, n, u, most)
+                for form in FORMS for n, most in GOALS[form].items() for u in (0, 1)])
 
 
 # ---- all ----
@@ -246,7 +257,7 @@ def parse_options():
     options.add_argument("--libs", default="", help="further linker arguments")
     options.add_argument("--n", default="2,4,8,16", help="values of N")
     options.add_argument("--goals", action="store_true", help="only try the goals of speed")
-    options.add_argument("--steps", action="store_true", help="only try the table of include/presence.h")
+    options.add_argument("--steps", action="store_true", help="only try the tables of include/presence.h")
     options.add_argument("--build", default=os.path.join(ROOT, "build", "measure"))
     return options.parse_args()
 
@@ -269,12 +280,13 @@ def main():
         return 0 if goals_met(plain, presence) else 1
     page = Implementation("page", "presence_page_step", ["-DPAGE"], link, options.build)
     if options.steps:
-        return 0 if steps_as_said(presence, page) else 1
-    equal = print_all_instructions(plain, presence, page, sizes)
-    print_all_stacks(plain, presence, sizes)
+        return 0 if all([steps_as_said(presence, page, form) for form in FORMS]) else 1
+    equal = all([print_all_instructions(plain, presence, page, form, sizes) for form in FORMS])
+    for form in FORMS:
+        print_all_stacks(plain, presence, form, sizes)
     print_code_sizes((plain, presence), archive)
     print()
-    same = steps_as_said(presence, page)
+    same = all([steps_as_said(presence, page, form) for form in FORMS])
     print("\nresults %s" % ("equal" if equal else "DIFFERENT"))
     return 0 if equal and same else 1
 

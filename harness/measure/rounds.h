@@ -1,7 +1,7 @@
 /*
  * rounds.h - the inputs that are measured: a setup and a table of reads that
- * is gone through again and again.  Always the same for the same N, u and
- * kind of rounds.
+ * is gone through again and again.  Always the same for the same N, u, form of
+ * the setup and kind of rounds; the reads are the same with both forms.
  *
  *   quiet   all heard, all rows ones
  *   loud    nearly every row differs from the health vector; a quarter of the
@@ -9,7 +9,7 @@
  *   late    all heard; every row but two differs from the health vector, at
  *           position N or N-1 only, so that a search for the lowest
  *           difference is longest; the health vector is all ones; all have
- *           a penalty
+ *           a penalty or a score
  *   away    all heard, all rows ones; all modules are outside the view and
  *           count their good rounds, Q = 1,000,000
  *   back    all heard; in every fourth round the rows lack all modules but 1,
@@ -17,7 +17,8 @@
  *           the next of them, Q = 3
  *
  * P = 1,000,000 and criticality 1 in the first three: no module leaves the
- * view.  P = 1 in the others.
+ * view.  P = 1 in the others.  With fading the limit is 1,000,000 and 1, the
+ * factor 0.9.
  */
 #ifndef ROUNDS_H
 #define ROUNDS_H
@@ -32,12 +33,15 @@
 
 #define BAD_EVERY 4u /* back: how often rows lack the others */
 
+enum rounds_form { COUNTS, FADING };
 enum rounds_kind { QUIET, LOUD, LATE, AWAY, BACK };
 
 struct rounds {
     uint32_t n, u, own, place;
+    enum rounds_form form;
     enum rounds_kind kind;
-    uint8_t setup[PRESENCE_MAX_SETUP_BYTES];
+    uint8_t setup[PRESENCE_MAX_FADING_SETUP_BYTES];
+    size_t setup_len, image_len;
     uint32_t word[PERIOD][PRESENCE_MAX_MODULES];
     uint32_t controller[PERIOD];
     uint8_t read[PERIOD][PRESENCE_MAX_READ_BYTES];
@@ -123,21 +127,38 @@ static void rounds_loud(struct rounds *r, uint32_t t)
     }
 }
 
-/* R is highest where no penalty is to be cleared. */
-static void rounds_setup(struct rounds *r)
+/* The limit is P, or that of fading; R is highest where no penalty is to be
+   cleared.  Returns the index of the first module's word. */
+static uint32_t rounds_limits(struct rounds *r)
 {
-    uint32_t j, q = r->kind == AWAY ? 1000000u
-                    : r->kind == BACK ? BAD_EVERY - 1u : 0u;
+    uint32_t q = r->kind == AWAY ? 1000000u
+                 : r->kind == BACK ? BAD_EVERY - 1u : 0u;
+    uint32_t limit = q == 0 ? 1000000u : 1u;
 
+    if (r->form == FADING) {
+        presence_fading_front(r->setup, r->n, q, 0.9, limit);
+        return 6;
+    }
     rounds_put(r->setup, 0, 0x10000000 | q << 8 | r->n);
-    rounds_put(r->setup, 1, 0x20000000 | (q == 0 ? 1000000u : 1u));
+    rounds_put(r->setup, 1, 0x20000000 | limit);
     rounds_put(r->setup, 2,
                0x30000000 | (r->kind == LATE || q != 0 ? 8000000u : 3u));
+    return 3;
+}
+
+static void rounds_setup(struct rounds *r)
+{
+    uint32_t at = rounds_limits(r), j;
+
     for (j = 1; j <= r->n; j++)
-        rounds_put(r->setup, 2 + j,
+        rounds_put(r->setup, at + j - 1,
                    0x40000000 | j << 23 |
                    (r->u == 1 && r->place < j ? 1u << 22 : 0) |
                    r->place << 17 | 1);
+    r->setup_len = r->form == FADING ? PRESENCE_FADING_SETUP_BYTES(r->n)
+                                     : PRESENCE_SETUP_BYTES(r->n);
+    r->image_len = r->form == FADING ? PRESENCE_FADING_IMAGE_BYTES(r->n)
+                                     : PRESENCE_IMAGE_BYTES(r->n);
 }
 
 /* Whether row j, as the step after its alignment has it, lacks all modules but
@@ -205,11 +226,12 @@ static void rounds_reads(struct rounds *r)
 }
 
 static void rounds_make(struct rounds *r, uint32_t n, uint32_t u,
-                        enum rounds_kind kind)
+                        enum rounds_form form, enum rounds_kind kind)
 {
     memset(r, 0, sizeof *r);
     r->n = n;
     r->u = u;
+    r->form = form;
     r->kind = kind;
     r->own = n;
     r->place = u == 1 ? n / 2 : n;
@@ -220,8 +242,8 @@ static void rounds_make(struct rounds *r, uint32_t n, uint32_t u,
     rounds_reads(r);
 }
 
-/* The opened image as the rounds begin with it: late, all have a penalty; away,
-   nobody is in the view. */
+/* The opened image as the rounds begin with it: late, all have a penalty or the
+   score 1.0; away, nobody is in the view. */
 static void rounds_begin(const struct rounds *r, uint8_t *image)
 {
     uint32_t n = r->n, j, penalty = r->kind == LATE ? 1u : 2u;
@@ -229,26 +251,39 @@ static void rounds_begin(const struct rounds *r, uint8_t *image)
     if (r->kind != LATE && r->kind != AWAY)
         return;
     for (j = 1; j <= n; j++)
-        rounds_put(image, 2 * n + 5 + j, 0xD0000000 | j << 23 | penalty);
+        if (r->form == FADING)
+            rounds_put(image, 2 * n + 7 + 2 * j, 0x3FF00000);
+        else
+            rounds_put(image, 2 * n + 5 + j, 0xD0000000 | j << 23 | penalty);
     if (r->kind == AWAY)
-        rounds_put(image, n + 3, 0xA0000000 | r->own << 16);
+        rounds_put(image + r->setup_len, 0, 0xA0000000 | r->own << 16);
 }
 
-/* Arguments N, u, kind.  Returns 0 if they are wrong. */
+/* The place of a name in a list, -1 if it is not there. */
+static int rounds_named(const char *name, const char *const *names, int count)
+{
+    int i;
+
+    for (i = 0; i < count; i++)
+        if (strcmp(name, names[i]) == 0)
+            return i;
+    return -1;
+}
+
+/* Arguments N, u, form, kind.  Returns 0 if they are wrong. */
 static int rounds_from(struct rounds *r, char **argument)
 {
-    static const char *const names[] = {"quiet", "loud", "late", "away",
+    static const char *const forms[] = {"counts", "fading"};
+    static const char *const kinds[] = {"quiet", "loud", "late", "away",
                                         "back"};
     uint32_t n = (uint32_t)atoi(argument[0]), u = (uint32_t)atoi(argument[1]);
-    int k;
+    int form = rounds_named(argument[2], forms, 2);
+    int kind = rounds_named(argument[3], kinds, 5);
 
-    for (k = 0; k < 5; k++)
-        if (n >= 2 && n <= PRESENCE_MAX_MODULES && u <= 1 &&
-            strcmp(argument[2], names[k]) == 0) {
-            rounds_make(r, n, u, (enum rounds_kind)k);
-            return 1;
-        }
-    return 0;
+    if (n < 2 || n > PRESENCE_MAX_MODULES || u > 1 || form < 0 || kind < 0)
+        return 0;
+    rounds_make(r, n, u, (enum rounds_form)form, (enum rounds_kind)kind);
+    return 1;
 }
 
 #endif

@@ -2,8 +2,9 @@
    see how much code gets linked. */
 #include "which.h"
 
-static uint8_t in[PRESENCE_MAX_IMAGE_BYTES], read[PRESENCE_MAX_READ_BYTES];
-static uint8_t out[PRESENCE_MAX_IMAGE_BYTES];
+static uint8_t in[PRESENCE_MAX_FADING_IMAGE_BYTES];
+static uint8_t read[PRESENCE_MAX_READ_BYTES];
+static uint8_t out[PRESENCE_MAX_FADING_IMAGE_BYTES];
 
 int main(int argc, char **argv)
 {

@@ -1,4 +1,5 @@
-//! Document 01 as plain code: words, setups, states, the step and the calls from C; the register page and the causes of document 02.
+//! Document 01 as plain code: words, setups, states, the step and the calls from C; the register page, the causes, the return counts and the fading
+//! scores of document 02.
 
 pub mod calls;
 pub mod page;

@@ -1,6 +1,7 @@
 //! A small deterministic generator (splitmix64) and what is made with it.
 
 pub mod damage;
+pub mod doubles;
 pub mod pages;
 pub mod reached;
 pub mod reads;

@@ -101,6 +101,7 @@ impl Renumbering {
             before: self.vector(state.before),
             penalty: self.each(&state.penalty),
             reward: self.each(&state.reward),
+            score: self.each(&state.score),
             returns: self.each(&state.returns),
         }
     }

@@ -6,7 +6,7 @@ use common::*;
 use harness::model::calls::{Answer, Functions, Model};
 use harness::model::state::{fresh, image_words};
 use harness::model::step::{heard_word, step};
-use harness::model::words::bytes_of;
+use harness::model::words::{bytes_of, Double};
 use harness::random::reads::read as random_read;
 use harness::random::setups::setup as random_setup;
 use harness::random::states::state as random_state;
@@ -33,9 +33,28 @@ fn image() -> Vec<u32> {
     image_words(&setup, &fresh(&setup, 2))
 }
 
+/// The same with fading: 29 words.
+fn fading_image() -> Vec<u32> {
+    let setup = setup(&FADING_SHEET);
+    image_words(&setup, &fresh(&setup, 2))
+}
+
+/// The words with a double in the place of two of them.
+fn with_double(words: &[u32], at: usize, double: f64) -> Vec<u32> {
+    let [high, low] = Double(double).words();
+    with(&with(words, at, high), at + 1, low)
+}
+
+/// Doubles that are negative, infinite or no number, minus zero among them.
+fn out_of_range() -> Vec<f64> {
+    let no_numbers = [0x7FF8 << 48, 0x7FF0 << 48 | 1, 0x7FF0_0001 << 32, u64::MAX, 0xFFF8 << 48, 0xFFF0 << 48 | 1];
+    let others = [-0.0, -f64::from_bits(1), -0.5, -1e300, f64::INFINITY, f64::NEG_INFINITY];
+    no_numbers.map(f64::from_bits).into_iter().chain(others).collect()
+}
+
 /// The answer of saving; the output is of right length and must stay as given if refused.
 fn saved(words: &[u32]) -> Answer {
-    let mut out = vec![0xAA; 104];
+    let mut out = vec![0xAA; if words[1] >> 28 == 0 { 116 } else { 104 }];
     let answer = Model.save(&bytes_of(words), &mut out);
     if answer.number == 0 {
         assert_eq!(out, bytes_of(words));
@@ -103,6 +122,66 @@ fn number_4() {
     assert_eq!(checked(&with(&SHEET, 2, 0x30000000 | 8_000_001)), answer(4, 2));
     assert_eq!(checked(&with(&SHEET, 2, 0x30000000 | 8_000_000)), answer(0, 0));
     assert_eq!(run_both(&script(&with(&SHEET, 1, 0x20000000), &[NO_CAST, play(1)])), "refused 4 at 1\n");
+}
+
+/// In the place of 4 where the second word is of kind 0 (document 02, E9).
+#[test]
+fn number_22() {
+    assert_eq!(checked(&FADING_SHEET), answer(0, 0));
+    for bit in 0..28 {
+        assert_eq!(checked(&with(&FADING_SHEET, 1, 1 << bit)), answer(22, 1));
+    }
+    let (factor, limit) = (|double| with_double(&FADING_SHEET, 2, double), |double| with_double(&FADING_SHEET, 4, double));
+    for double in [0.0, f64::from_bits(1), f64::MIN_POSITIVE, 0.1, 1.0_f64.next_down(), 1.0] {
+        assert_eq!(checked(&factor(double)), answer(0, 0), "{double}");
+    }
+    for double in [1.0_f64.next_up(), 1.5, f64::MAX].into_iter().chain(out_of_range()) {
+        assert_eq!(checked(&factor(double)), answer(22, 2), "{double}");
+        assert_eq!(saved(&with_double(&fading_image(), 2, double)), answer(22, 2), "{double}");
+    }
+    for double in [f64::from_bits(1), f64::MIN_POSITIVE, 0.5, 2.7, 1_000_000.0_f64.next_down(), 1_000_000.0] {
+        assert_eq!(checked(&limit(double)), answer(0, 0), "{double}");
+    }
+    for double in [0.0, 1_000_000.0_f64.next_up(), 1_000_001.0, f64::MAX].into_iter().chain(out_of_range()) {
+        assert_eq!(checked(&limit(double)), answer(22, 4), "{double}");
+        assert_eq!(saved(&with_double(&fading_image(), 4, double)), answer(22, 4), "{double}");
+    }
+    // The first of several; 3 before 22, 22 before 5 and 7.
+    let all = with(&with_double(&limit(0.0), 2, 2.0), 1, 1);
+    assert_eq!(checked(&all), answer(22, 1));
+    assert_eq!(checked(&with(&all, 1, 0)), answer(22, 2));
+    assert_eq!(checked(&all[..9]), answer(3, 0));
+    assert_eq!(checked(&with(&limit(0.0), 6, 0)), answer(22, 4));
+    assert_eq!(Model.open(&bytes_of(&all), 0, &mut []), answer(22, 1));
+    assert_eq!(run_both(&script(&all, &[NO_CAST, play(1)])), "refused 22 at 1\n");
+    assert_eq!(run_both(&script(&limit(-0.0), &[])), "refused 22 at 4\n");
+}
+
+#[test]
+fn the_kind_of_the_second_word_decides_the_length() {
+    assert_eq!(checked(&FADING_SHEET[..9]), answer(3, 0));
+    assert_eq!(checked(&[&FADING_SHEET[..], &[0]].concat()), answer(3, 0));
+    assert_eq!(checked(&with(&SHEET, 1, 0)), answer(3, 0));
+    assert_eq!(checked(&FADING_SHEET[..1]), answer(3, 0));
+    for kind in (1..16).filter(|&kind| kind != 2) {
+        assert_eq!(checked(&with(&FADING_SHEET, 1, kind << 28)), answer(3, 0));
+        assert_eq!(checked(&with(&SHEET, 1, kind << 28)), answer(4, 1));
+    }
+    assert_eq!(checked(&with(&FADING_SHEET, 1, 0x20000001)), answer(3, 0));
+    assert_eq!(saved(&fading_image()[..28]), answer(3, 0));
+    assert_eq!(saved(&fading_image()[..26]), answer(3, 0));
+    assert_eq!(saved(&with(&image(), 1, 0)), answer(3, 0));
+    assert_eq!(saved(&with(&fading_image(), 1, 0x20000001)), answer(3, 0));
+    // In a run there may be more. The words behind the setup begin at N + 6.
+    assert_eq!(run_both(&bytes_of(&FADING_SHEET[..9])), "refused 3 at 0\n");
+    assert_eq!(run_both(&bytes_of(&FADING_SHEET)), "refused 14 at 10\n");
+    assert_eq!(run_both(&script(&FADING_SHEET, &[play(1)])), "refused 12 at 10\n");
+    assert_eq!(run_both(&script(&FADING_SHEET, &[NO_CAST, play(0)])), "refused 12 at 11\n");
+    assert_eq!(run_both(&script(&with(&FADING_SHEET, 1, 0x20000001), &[NO_CAST, play(1)])), "refused 4 at 2\n");
+    // 5, 6 and 7 lie three words further.
+    assert_eq!(checked(&with(&FADING_SHEET, 8, 0x418A0001)), answer(5, 8));
+    assert_eq!(checked(&with(&FADING_SHEET, 7, 0x41440001)), answer(6, 7));
+    assert_eq!(saved(&with(&fading_image(), 10, 0xA000000F)), answer(7, 10));
 }
 
 #[test]
@@ -206,6 +285,44 @@ fn number_8_of_return_counts() {
     assert_eq!(saved(&with(&three, 23, 0xE1000000)), answer(8, 23));
     // The first word that is wrong: a reward before a count.
     assert_eq!(saved(&with(&with(&three, 23, 0xF1000003), 21, 0xE2000001)), answer(8, 21));
+}
+
+/// Words 17..24: scores (document 02, E9). The limit is 2.0.
+#[test]
+fn number_8_of_scores() {
+    assert_eq!(saved(&fading_image()), answer(0, 0));
+    let away = with(&fading_image(), 10, 0xA002000D);
+    assert_eq!(saved(&away), answer(8, 19));
+    let (below, above) = (2.0_f64.next_down(), 2.0_f64.next_up());
+    for double in [0.0, f64::from_bits(1), 1.0, below] {
+        assert_eq!(saved(&with_double(&fading_image(), 19, double)), answer(0, 0), "{double}");
+        assert_eq!(saved(&with_double(&away, 19, double)), answer(8, 19), "{double}");
+    }
+    for double in [2.0, above, 1e300, f64::MAX] {
+        assert_eq!(saved(&with_double(&fading_image(), 19, double)), answer(8, 19), "{double}");
+        assert_eq!(saved(&with_double(&away, 19, double)), answer(0, 0), "{double}");
+    }
+    for double in out_of_range() {
+        assert_eq!(saved(&with_double(&fading_image(), 19, double)), answer(8, 19), "{double}");
+        assert_eq!(saved(&with_double(&away, 19, double)), answer(8, 19), "{double}");
+    }
+    // The first of several; scores before return counts.
+    let two = with_double(&with_double(&fading_image(), 23, 2.0), 21, -0.0);
+    assert_eq!(saved(&two), answer(8, 21));
+    assert_eq!(saved(&with(&two, 25, 0)), answer(8, 21));
+    assert_eq!(saved(&with(&two, 16, 0)), answer(8, 16));
+    assert_eq!(saved(&with(&fading_image(), 25, 0xF0800001)), answer(8, 25));
+}
+
+#[test]
+fn number_9_of_fading_images() {
+    for out_len in [0, 104, 112, 115, 117, 120] {
+        assert_eq!(stepped(&fading_image(), &full_read(4), 15, out_len), answer(9, 0));
+        assert_eq!(Model.save(&bytes_of(&fading_image()), &mut vec![0; out_len]), answer(9, 0));
+        assert_eq!(Model.open(&bytes_of(&FADING_SHEET), 1, &mut vec![0; out_len]), answer(9, 0));
+    }
+    assert_eq!(stepped(&fading_image(), &full_read(4), 1 << 4, 116), answer(10, 0));
+    assert_eq!(stepped(&fading_image(), &full_read(4), 15, 116), Answer { number: 0, index: 0, health: 15 });
 }
 
 #[test]

@@ -1,9 +1,10 @@
 //! What the random scripts of the gate reach, by the model.
 
-use harness::model::setup::Setup;
-use harness::model::state::{fresh, State};
+use harness::model::setup::{read_setup, Form, Holds, Limits, Setup};
+use harness::model::state::{fresh, image_words, read_image, State};
 use harness::model::step::step;
-use harness::model::words::has;
+use harness::model::words::{has, words_of, Double};
+use harness::random::damage::damaged;
 use harness::random::reached::Reached;
 use harness::random::reads::read;
 use harness::random::scripts::{careful_script, long_runs, script_bytes, WAYS};
@@ -12,6 +13,7 @@ use harness::random::states::state;
 use harness::random::Random;
 use harness::script::check;
 use harness::script::print::{play_rounds, run};
+use std::collections::BTreeMap;
 
 fn by_model(bytes: &[u8]) -> Vec<u8> {
     let mut out = Vec::new();
@@ -133,6 +135,135 @@ fn random_steps_count_and_return() {
     let Returns { never, counted, restarted, returned, returned_at_once, returned_late, with_reward, .. } = single;
     let least = [never, counted, restarted, returned, returned_at_once, returned_late, with_reward].into_iter().min().unwrap();
     assert!(least > 100, "{single:?}");
+}
+
+/// What steps reach of scores (document 02, E9).
+#[derive(Debug, Default)]
+struct Scores {
+    /// Charges that make the score the limit, the double before it, or more than the limit.
+    to_the_limit: u32,
+    just_below: u32,
+    above: u32,
+    /// Charges that stay in the view, and of those the ones whose sum is rounded.
+    charged: u32,
+    rounded: u32,
+    /// Good rounds that lessen the score, make it 0.0, leave it below the least normal double, or leave it as it was.
+    faded: u32,
+    to_zero: u32,
+    subnormal: u32,
+    kept: u32,
+    /// Scores outside the view that stay through a health 0 and through a health 1, those of 1e300 and more.
+    frozen: u32,
+    huge: u32,
+    returned: u32,
+}
+
+impl Scores {
+    fn add(&mut self, setup: &Setup, limit: f64, before: &State, health: u32, after: &State) {
+        for j in 1..=setup.n {
+            let (was, is) = (before.score[j - 1].0, after.score[j - 1].0);
+            if !has(before.view, j) {
+                self.returned += u32::from(has(after.view, j));
+                self.frozen += u32::from(!has(after.view, j));
+                self.huge += u32::from(!has(after.view, j) && is >= 1e300);
+            } else if has(health, j) {
+                self.faded += u32::from(is < was && is > 0.0);
+                self.to_zero += u32::from(was > 0.0 && is == 0.0);
+                self.subnormal += u32::from(is.is_subnormal());
+                self.kept += u32::from(was > 0.0 && is == was);
+            } else {
+                self.to_the_limit += u32::from(is == limit);
+                self.just_below += u32::from(is == limit.next_down());
+                self.above += u32::from(is > limit);
+                self.charged += u32::from(is < limit);
+                self.rounded += u32::from(is - 1.0 != was);
+            }
+        }
+    }
+}
+
+/// Lives and single steps as `differential` makes them.
+#[test]
+fn random_steps_fade() {
+    let mut random = Random::new(7);
+    let mut lives = Scores::default();
+    let mut single = Scores::default();
+    for _ in 0..1_200 {
+        let setup = if random.chance(1, 2) { lively_setup(&mut random) } else { setup(&mut random) };
+        let Limits::Fading { limit: Double(limit), .. } = setup.limits else {
+            continue;
+        };
+        let mut held = fresh(&setup, 1);
+        for _ in 0..30 {
+            let before = held;
+            let (words, controller) = read(&mut random, &setup, &held);
+            let health = step(&setup, &mut held, &words, controller).unwrap().health;
+            lives.add(&setup, limit, &before, health, &held);
+        }
+        for _ in 0..10 {
+            let before = state(&mut random, &setup);
+            let (words, controller) = read(&mut random, &setup, &before);
+            let mut after = before;
+            let health = step(&setup, &mut after, &words, controller).unwrap().health;
+            single.add(&setup, limit, &before, health, &after);
+        }
+    }
+    let Scores { to_the_limit, above, charged, rounded, faded, to_zero, subnormal, kept, frozen, returned, .. } = lives;
+    let least = [to_the_limit, above, charged, rounded, faded, to_zero, subnormal, kept, frozen, returned].into_iter().min().unwrap();
+    assert!(least > 50, "{lives:?}");
+    let Scores { to_the_limit, just_below, above, charged, rounded, faded, to_zero, subnormal, kept, frozen, huge, returned } = single;
+    let all = [to_the_limit, just_below, above, charged, rounded, faded, to_zero, subnormal, kept, frozen, huge, returned];
+    assert!(all.into_iter().min().unwrap() > 50, "{single:?}");
+}
+
+/// Setups and states of fading, damaged: each number with each of its places comes, and bytes that are still accepted.
+#[test]
+fn damaged_fading_bytes_reach_every_place() {
+    let mut random = Random::new(8);
+    let mut reached: BTreeMap<String, u32> = BTreeMap::new();
+    for _ in 0..3_000 {
+        let setup = lively_setup(&mut random);
+        if setup.form() == Form::Counts {
+            continue;
+        }
+        let before = state(&mut random, &setup);
+        let bytes = damaged(&mut random, &setup.words());
+        let of_setup = match read_setup(&bytes, Holds::Setup) {
+            Ok((read, _)) => format!("setup accepted, {:?}", read.form()),
+            Err(refused) if refused.number == 22 => format!("setup 22 at {}", refused.index),
+            Err(refused) => format!("setup {}", refused.number),
+        };
+        let bytes = damaged(&mut random, &image_words(&setup, &before));
+        let of_state = match read_image(&bytes) {
+            Ok((read, _)) => format!("state accepted, {:?}", read.form()),
+            Err(refused) if refused.number == 22 => format!("state 22 at {}", refused.index),
+            Err(refused) if refused.number == 8 => format!("state 8, {}", place(&bytes, refused.index)),
+            Err(refused) => format!("state {}", refused.number),
+        };
+        for name in [of_setup, of_state] {
+            *reached.entry(name).or_insert(0) += 1;
+        }
+    }
+    let names = [
+        "setup accepted, Counts", "setup accepted, Fading", "setup 1", "setup 2", "setup 3", "setup 4", "setup 22 at 1", "setup 22 at 2",
+        "setup 22 at 4", "setup 5", "setup 6", "state accepted, Fading", "state 1", "state 2", "state 3", "state 22 at 1", "state 22 at 2",
+        "state 22 at 4", "state 5", "state 6", "state 7", "state 8, a score", "state 8, before scores", "state 8, behind scores",
+    ];
+    for name in names {
+        assert!(reached.get(name).is_some_and(|&count| count > 0), "{name}: {reached:?}");
+    }
+}
+
+/// Whether a word of a fading state lies before, among or behind its scores.
+fn place(bytes: &[u8], at: usize) -> &'static str {
+    let words = words_of(bytes).unwrap();
+    let n = (words[0] & 31) as usize;
+    let first = Form::of(&words).setup_length(n) + n + 3;
+    match at {
+        _ if at < first => "before scores",
+        _ if at < first + 2 * n => "a score",
+        _ => "behind scores",
+    }
 }
 
 #[test]

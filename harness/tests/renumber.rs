@@ -3,6 +3,7 @@
 mod common;
 
 use common::{by_model, loss, play, run_both, script as script_of, setup, NO_CAST};
+use harness::model::setup::Form;
 use harness::model::state::{fresh, Entry, State};
 use harness::model::step::{step, Outcome};
 use harness::model::words::bytes_of;
@@ -62,20 +63,22 @@ fn played(script: &Script) -> Vec<(Vec<State>, Vec<Outcome>, bool)> {
     rounds
 }
 
-/// Health, counters, return counts, view, syndromes and reads. Of an accusation, that there is one; the number that it names is left out.
+/// Health, counters, scores, return counts, view, syndromes and reads. Of an accusation, that there is one; the number that it names is left out.
 #[test]
 fn every_round_is_renumbered() {
     let mut random = Random::new(8);
-    let (mut accusations, mut other_number) = (0, 0);
+    let (mut accusations, mut other_number, mut scores_moved) = (0, 0, 0);
     for _ in 0..1_000 {
         let script = script_with_u_0(&mut random);
         let renumbering = Renumbering::random(&mut random, script.setup.n);
         let rebuilt = played(&renumbering.script(&script));
+        let fades = script.setup.form() == Form::Fading;
         for ((states, outcomes, kept), (states_then, outcomes_then, kept_then)) in played(&script).iter().zip(&rebuilt) {
             assert_eq!(kept, kept_then);
             for j in 1..=renumbering.n() {
                 let (outcome, then) = (&outcomes[j - 1], &outcomes_then[renumbering.of(j) - 1]);
                 assert_eq!(renumbering.state(&states[j - 1]), states_then[renumbering.of(j) - 1]);
+                scores_moved += u32::from(fades && states[j - 1].score != renumbering.each(&states[j - 1].score));
                 assert_eq!(renumbering.vector(outcome.health), then.health);
                 assert_eq!(renumbering.each(&outcome.causes), then.causes);
                 for h in 1..=renumbering.n() {
@@ -89,6 +92,7 @@ fn every_round_is_renumbered() {
     }
     // The lowest number at which two vectors differ does not stay the lowest.
     assert!(accusations > 1_000 && other_number > 100, "{accusations} {other_number}");
+    assert!(scores_moved > 1_000, "{scores_moved}");
 }
 
 /// A renumbering that leaves out one of its parts gives other lines, so the comparison sees each of them.

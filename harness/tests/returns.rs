@@ -3,10 +3,10 @@
 mod common;
 
 use common::{setup, SHEET};
-use harness::model::setup::Setup;
+use harness::model::setup::{Limits, Setup};
 use harness::model::state::{fresh, State};
 use harness::model::step::{step, Outcome};
-use harness::model::words::has;
+use harness::model::words::{has, Double};
 use harness::random::scripts::returning_script;
 use harness::random::Random;
 use harness::script::backplane::{add_event, Backplane, Event, Events, NO_EVENTS};
@@ -161,7 +161,7 @@ fn three_setups(q: u32, p: u32) -> [(Setup, u32); 3] {
     for (module, (place, send_mark)) in marked.modules.iter_mut().zip([(4, false), (1, true), (0, true), (2, false)]) {
         (module.place, module.send_mark) = (place, send_mark);
     }
-    [(sheet_with(q), 0), (late_with(q), 1), (marked, 1)].map(|(setup, u)| (Setup { penalty_limit: p, ..setup }, u))
+    [(sheet_with(q), 0), (late_with(q), 1), (marked, 1)].map(|(setup, u)| (Setup { limits: Limits::Counts { penalty: p, reward: 3 }, ..setup }, u))
 }
 
 /// A card that is opened anew while it is outside the others' views, and steps with what it hears. If round r is the first in which it is heard
@@ -229,6 +229,14 @@ fn a_restarted_card_knows_when_it_is_back() {
     }
 }
 
+/// With counts penalty P and reward 0, with fading score 0.0.
+fn as_returned(setup: &Setup, state: &State, j: usize) -> bool {
+    match setup.limits {
+        Limits::Counts { penalty, .. } => (state.penalty[j - 1], state.reward[j - 1]) == (penalty, 0),
+        Limits::Fading { .. } => state.score[j - 1] == Double(0.0),
+    }
+}
+
 /// What the health vectors say of each module since it left or since its last bad one: how many were 1.
 struct Histories {
     good: [u32; 16],
@@ -254,7 +262,7 @@ fn the_last_q_health_bits_decide() {
                     let returns = q > 0 && *good == q;
                     assert_eq!(has(state.view, j), returns);
                     assert_eq!(state.returns[j - 1], if returns || q == 0 { 0 } else { *good });
-                    assert!(!returns || (state.penalty[j - 1], state.reward[j - 1]) == (script.setup.penalty_limit, 0));
+                    assert!(!returns || as_returned(&script.setup, state, j));
                     returned += u32::from(returns);
                     counted += u32::from(state.returns[j - 1] > 0);
                 }

@@ -1,5 +1,6 @@
 //! Demand 3 and lemma 3 on random runs of the model.
 
+use harness::model::setup::Form;
 use harness::model::words::{has, only};
 use harness::random::scripts::{careful_script, returning_script, script};
 use harness::random::Random;
@@ -36,9 +37,13 @@ struct Due {
     counted: u32,
     /// Rounds after which a module was back in the view.
     returned: u32,
+    /// Rounds of fading setups after which there was a score over 0.
+    scored: u32,
+    /// Rounds of fading setups in which a module left the view.
+    faded_out: u32,
 }
 
-/// All followers have the same health vector, counters, return counts and view.
+/// All followers have the same health vector, counters, score bits, return counts and view.
 fn followers_agree(backplane: &Backplane, followers: &[usize]) {
     let first = followers[0] - 1;
     for &i in followers {
@@ -46,6 +51,7 @@ fn followers_agree(backplane: &Backplane, followers: &[usize]) {
         assert_eq!(backplane.outcomes[i - 1].health, backplane.outcomes[first].health);
         assert_eq!(state.penalty, backplane.states[first].penalty);
         assert_eq!(state.reward, backplane.states[first].reward);
+        assert_eq!(state.score, backplane.states[first].score);
         assert_eq!(state.returns, backplane.states[first].returns);
         assert_eq!(state.view, backplane.states[first].view);
     }
@@ -85,6 +91,10 @@ fn demand_3_in_round(backplane: &Backplane, followers: &[usize], rounds: &[Round
     followers_agree(backplane, followers);
     due.counted += u32::from(backplane.states[followers[0] - 1].returns.iter().any(|&count| count > 0));
     due.returned += u32::from(k > 1 && rounds[k - 1].view & !rounds[k - 2].view != 0);
+    if backplane.setup.form() == Form::Fading {
+        due.scored += u32::from(backplane.states[followers[0] - 1].score.iter().any(|score| score.0 > 0.0));
+        due.faded_out += u32::from(k > 1 && rounds[k - 2].view & !rounds[k - 1].view != 0);
+    }
     for &i in followers {
         let health = backplane.outcomes[i - 1].health;
         due.unheard += health_is_right(backplane.setup.n, health, followers, judged, earlier);
@@ -113,6 +123,7 @@ fn demand_3() {
     }
     assert!(due.rounds > 5_000 && due.with_faults > 1_000 && due.unheard > 1_000, "{due:?}");
     assert!(due.counted > 1_000 && due.returned > 100, "{due:?}");
+    assert!(due.scored > 1_000 && due.faded_out > 100, "{due:?}");
 }
 
 /// All words on the bus in round k hold round k-1's syndromes; only told words differ.

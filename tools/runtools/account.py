@@ -3,6 +3,7 @@
 from collections import namedtuple
 
 from .lines import Round
+from .scores import Scores
 
 # How the judges see a module after a round; None where they differ.
 #   before, after   in the view before and after the round
@@ -28,6 +29,7 @@ class Account:
         # rounds live as long as the account, so their ids are good keys
         self._fresh = Round((("1" * run.n, "1" * run.n),) * run.n, True)
         self._known = {}
+        self.scores = Scores(self) if script and script.fading else None
         self.first_out = next((k for k, round_ in enumerate(run.rounds, 1) if not round_.kept), None)
 
     def label(self, module):

@@ -5,6 +5,7 @@ A line holds one statement; everything from a # on is a comment.
     modules 4                                  first: how many modules
     penalty limit 1
     reward limit 3
+    fading factor 0.5 limit 3.0                in place of both: scores that fade; 1e-3 and 0x1.8p-1 are numbers too
     return limit 5                             0 if it is left out: no module comes back into the view
     module 1 x-axis place 4 criticality 1      one line for each module in turn; the name may be left out,
     module 2 place 1 criticality 1 mark        and may later stand in place of the number; mark is the send mark
@@ -19,18 +20,22 @@ A line holds one statement; everything from a # on is a comment.
     bytes 0x9000                               one to three bytes at the end, both only with --unchecked
 """
 
+import math
 import re
 
 from . import check
 from . import words as w
 
 NAME = re.compile(r"[A-Za-z][A-Za-z0-9_-]*\Z")
-RESERVED = {"modules", "penalty", "reward", "return", "limit", "module", "place", "criticality", "mark", "cast", "none", "all", "but",
-            "loss", "lie", "to", "says", "word", "play", "bytes"}
+DECIMAL = re.compile(r"[+-]?([0-9]+\.?[0-9]*|\.[0-9]+)([eE][+-]?[0-9]+)?\Z")
+HEXADECIMAL = re.compile(r"[+-]?0x[0-9A-Fa-f]+(\.[0-9A-Fa-f]*)?(p[+-]?[0-9]+)?\Z")
+RESERVED = {"modules", "penalty", "reward", "fading", "factor", "return", "limit", "module", "place", "criticality", "mark", "cast", "none",
+            "all", "but", "loss", "lie", "to", "says", "word", "play", "bytes"}
 FORMS = {
     "modules": "modules N",
     "penalty": "penalty limit P",
     "reward": "reward limit R",
+    "fading": "fading factor F limit L",
     "return": "return limit Q",
     "module": "module NUMBER [NAME] place L criticality C [mark]",
     "cast": "cast none, cast all, cast all but MODULES or cast MODULES",
@@ -57,6 +62,7 @@ class Source:
         self.unchecked = unchecked
         self.n = None
         self.head = None
+        self.chosen = None    # counts or fading
         self.return_limit = None
         self.names = {}
         self.words = []
@@ -128,9 +134,25 @@ def read_limit(kind, what):
     def reader(source, tokens):
         if len(tokens) != 2 or tokens[0] != "limit":
             return False
+        choose(source, "counts")
         source.put(w.make(kind, ranged(source, tokens[1], what)))
         return True
     return reader
+
+
+def read_fading(source, tokens):
+    if len(tokens) != 4 or tokens[0] != "factor" or tokens[2] != "limit":
+        return False
+    choose(source, "fading")
+    source.put(*w.fading_words(w.Fading(double(source, tokens[1], "fading factor"), double(source, tokens[3], "fading limit"))))
+    return True
+
+
+def choose(source, form):
+    """A setup has either fading or the two limits of counts."""
+    if source.chosen not in (None, form) and not source.unchecked:
+        source.fail("fading stands in place of the penalty limit and the reward limit, and here are both")
+    source.chosen = form
 
 
 def read_return_limit(source, tokens):
@@ -141,7 +163,7 @@ def read_return_limit(source, tokens):
         source.fail("the number of modules must stand before this")
     if source.return_limit is not None:
         source.fail("the return limit stands twice")
-    if len(source.words) > 3 and not source.unchecked:
+    if len(source.words) > w.first_module(source.words) and not source.unchecked:
         source.fail("the return limit must stand before module 1")
     source.return_limit = ranged(source, tokens[1], "return limit")
     source.words[source.head] = w.head_word(source.n, source.return_limit)
@@ -220,6 +242,7 @@ READERS = {
     "modules": read_modules,
     "penalty": read_limit(w.PENALTY_LIMIT, "penalty limit"),
     "reward": read_limit(w.REWARD_LIMIT, "reward limit"),
+    "fading": read_fading,
     "return": read_return_limit,
     "module": read_module,
     "cast": read_cast,
@@ -251,6 +274,16 @@ def ranged(source, token, what):
     elif not w.in_range(what, found):
         source.fail(w.outside(what, found))
     return found
+
+
+def double(source, token, what):
+    """A double, rounded to nearest; whether it is within its range the check says."""
+    if not DECIMAL.match(token) and not HEXADECIMAL.match(token):
+        source.fail(f"'{token}' is no {what}")
+    try:
+        return float.fromhex(token) if "x" in token else float(token)
+    except OverflowError:
+        return -math.inf if token.startswith("-") else math.inf
 
 
 def bounded(source, token, what, low, high, most):

@@ -1,5 +1,6 @@
-"""The check of a run script: number, index and reason of a refusal, in document 01's order; number 2 as document 02's E6 has it."""
+"""The check of a run script: number, index and reason of a refusal, in document 01's order; number 2 as document 02's E6 has it, 22 after its E9."""
 
+import math
 from collections import namedtuple
 
 from . import words as w
@@ -19,6 +20,7 @@ MEANING = {
     14: "the cast or a told word is missing, or events are never played, or nothing is played",
     15: "over 100,000 rounds",
     16: "the script has over 65,536 bytes",
+    22: "the fading form is wrong: a spare bit, the factor or the limit",
 }
 
 
@@ -36,21 +38,42 @@ def setup_refusal(words):
     reason = head_reason(words[0])
     if reason:
         return Refusal(2, 0, reason)
-    n = w.read_head(words[0]).modules
-    if len(words) < n + 3:
-        return Refusal(3, 0, f"the setup of {n} modules has {n + 3} words, and the script only {len(words)}")
+    n, length = w.read_head(words[0]).modules, w.setup_length(words)
+    if len(words) < length:
+        fading = " with fading" if w.fades(words) else ""
+        return Refusal(3, 0, f"the setup of {n} modules{fading} has {length} words, and the script only {len(words)}")
+    refused = fading_refusal(words) if w.fades(words) else limits_refusal(words)
+    if refused:
+        return refused
+    for number, reason_of in ((5, module_reason), (6, mark_reason)):
+        for j, word in enumerate(words[w.modules_at(words)], 1):
+            reason = reason_of(word, j, n)
+            if reason:
+                return Refusal(number, w.first_module(words) + j - 1, reason)
+    return None
+
+
+def limits_refusal(words):
     limits = [(1, w.PENALTY_LIMIT, "penalty limit"), (2, w.REWARD_LIMIT, "reward limit")]
     for at, kind, what in limits:
         if w.kind(words[at]) != kind:
-            return Refusal(4, at, f"here the {what} is due")
+            instead = ", or fading," if at == 1 else ""
+            return Refusal(4, at, f"here the {what}{instead} is due")
         if not w.in_range(what, w.value(words[at])):
             return Refusal(4, at, w.outside(what, w.value(words[at])))
-    modules = words[3:n + 3]
-    for number, reason_of in ((5, module_reason), (6, mark_reason)):
-        for j, word in enumerate(modules, 1):
-            reason = reason_of(word, j, n)
-            if reason:
-                return Refusal(number, j + 2, reason)
+    return None
+
+
+def fading_refusal(words):
+    """A wrong double is named at its high half."""
+    factor, limit = w.read_fading(words)
+    if w.value(words[1]):
+        return Refusal(22, 1, "spare bits are set")
+    if not 0 <= factor <= 1 or math.copysign(1, factor) < 0:
+        why = ": minus zero counts as negative" if factor == 0 else ""
+        return Refusal(22, 2, f"the fading factor is {factor}, not within 0 to 1{why}")
+    if not 0 < limit <= 1_000_000:
+        return Refusal(22, 4, f"the fading limit is {limit}, not above 0 and at most 1,000,000")
     return None
 
 
@@ -92,8 +115,7 @@ def mark_reason(word, own, n):
 
 
 def run_refusal(words):
-    n = w.read_head(words[0]).modules
-    first = n + 3
+    n, first = w.read_head(words[0]).modules, w.setup_length(words)
     if len(words) == first:
         return Refusal(14, first, "the cast is missing")
     reason = cast_reason(words[first], n)

@@ -2,14 +2,15 @@
 
 from collections import namedtuple
 
-# first and last round; cells for each module; kept and differ for the two strips; events by sender
-Column = namedtuple("Column", "first last cells kept differ events")
+# first and last round; cells for each module; kept and differ for the two strips; events by sender; with fading, the scores that the
+# judges give each module after the last round
+Column = namedtuple("Column", "first last cells kept differ events scores", defaults=[()])
 
 LEAST_RANGE = 3    # two rounds alike are drawn as they are
 
 
 def columns(account, first=1, last=None):
-    return [drawn for column in alike(account, first, last) for drawn in unfolded(column)]
+    return [with_scores(account, drawn) for column in alike(account, first, last) for drawn in unfolded(column)]
 
 
 def alike(account, first, last):
@@ -33,6 +34,13 @@ def unfolded(column):
     if column.last - column.first + 1 >= LEAST_RANGE:
         return [column]
     return [column._replace(first=number, last=number) for number in range(column.first, column.last + 1)]
+
+
+def with_scores(account, column):
+    """Scores begin no column: after a charge they fade in every round."""
+    if not account.scores:
+        return column
+    return column._replace(scores=tuple(account.scores.at(column.last, module) for module in range(1, account.n + 1)))
 
 
 def label(column):

@@ -27,9 +27,12 @@ def readable_words(words, refused):
     """How many words of a refused script have a readable form: those before the refused one, and no lie without its told word."""
     if refused.number in (1, 2, 3, 16):
         return 0
+    if refused.number == 22:
+        # one line holds the five words of the fading form
+        return 1
     if refused.number != 14:
         return refused.index
-    items = list(w.run_items(words, w.read_head(words[0]).modules + 4))
+    items = list(w.run_items(words, w.setup_length(words) + 1))
     cut = bool(items) and w.kind(items[-1][1]) == w.LIE and items[-1][2] is None
     return len(words) - cut
 
@@ -39,14 +42,18 @@ def setup_lines(words):
         return []
     return_limit, _, n = w.read_head(words[0])
     lines = [f"modules {n}"]
-    lines += [f"penalty limit {w.value(word)}" for word in words[1:2]]
-    lines += [f"reward limit {w.value(word)}" for word in words[2:3]]
+    if w.fades(words):
+        # the shortest decimals that are read back as the same bits
+        lines.append("fading factor {!r} limit {!r}".format(*w.read_fading(words)))
+    else:
+        lines += [f"penalty limit {w.value(word)}" for word in words[1:2]]
+        lines += [f"reward limit {w.value(word)}" for word in words[2:3]]
     lines += [f"return limit {return_limit}"] if return_limit else []
-    for word in words[3:n + 3]:
+    for word in words[w.modules_at(words)]:
         module = w.read_module(word)
         mark = " mark" if module.mark else ""
         lines.append(f"module {module.number} place {module.place} criticality {module.criticality}{mark}")
-    lines += [f"cast {modules_text(w.mask(word), n)}" for word in words[n + 3:n + 4]]
+    lines += [f"cast {modules_text(w.mask(word), n)}" for word in words[w.setup_length(words):][:1]]
     return lines
 
 
@@ -54,7 +61,7 @@ def run_lines(words, end):
     if not end:
         return []
     n, lines, played = w.read_head(words[0]).modules, [], 0
-    for _, word, told in w.run_items(words[:end], n + 4):
+    for _, word, told in w.run_items(words[:end], w.setup_length(words) + 1):
         if w.kind(word) == w.PLAY:
             count = w.value(word)
             lines.append(f"play {count}  # {rounds_text(played + 1, played + count)}")

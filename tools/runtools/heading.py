@@ -33,12 +33,18 @@ def sentences(account, part):
     script = account.script
     if script:
         cast = ", ".join(whole(account.label(j)) for j in script.cast) or "nobody"
-        back = f", return limit {script.return_limit:,}" if script.return_limit else ""
-        about += f"; penalty limit {script.penalty_limit:,}, reward limit {script.reward_limit:,}{back}; cast: {cast}"
+        about += f"; {limits_text(script)}; cast: {cast}"
     said = [(about + ".", False), (limit_sentence(account), False), (agreement_sentence(account), bool(account.faults())),
             (leaving_sentence(account), False)]
     returned = return_sentence(account)
     return said + [(returned, False)] if returned else said
+
+
+def limits_text(script):
+    back = f", return limit {script.return_limit:,}" if script.return_limit else ""
+    if script.fading:
+        return "fading: factor {!r}, limit {!r}".format(*script.fading) + back
+    return f"penalty limit {script.penalty_limit:,}, reward limit {script.reward_limit:,}{back}"
 
 
 def limit_sentence(account):

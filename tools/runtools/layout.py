@@ -1,9 +1,11 @@
 """Measures and small texts that all parts of a picture share."""
 
+import math
+
 from . import marks, svg
 
 WIDE, NARROW = 26, 20    # width of a column of one round, and of a range of rounds
-ROW = marks.BAND + marks.JUDGED
+SCORE = 15               # height of a third band, for scores
 STRIP = 18
 MARGIN = 20
 MOST_WIDTH = 1040        # of the columns of a panel
@@ -14,7 +16,20 @@ NO_BREAK = "\u00a0"
 
 
 def width_of(column):
-    return WIDE if column.first == column.last else NARROW
+    """Wide enough for its scores."""
+    least = WIDE if column.first == column.last else NARROW
+    return max([least, *(math.ceil(svg.text_width(score_text(scores), 10)) + 4 for scores in column.scores)])
+
+
+def row_height(account):
+    return marks.BAND + marks.JUDGED + (SCORE if account.scores else 0)
+
+
+def score_text(scores):
+    """A score in at most three digits after the point; nothing for 0.0."""
+    if len(scores) > 1:
+        return "≠"
+    return min(f"{scores[0]:.3f}", repr(scores[0]), key=len) if scores[0] else ""
 
 
 def wrapped(text, width, size=12, bold=False):

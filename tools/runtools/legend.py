@@ -77,8 +77,13 @@ def entry(sample, words, x, y, width):
 
 
 def notes(account):
-    said = ["Each cell has two bands: above, what was lost or told of the module's word in this round; "
-            "below, how the module is judged in this round."]
+    above, below = "above, what was lost or told of the module's word in this round", "how the module is judged in this round"
+    if account.scores:
+        factor, limit = account.script.fading
+        said = [f"Each cell has three bands: {above}; in the middle, {below}; below, its score after this round (or range), if that is not 0.0.",
+                f"A charge adds 1.0 to a score, a good round multiplies it by {factor!r}; with a score of {limit!r} or more a module leaves the view."]
+    else:
+        said = [f"Each cell has two bands: {above}; below, {below}."]
     if account.script:
         said.append(f"What is judged in round k is round k − {2 * account.script.u + 1}, by the read places of this script.")
     else:

@@ -3,27 +3,28 @@
 from . import marks, svg
 from .columns import label
 from .disassemble import modules_text, told_text
-from .layout import MARGIN, ROW, STRIP, module_label, width_of
+from .layout import MARGIN, STRIP, module_label, row_height, score_text, width_of
 from .words import mask_of, why_unheard
 
 
 def panel_height(account, row):
-    return header_height(row) + 4 + 2 * STRIP + 4 + account.n * ROW + 20
+    return header_height(row) + 4 + 2 * STRIP + 4 + account.n * row_height(account) + 20
 
 
 def panel(account, row, left, y):
     """The panel whose columns begin at left and whose labels begin at y."""
     top = y + header_height(row) + 4
     cells_top = top + 2 * STRIP + 4
-    bottom = cells_top + account.n * ROW
+    height = row_height(account)
+    bottom = cells_top + account.n * height
     parts = row_labels(account, left, top, cells_top)
     x = left
     for column in row:
         parts.append(column_parts(account, column, x, top, cells_top))
         x += width_of(column)
-    parts.append(svg.rect(left, cells_top, x - left, account.n * ROW, fill="none", stroke="#000"))
+    parts.append(svg.rect(left, cells_top, x - left, account.n * height, fill="none", stroke="#000"))
     for j in range(1, account.n):
-        parts.append(svg.line(MARGIN + 6, cells_top + j * ROW, x, cells_top + j * ROW, stroke="#000", stroke_width=0.7))
+        parts.append(svg.line(MARGIN + 6, cells_top + j * height, x, cells_top + j * height, stroke="#000", stroke_width=0.7))
     middle = (cells_top + bottom) / 2
     parts.append(svg.text(MARGIN - 4, middle, "module", 11, text_anchor="middle",
                           transform=f"rotate(-90 {MARGIN - 4} {svg.number(middle)})"))
@@ -46,7 +47,7 @@ def row_labels(account, left, top, cells_top):
              svg.text(right, top + 13, "fault limit", 11, text_anchor="end"),
              svg.text(right, top + STRIP + 13, "agreement", 11, text_anchor="end")]
     for j in range(1, account.n + 1):
-        y = cells_top + (j - 1) * ROW
+        y = cells_top + (j - 1) * row_height(account)
         breaker = account.script is not None and j in account.script.cast
         parts.append(svg.text(right, y + (15 if breaker else 21), module_label(account, j), 12, text_anchor="end", font_weight="bold"))
         if breaker:
@@ -55,22 +56,29 @@ def row_labels(account, left, top, cells_top):
 
 
 def column_parts(account, column, x, top, cells_top):
-    width, middle = width_of(column), x + width_of(column) / 2
+    width, middle, height = width_of(column), x + width_of(column) / 2, row_height(account)
     parts = [header(column, middle, top), *strips(column, x, width, top)]
     folded = column.first != column.last
     for j, cell in enumerate(column.cells, 1):
-        y = cells_top + (j - 1) * ROW
+        y = cells_top + (j - 1) * height
         happened = column.events.get(j)
-        drawn = [svg.rect(x, y, width, ROW, fill="#fff"),
+        drawn = [svg.rect(x, y, width, height, fill="#fff"),
                  marks.judged(marks.state(cell), x, y + marks.BAND, width),
                  svg.line(x, y + marks.BAND, x + width, y + marks.BAND, stroke="#D0D0D0", stroke_width=0.7)]
         if happened:
             drawn.append(marks.events(happened, account.n, x, y, width))
+        if column.scores:
+            drawn += score_band(score_text(column.scores[j - 1]), x, y + marks.BAND + marks.JUDGED, width)
         parts.append(svg.group(drawn, cell_title(account, column, j, cell)))
-    parts.append(svg.line(x, cells_top, x, cells_top + account.n * ROW, stroke="#9A9A9A", stroke_width=0.7))
+    parts.append(svg.line(x, cells_top, x, cells_top + account.n * height, stroke="#9A9A9A", stroke_width=0.7))
     if folded:
-        parts.append(svg.rect(x, cells_top, width, account.n * ROW, fill="none", stroke="#000", stroke_width=1.5, stroke_dasharray="2 3"))
+        parts.append(svg.rect(x, cells_top, width, account.n * height, fill="none", stroke="#000", stroke_width=1.5, stroke_dasharray="2 3"))
     return svg.group(parts)
+
+
+def score_band(text, x, y, width):
+    border = svg.line(x, y, x + width, y, stroke="#D0D0D0", stroke_width=0.7)
+    return [border, svg.text(x + width / 2, y + 11, text, 10, text_anchor="middle")] if text else [border]
 
 
 def header(column, middle, top):
@@ -107,7 +115,7 @@ def broken_line(account, row, left, top, bottom):
 
 def cell_title(account, column, module, cell):
     """What a browser shows under the pointer."""
-    said = [f"round {label(column)}, module {module_label(account, module)}: {marks.state(cell)}"]
+    said = [f"round {label(column)}, module {module_label(account, module)}: {marks.state(cell)}{score_title(column, module)}"]
     found = column.events.get(module)
     if found:
         if found.losses:
@@ -117,3 +125,11 @@ def cell_title(account, column, module, cell):
             why = why_unheard(word, account.n)
             said.append(f"lie to {modules_text(receivers, account.n)} {told_text(word, account.n)}" + (f", not heard: {why}" if why else ""))
     return "\n".join(said)
+
+
+def score_title(column, module):
+    """With fading, the whole score; of a range of rounds that after the last."""
+    if not column.scores:
+        return ""
+    after = "" if column.first == column.last else f" after round {column.last}"
+    return f", score {' or '.join(map(repr, column.scores[module - 1]))}{after}"

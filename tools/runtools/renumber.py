@@ -53,7 +53,7 @@ def renumber(data, numbers):
     renumbering = renumbering_of(words, numbers)
     early = early_module(words)
     if early:
-        raise NotRenumbered(f"{place_reason(early, renumbering.n)} (word {early.number + 2})")
+        raise NotRenumbered(f"{place_reason(early, renumbering.n)} (word {w.first_module(words) + early.number - 1})")
     return w.to_bytes(renumbered_words(words, renumbering))
 
 
@@ -73,7 +73,7 @@ def renumbering_of(words, numbers):
 def early_module(words):
     """The first module of an accepted script whose read place is below N, or None."""
     n = w.read_head(words[0]).modules
-    return next((module for module in map(w.read_module, words[3:n + 3]) if module.place != n), None)
+    return next((module for module in map(w.read_module, words[w.modules_at(words)]) if module.place != n), None)
 
 
 def place_reason(module, n):
@@ -82,11 +82,11 @@ def place_reason(module, n):
 
 
 def renumbered_words(words, renumbering):
-    n = renumbering.n
-    made = words[:3] + [w.module_word(number, *w.read_module(word)[1:])
-                        for number, word in enumerate(renumbering.moved(words[3:n + 3]), 1)]
-    made.append(w.make(w.CAST, renumbering.mask(w.mask(words[n + 3]))))
-    for _, word, told in w.run_items(words, n + 4):
+    modules = renumbering.moved(words[w.modules_at(words)])
+    made = words[:w.first_module(words)] + [w.module_word(number, *w.read_module(word)[1:]) for number, word in enumerate(modules, 1)]
+    cast = w.setup_length(words)
+    made.append(w.make(w.CAST, renumbering.mask(w.mask(words[cast]))))
+    for _, word, told in w.run_items(words, cast + 1):
         if w.kind(word) == w.PLAY:
             made.append(word)
         else:
@@ -102,11 +102,10 @@ def renumbered_words(words, renumbering):
 def renumbered_text(text, numbers):
     source = assemble(text)
     renumbering = renumbering_of(source.words, numbers)
-    early = early_module(source.words)
+    early, module_lines = early_module(source.words), source.lines[w.modules_at(source.words)]
     if early:
-        raise ScriptError(source.lines[early.number + 2], place_reason(early, renumbering.n))
+        raise ScriptError(module_lines[early.number - 1], place_reason(early, renumbering.n))
     lines = [renumbered_line(line, renumbering) for line in text.split("\n")]
-    module_lines = source.lines[3:renumbering.n + 3]
     first, last = module_lines[0] - 1, module_lines[-1]
     return "\n".join([note(text, renumbering), *lines[:first], *in_turn(lines, module_lines, renumbering), *lines[last:]])
 

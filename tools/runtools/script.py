@@ -18,10 +18,11 @@ class Script:
     def __init__(self, data, names=None):
         words = w.to_words(data)
         self.return_limit, _, self.n = w.read_head(words[0])
-        self.penalty_limit = w.value(words[1])
-        self.reward_limit = w.value(words[2])
-        self.modules = [w.read_module(word) for word in words[3:self.n + 3]]
-        self.cast = w.modules_of(w.mask(words[self.n + 3]))
+        # either fading, or both limits of counts
+        self.fading = w.read_fading(words) if w.fades(words) else None
+        self.penalty_limit, self.reward_limit = (None, None) if self.fading else map(w.value, words[1:3])
+        self.modules = [w.read_module(word) for word in words[w.modules_at(words)]]
+        self.cast = w.modules_of(w.mask(words[w.setup_length(words)]))
         self.names = {number: name for name, number in (names or {}).items()}
         self.events = {}
         self.rounds = 0
@@ -30,7 +31,7 @@ class Script:
     def _read_run(self, words):
         """Events count for the next round played; a later one for the same sender and receiver replaces an earlier."""
         pending = {}
-        for _, word, told in w.run_items(words, self.n + 4):
+        for _, word, told in w.run_items(words, w.setup_length(words) + 1):
             if w.kind(word) == w.PLAY:
                 if pending:
                     self.events[self.rounds + 1] = by_sender(pending)

@@ -1,8 +1,9 @@
-"""The words of a run script: kinds, fields and masks, after document 01, with the head as document 02's E6 has it."""
+"""The words of a run script: kinds, fields and masks, after document 01, with the head as document 02's E6 has it and fading as its E9 does."""
 
+import struct
 from collections import namedtuple
 
-HEAD, PENALTY_LIMIT, REWARD_LIMIT, MODULE, BUS, CAST, LOSS, LIE, PLAY = range(1, 10)
+FADING, HEAD, PENALTY_LIMIT, REWARD_LIMIT, MODULE, BUS, CAST, LOSS, LIE, PLAY = range(10)
 
 MOST_MODULES = 16
 MOST_BYTES = 65_536
@@ -20,6 +21,7 @@ RANGES = {
 }
 
 Head = namedtuple("Head", "return_limit spare modules")
+Fading = namedtuple("Fading", "factor limit")
 ModuleWord = namedtuple("ModuleWord", "number mark place criticality")
 
 
@@ -43,6 +45,34 @@ def head_word(modules, return_limit):
 def read_head(word):
     """Q in bits 27..8, spare bits 7..5, N in bits 4..0."""
     return Head(word >> 8 & 0xF_FFFF, word >> 5 & 7, word & 31)
+
+
+def fades(words):
+    """Whether the setup that begins these words is of the fading form: its second word is of kind 0."""
+    return len(words) > 1 and kind(words[1]) == FADING
+
+
+def first_module(words):
+    """The index of module 1's word."""
+    return 6 if fades(words) else 3
+
+
+def setup_length(words):
+    return first_module(words) + read_head(words[0]).modules
+
+
+def modules_at(words):
+    """Where the modules' words stand."""
+    return slice(first_module(words), setup_length(words))
+
+
+def fading_words(fading):
+    """The kind 0 word, then factor and limit, of each the high half first."""
+    return [make(FADING, 0), *to_words(struct.pack(">dd", *fading))]
+
+
+def read_fading(words):
+    return Fading(*struct.unpack(">dd", to_bytes(words[2:6])))
 
 
 def module_word(number, mark, place, criticality):

@@ -26,11 +26,15 @@ cast none
 loss 2 to all
 play 2  # rounds 1 to 2
 """
+FADING_SHEET = SHEET.replace("penalty limit 1\nreward limit 3\n", "fading factor 0.5 limit 3.0\n")
+
+# 1.0 and 1,000,000.0, the largest factor and the largest limit, by their bits, which order doubles that are not negative
+MOST_FACTOR, MOST_LIMIT = 0x3FF00000_00000000, 0x412E8480_00000000
 
 
 def stored(*folders):
     """Name, bytes and bench output of every stored script."""
-    for folder in folders or ("vectors", "e04", "e06", "e08", "own-scripts"):
+    for folder in folders or ("vectors", "e04", "e06", "e08", "e09", "own-scripts"):
         path = os.path.join(ROOT, "harness", "data", folder)
         for name in sorted(os.listdir(path)):
             if name.endswith(".bin"):
@@ -53,6 +57,17 @@ def tool(name, *args, given=b""):
 
 def bench(data):
     return subprocess.run([BENCH], input=data, capture_output=True, check=False).stdout.decode()
+
+
+def faded(factor, limit):
+    """The bytes of the sheet with fading in place of its limits, by the bits of factor and limit."""
+    return bytes.fromhex(f"10000004 00000000 {factor:016X} {limit:016X} 40880001 41080001 41880001 42080001 60000000 7100000F 90000002")
+
+
+def random_bits(chance, most):
+    """Bits of doubles: any, those from 0 to most, and those close to the ends of both."""
+    near = [0, 1, most, 0x00100000_00000000, 0x7FF00000_00000000, 0x7FF80000_00000000, 0x80000000_00000000, 0xFFF00000_00000000]
+    return chance.choice([chance.getrandbits(64), chance.randint(0, most), (chance.choice(near) + chance.randint(-2, 2)) % 2**64])
 
 
 def printed(*rounds):

@@ -43,7 +43,8 @@ def named_events(cause, module, number, u):
 
 def without(data, loaded, left_out):
     """The bytes of a script without the events of these senders and rounds."""
-    words = w.to_words(data)[:loaded.n + 4]
+    words = w.to_words(data)
+    words = words[:w.setup_length(words) + 1]
     for number in range(1, loaded.rounds + 1):
         for sender, events in loaded.events.get(number, {}).items():
             if (sender, number) not in left_out:
@@ -87,7 +88,7 @@ class StoredRuns(unittest.TestCase):
     @needs_bench
     def test_without_the_events_that_are_named_there_is_no_charge(self):
         played = 0
-        for name, data, account in self.accounts("vectors", "e04", "e06"):
+        for name, data, account in self.accounts("vectors", "e04", "e06", "e09"):
             causes = Causes(account)
             for module, number, judges in charges(account):
                 # outside the limit another event may take the place of one that is left out

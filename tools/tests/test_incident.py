@@ -12,7 +12,7 @@ FOLDER = "examples/incident/"
 
 
 class Incident(unittest.TestCase):
-    TITLES = {"joystick": "The joystick, half heard", "returns": "The joystick comes back"}
+    TITLES = {"joystick": "The joystick, half heard", "returns": "The joystick comes back", "fading": "A loose plug and a fading score"}
 
     def account(self, name):
         output = read(root(f"{FOLDER}{name}.out")).decode()
@@ -65,6 +65,25 @@ class Incident(unittest.TestCase):
         before, after = self.account("joystick"), self.account("returns")
         self.assertEqual(before.run.rounds[:25], after.run.rounds[:25])
         self.assertEqual([account.run.rounds[25].rows[0][1] for account in (before, after)], ["11110", "11111"])
+
+    def test_with_a_fading_score_the_joystick_leaves_by_its_score_and_comes_back(self):
+        account = self.account("fading")
+        self.assertIsNone(account.first_out)
+        self.assertEqual(account.differing_rounds(), [])
+        self.assertEqual(account.absences(), [[], [], [], [], [Absence(27, 35, (1, 2, 3, 4, 5))]])
+        self.assertEqual([by_judges.get(tuple(account.judges)) for by_judges in account.charges()], [None] * 4 + [[4, 8, 12, 19, 21, 23, 25, 27, 38]])
+        # 0.75 is three quarters, so up to round 12 nothing is rounded
+        after = {3: 0, 4: 1, 5: 3 / 4, 8: 27 / 64 + 1, 12: (27 / 64 + 1) * 27 / 64 + 1, 34: 3.14087462448515, 35: 0, 37: 0, 38: 1}
+        self.assertEqual({number: account.scores.at(number, 5) for number in after}, {number: [score] for number, score in after.items()})
+        self.assertEqual([account.scores.highest(module) for module in range(1, 6)], [(0.0, 0)] * 4 + [(3.14087462448515, 27)])
+
+    @needs_bench
+    def test_with_one_bad_round_of_four_its_score_stays_below_1_73(self):
+        text = read(root(FOLDER + "fading.txt")).decode().split("play 2")[0] + "loss joystick to all\nplay 4\n" * 200
+        account = Account(read_run(bench(assemble(text).data()).splitlines(True)), script.load(text.encode(), "text"))
+        self.assertEqual(account.leavings(), [{}] * 5)
+        score, _ = account.scores.highest(5)
+        self.assertTrue(1.72 < score < 1.73, score)
 
 
 if __name__ == "__main__":

@@ -22,6 +22,7 @@ class Reading(unittest.TestCase):
         ("1 1 1111", "2 1 1111", "line 1 is round 2, module 1, but round 1, module 1 is due"),
         ("2 3 1011 1111 in", "2 3 1011 1111 out", "round 2 is 'in' and 'out' at once"),
         (SHEET_LINES, "", "no line at all"),
+        (SHEET_LINES, "refused 22 at 2\n", "the bench refused the script, 22 at word 2: the fading form is wrong"),
         (SHEET_LINES, "refused 13 at 8\n", "the bench refused the script, 13 at word 8: a lie by a module outside the cast"),
     ]
 
@@ -40,7 +41,7 @@ class Reading(unittest.TestCase):
         self.assertIn("round 2 is 'in' after an 'out'", str(caught.exception))
 
     def test_stored_outputs_are_read(self):
-        for name, _, output in stored("vectors", "e04", "e06", "e08"):
+        for name, _, output in stored("vectors", "e04", "e06", "e08", "e09"):
             with self.subTest(name):
                 if output.startswith("refused"):
                     self.assertRaises(NotBenchOutput, read_run, output.splitlines(True))

@@ -3,12 +3,12 @@ import time
 import unittest
 import xml.etree.ElementTree as xml
 
-from common import SHEET, printed, read, root, stored, tool
+from common import FADING_SHEET, SHEET, printed, read, root, stored, tool
 
 from runtools import check, marks, script, svg
 from runtools.account import Account, Cell
 from runtools.columns import columns, label
-from runtools.layout import MOST_HEIGHT, NARROW, WIDE, wrapped
+from runtools.layout import MOST_HEIGHT, NARROW, WIDE, score_text, width_of, wrapped
 from runtools.lines import read_run
 from runtools.picture import picture
 
@@ -16,6 +16,7 @@ SVG = "{http://www.w3.org/2000/svg}"
 ALL = ("1111", "1111")
 GONE = ("1110", "1110")
 SETUP = SHEET.split("cast")[0]
+FADING = FADING_SHEET.split("cast")[0]
 
 
 def account(output, text=None):
@@ -42,6 +43,20 @@ class Columns(unittest.TestCase):
     def test_a_part_of_the_run(self):
         quiet, gone = ("in", *[ALL] * 4), ("in", *[GONE] * 4)
         self.assertEqual(self.labels(*[quiet] * 5, *[gone] * 6, first=3, last=8), ["3–5", "6", "7", "8"])
+
+    def test_a_score_that_fades_begins_no_column(self):
+        quiet, charged = ("in", *[ALL] * 4), ("in", *[("1110", "1111")] * 4)
+        found = columns(account(printed(charged, *[quiet] * 4, charged), FADING + "cast none\nplay 6"))
+        self.assertEqual([label(column) for column in found], ["1", "2–5", "6"])
+        self.assertEqual([column.scores for column in found], [([0.0], [0.0], [0.0], [score]) for score in (1.0, 0.0625, 1.0625)])
+
+    def test_a_column_is_as_wide_as_its_scores(self):
+        charged = ("in", *[("1110", "1111")] * 4)
+        text = FADING.replace("0.5", "1.0").replace("3.0", "1e6") + "cast none\nplay 2"
+        found = columns(account(printed(("in", *[ALL] * 4), charged), text))
+        self.assertEqual([width_of(column) for column in found], [WIDE, WIDE])
+        wide = found[1]._replace(scores=([0.0], [999_999.875], [0.5], [1.0]))
+        self.assertGreater(width_of(wide), svg.text_width("999999.875", 10))
 
 
 class Marks(unittest.TestCase):
@@ -101,7 +116,7 @@ class Picture(unittest.TestCase):
         self.assertFalse(re.search(r"<script|<image|href|@import", drawn))
 
     def test_stored_runs(self):
-        for name, data, output in stored("vectors", "e06"):
+        for name, data, output in stored("vectors", "e06", "e09"):
             if check.refusal(data) is None:
                 with self.subTest(name):
                     loaded = script.load(data, name)
@@ -200,6 +215,43 @@ class Picture(unittest.TestCase):
         self.assertIn("Left the view: 1 in round 1, again up to round 5.", words)
         self.assertIn("Came back into the view: 1 in round 2 into the first view, in round 4 into the last, again up to round 6.", words)
 
+    def test_with_fading_a_cell_has_its_score(self):
+        charged = ("1110", "1111")
+        rounds = [charged, ALL, charged, ALL, charged, charged, GONE, GONE, ("1111", "1110"), ALL, charged, ALL]
+        text = FADING.replace("module 1", "return limit 2\nmodule 1") + f"cast none\nplay {len(rounds)}"
+        drawn = picture(account(printed(*(("in", *[row] * 4) for row in rounds)), text), "fading")
+        self.check_drawing(drawn)
+        exact = re.findall(r"<title>round ([0-9]+), module 4: ([a-z, 0]+), score ([0-9.]+)</title>", drawn)
+        self.assertEqual([state for _, state, _ in exact], ["charged", "healthy", "charged", "healthy", "charged", "charged", "leaves", "outside, judged 0",
+                                                            "outside", "returns", "charged", "healthy"])
+        scores = ["1.0", "0.5", "1.5", "0.75", "1.75", "2.75", "3.75", "3.75", "3.75", "0.0", "1.0", "0.5"]
+        self.assertEqual([score for _, _, score in exact], scores)
+        shown = [text.text for text in xml.fromstring(drawn).iter(SVG + "text") if re.fullmatch(r"[0-9]+\.[0-9]+", text.text)]
+        self.assertEqual(shown, [score for score in scores if score != "0.0"])
+        said = " ".join(" ".join(xml.fromstring(drawn).itertext()).split())
+        self.assertIn("; fading: factor 0.5, limit 3.0, return limit 2; cast: nobody.", said)
+        self.assertNotIn("penalty", said)
+        self.assertIn("Each cell has three bands:", said)
+        self.assertIn("a good round multiplies it by 0.5; with a score of 3.0 or more a module leaves the view.", said)
+
+    def test_the_score_of_a_range_is_that_after_its_last_round(self):
+        charged = ("in", *[("1110", "1111")] * 4)
+        text = FADING.replace("0.5", "0.1") + "cast none\nplay 5"
+        drawn = picture(account(printed(charged, *[("in", *[ALL] * 4)] * 4), text), "range")
+        self.assertIn("<title>round 2–5, module 4: healthy, score 0.00010000000000000003 after round 5</title>", drawn)
+        self.assertIn(">0.000</text>", drawn)
+
+    def test_scores_that_differ(self):
+        charged = ("1110", "1111")
+        drawn = picture(account(printed(("out", ALL, charged, ALL, ALL)), FADING + "cast none\nplay 1"), "differ")
+        self.assertIn("<title>round 1, module 4: healths differ, score 0.0 or 1.0</title>", drawn)
+        self.check_drawing(drawn)
+
+    def test_without_fading_nothing_is_said_of_scores(self):
+        drawn = picture(account(printed(("in", *[ALL] * 4), ("in", *[("1110", "1111")] * 4)), SETUP + "cast none\nplay 2"), "counts")
+        self.assertNotIn("score", drawn)
+        self.assertIn("Each cell has two bands:", drawn)
+
     def test_the_legend_tells_of_agreement_and_of_ranges_of_rounds(self):
         words = " ".join(xml.fromstring(picture(account(printed(*[("in", *[ALL] * 4)] * 5)), "quiet")).itertext())
         self.assertIn("row agreement: all modules agree", words)
@@ -235,6 +287,12 @@ class Picture(unittest.TestCase):
 
 
 class Texts(unittest.TestCase):
+    def test_a_score_has_at_most_three_digits_after_the_point(self):
+        cases = [(0.0, ""), (1.0, "1.0"), (0.5, "0.5"), (2.875, "2.875"), (0.0625, "0.062"), (1.4580000000000002, "1.458"), (2.9999999999999996, "3.000"),
+                 (1e-5, "0.000"), (5e-324, "0.000"), (0.1 + 0.2, "0.300"), (999_999.9375, "999999.938"), (1_000_000.0, "1000000.0")]
+        self.assertEqual([score_text([score]) for score, _ in cases], [text for _, text in cases])
+        self.assertEqual(score_text([0.0, 1.0]), "≠")
+
     def test_lines_are_broken_at_blanks_and_no_wider_than_asked(self):
         text = "7 filter-wheel in round 5; 8 nose-piece in round 6"
         for width in range(90, 400, 7):

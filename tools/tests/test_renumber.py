@@ -6,7 +6,7 @@ import re
 import tempfile
 import unittest
 
-from common import SHEET, bench, needs_bench, read, root, stored, tool
+from common import FADING_SHEET, SHEET, bench, needs_bench, read, root, stored, tool
 
 from runtools import check, script
 from runtools.assemble import ScriptError, assemble
@@ -156,6 +156,13 @@ play 2  # rounds 1 to 2
         self.assertEqual(script.load(renumber(text.encode(), [4, 3, 2, 1]), "text").return_limit, 9)
         self.assertEqual(renumber(assemble(text).data(), [4, 3, 2, 1])[:4].hex(), "10000904")
 
+    def test_the_fading_line_stays(self):
+        text = RACK.replace("penalty limit 1\nreward limit 3\n", "fading  factor 0x1.8p-1  limit 4  # as agreed\n")
+        made = renumber(text.encode(), [3, 1, 2, 4]).decode()
+        self.assertEqual(made, renumber(RACK.encode(), [3, 1, 2, 4]).decode()
+                         .replace("penalty limit 1\nreward limit 3\n", "fading  factor 0x1.8p-1  limit 4  # as agreed\n"))
+        self.assertEqual(script.load(made.encode(), "text").fading, (0.75, 4.0))
+
 
 class Words(unittest.TestCase):
     def told(self, word, numbers):
@@ -175,6 +182,11 @@ class Words(unittest.TestCase):
     def test_the_criticality_goes_with_its_module(self):
         modules = renumber(assemble(RACK).data(), [3, 1, 2, 4])[12:28].hex(" ", 4).upper()
         self.assertEqual(modules, "40880014 4108001E 4188000A 42080028")
+
+    def test_with_fading_the_modules_begin_at_word_6(self):
+        text = FADING_SHEET.replace("module 4 place 4 criticality 1", "module 4 place 4 criticality 40").replace("cast none", "cast 1")
+        words = renumber(assemble(text).data(), [4, 1, 3, 2]).hex(" ", 4).upper()
+        self.assertEqual(words, "10000004 00000000 3FE00000 00000000 40080000 00000000 40880001 41080028 41880001 42080001 60000008 7080000F 90000002")
 
 
 class Refusals(unittest.TestCase):
@@ -199,6 +211,15 @@ class Refusals(unittest.TestCase):
         with self.assertRaises(NotRenumbered) as caught:
             renumber(assemble(self.EARLY).data(), [1, 2, 4, 3])
         self.assertRegex(str(caught.exception), r"^module 3 has read place 2, .* \(word 5\)$")
+
+    def test_so_with_fading(self):
+        text = FADING_SHEET.replace("module 3 place 4", "module 3 place 2")
+        with self.assertRaises(ScriptError) as caught:
+            renumber(text.encode(), [1, 2, 4, 3])
+        self.assertEqual(caught.exception.line, 5)
+        with self.assertRaises(NotRenumbered) as caught:
+            renumber(assemble(text).data(), [1, 2, 4, 3])
+        self.assertRegex(str(caught.exception), r"^module 3 has read place 2, .* \(word 8\)$")
 
     def test_every_stored_script_is_renumbered_or_refused(self):
         refused = early = 0

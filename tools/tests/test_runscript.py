@@ -1,6 +1,8 @@
+import random
+import struct
 import unittest
 
-from common import SHEET, bench, needs_bench, read, root, stored, tool
+from common import FADING_SHEET, MOST_FACTOR, MOST_LIMIT, SHEET, bench, faded, needs_bench, random_bits, read, root, stored, tool
 
 from runtools import check, script
 from runtools.assemble import ScriptError, assemble
@@ -52,6 +54,63 @@ play 6  # rounds 8 to 13
         self.assertEqual(script.load(data, "data").return_limit, 2)
         self.assertEqual(script.load(text.encode(), "text").return_limit, 2)
 
+    def test_a_script_with_fading(self):
+        data = faded(0x3FE00000_00000000, 0x40080000_00000000)
+        self.assertEqual(disassemble(data), FADING_SHEET)
+        self.assertEqual(assemble(FADING_SHEET).data(), data)
+        for given in (data, FADING_SHEET.encode()):
+            loaded = script.load(given, "given")
+            self.assertEqual((loaded.fading, loaded.penalty_limit, loaded.reward_limit), ((0.5, 3.0), None, None))
+            self.assertEqual([module.criticality for module in loaded.modules], [1] * 4)
+            self.assertEqual((loaded.cast, loaded.rounds, loaded.events), ([], 2, {1: {2: ([1, 2, 3, 4], [])}}))
+        self.assertIsNone(script.load(SHEET.encode(), "text").fading)
+
+    def test_every_double_comes_back_bit_for_bit(self):
+        chance, accepted = random.Random(9), 0
+        for _ in range(20_000):
+            data = faded(random_bits(chance, MOST_FACTOR), random_bits(chance, MOST_LIMIT))
+            refused = check.refusal(data)
+            self.assertEqual(assemble(disassemble(data), unchecked=refused is not None).data(), data)
+            accepted += refused is None
+        self.assertGreater(accepted, 4_000)
+
+    def test_doubles_are_written_as_the_shortest_decimals(self):
+        cases = [("0.1", "0.30000000000000004"), ("0.0", "5e-324"), ("5e-324", "2.2250738585072014e-308"), ("1.0", "1000000.0"),
+                 ("0.9999999999999999", "999999.9999999999"), ("1e-05", "3.3333333333333335")]
+        for factor, limit in cases:
+            bits = struct.unpack(">QQ", struct.pack(">dd", float(factor), float(limit)))
+            self.assertIn(f"\nfading factor {factor} limit {limit}\n", disassemble(faded(*bits)))
+
+    def test_a_wrong_double_is_raw_words(self):
+        data = faded(0x80000000_00000000, 0x7FF80000_00000001)
+        self.assertEqual(disassemble(data), """\
+# refused 22 at 2: the fading factor is -0.0, not within 0 to 1: minus zero counts as negative
+# this text assembles with --unchecked only
+modules 4
+word 0x00000000
+word 0x80000000  # refused 22 at 2
+word 0x00000000
+word 0x7FF80000
+word 0x00000001
+word 0x40880001
+word 0x41080001
+word 0x41880001
+word 0x42080001
+word 0x60000000
+word 0x7100000F
+word 0x90000002
+""")
+
+    def test_what_is_refused_behind_the_fading_form_leaves_it_readable(self):
+        text = FADING_SHEET.replace("module 1", "return limit 7\nmodule 1")
+        for old, new, refusal in [("module 1 place 4", "module 1 place 5", "5 at 6"), ("module 2 place", "module 3 place", "5 at 7"), ("cast none\n", "", "12 at 10"),
+                                  ("play 2", "play 0", "12 at 12"), ("play 2", "loss 1 to all", "14 at 13")]:
+            data = assemble(text.replace(old, new), unchecked=True).data()
+            told = disassemble(data)
+            self.assertTrue(told.startswith(f"# refused {refusal}: "), told)
+            self.assertIn("\nmodules 4\nfading factor 0.5 limit 3.0\nreturn limit 7\n", told)
+            self.assertEqual(assemble(told, unchecked=True).data(), data)
+
     def test_masks_of_nearly_all_modules_name_those_left_out(self):
         run = "cast all but 3\n\nloss 1 to all but 1\nloss 1 to 1 4\nlie 1 to all says 1111\nloss 2 to 3\nplay 1  # round 1\n"
         text = SHEET.split("cast")[0] + run
@@ -98,6 +157,25 @@ class Language(unittest.TestCase):
         self.assertEqual(disassemble(assemble(SHEET.replace("reward limit 3", "reward limit 3\nreturn limit 0")).data()), SHEET)
         self.assertEqual(script.load(SHEET.encode(), "text").return_limit, 0)
 
+    def doubles(self, factor, limit, **options):
+        data = assemble(FADING_SHEET.replace("factor 0.5 limit 3.0", f"factor {factor} limit {limit}"), **options).data()
+        return struct.unpack(">QQ", data[8:24])
+
+    def test_doubles_are_read_as_their_nearest(self):
+        cases = [("0.5", "3", 0x3FE0000000000000, 0x4008000000000000), ("1e-3", "1e6", 0x3F50624DD2F1A9FC, MOST_LIMIT),
+                 ("0x1.8p-1", "0x10", 0x3FE8000000000000, 0x4030000000000000), (".1", "0.30000000000000004", 0x3FB999999999999A, 0x3FD3333333333334),
+                 ("0", "5e-324", 0, 1), ("1.", "0x1p-1074", MOST_FACTOR, 1), ("+0.0", "2.2250738585072011e-308", 0, 0x000FFFFFFFFFFFFF),
+                 ("1e-400", "1000000.00000000001", 0, MOST_LIMIT), ("0.1000000000000000055511151231257827", "+1", 0x3FB999999999999A, MOST_FACTOR)]
+        for factor, limit, *bits in cases:
+            with self.subTest(factor, limit=limit):
+                self.assertEqual(list(self.doubles(factor, limit)), bits)
+
+    def test_unchecked_doubles_outside_the_limits(self):
+        self.assertEqual(self.doubles("-0.0", "-1.5", unchecked=True), (0x8000000000000000, 0xBFF8000000000000))
+        self.assertEqual(self.doubles("1e999", "-0x1p9999", unchecked=True), (0x7FF0000000000000, 0xFFF0000000000000))
+        both = FADING_SHEET.replace("module 1", "penalty limit 1\nmodule 1")
+        self.assertEqual(assemble(both, unchecked=True).data()[24:28].hex(), "20000001")
+
     def test_a_refused_script_keeps_its_return_limit(self):
         for old, new, refusal in [("play 2", "play 0", "12 at 9"), ("penalty limit 1", "penalty limit 0", "4 at 1"), ("reward limit 3", "reward limit 0", "4 at 2")]:
             data = assemble(SHEET.replace("module 1", "return limit 7\nmodule 1").replace(old, new), unchecked=True).data()
@@ -118,7 +196,7 @@ class Errors(unittest.TestCase):
         ("modules 4\n", "", 3, "must stand before this"),
         ("penalty limit 1", "penalty limit 0", 2, "the penalty limit is 0, not within 1 to 1,000,000"),
         ("penalty limit 1", "penalty 1", 2, "the form is: penalty limit P"),
-        ("penalty limit 1\n", "", 2, "here the penalty limit is due (refused 4 at 1)"),
+        ("penalty limit 1\n", "", 2, "here the penalty limit, or fading, is due (refused 4 at 1)"),
         ("reward limit 3", "reward limit 8000001", 3, "not within 1 to 8,000,000"),
         ("reward limit 3", "reward limit 3\nreturn limit 1000001", 4, "the return limit is 1000001, not within 0 to 1,000,000"),
         ("reward limit 3", "reward limit 3\nreturn limit never", 4, "'never' is no return limit"),
@@ -155,15 +233,50 @@ class Errors(unittest.TestCase):
         (SHEET, "modules 4\npenalty limit 1\n", 2, "the setup of 4 modules has 7 words"),
     ]
 
+    FADING = "factor 0.5 limit 3.0"
+    FADING_CASES = [
+        (FADING, "factor 1.5 limit 3.0", 2, "the fading factor is 1.5, not within 0 to 1 (refused 22 at 2)"),
+        (FADING, "factor 1.0000000000000002 limit 3.0", 2, "the fading factor is 1.0000000000000002, not within 0 to 1 (refused 22 at 2)"),
+        (FADING, "factor -0.0 limit 3.0", 2, "minus zero counts as negative (refused 22 at 2)"),
+        (FADING, "factor 1e999 limit 3.0", 2, "the fading factor is inf, not within 0 to 1 (refused 22 at 2)"),
+        (FADING, "factor 0.5 limit 0", 2, "the fading limit is 0.0, not above 0 and at most 1,000,000 (refused 22 at 4)"),
+        (FADING, "factor 0.5 limit 1000000.1", 2, "the fading limit is 1000000.1, not above 0 and at most 1,000,000 (refused 22 at 4)"),
+        (FADING, "factor 0.5 limit 0x1p9999", 2, "the fading limit is inf"),
+        (FADING, "factor half limit 3.0", 2, "'half' is no fading factor"),
+        (FADING, "factor 0.5 limit nan", 2, "'nan' is no fading limit"),
+        (FADING, "factor 0,5 limit 3.0", 2, "'0,5' is no fading factor"),
+        (FADING, "factor 0.5", 2, "the form is: fading factor F limit L"),
+        (FADING, "limit 3.0 factor 0.5", 2, "the form is: fading factor F limit L"),
+        (FADING, FADING + "\npenalty limit 1", 3, "fading stands in place of the penalty limit and the reward limit, and here are both"),
+        (FADING, FADING + "\nreward limit 1", 3, "fading stands in place of the penalty limit and the reward limit, and here are both"),
+        ("fading", "penalty limit 1\nfading", 3, "fading stands in place of the penalty limit and the reward limit, and here are both"),
+        (FADING, FADING + "\nfading " + FADING, 3, "here module 1 is due (refused 5 at 6)"),
+        ("modules 4\nfading " + FADING, "fading " + FADING + "\nmodules 4", 1, "a script begins with the number of modules (refused 2 at 0)"),
+        ("cast none", "return limit 5\ncast none", 7, "the return limit must stand before module 1"),
+        ("module 2 place", "module 2 factor place", 4, "'factor' cannot be a name"),
+        ("module 2 place", "module 2 fading place", 4, "'fading' cannot be a name"),
+        ("module 2 place 4 criticality 1", "module 2 place 4 criticality 1 mark", 4, "must be below 2, not 4 (refused 6 at 7)"),
+        ("module 3 place 4 criticality 1\n", "", 5, "module 4 stands where module 3 is due (refused 5 at 8)"),
+        ("play 2", "play 2\nloss 1 to all", 11, "never played (refused 14 at 14)"),
+        (FADING_SHEET.split("module 4 ")[1], "place 4 criticality 1\n", 6, "the cast is missing (refused 14 at 10)"),
+    ]
+
     def test_errors_name_the_line_and_what_is_wrong(self):
-        for old, new, line, part in self.CASES:
-            with self.subTest(part):
-                self.assertIn(old, SHEET)
-                with self.assertRaises(ScriptError) as caught:
-                    assemble(SHEET.replace(old, new))
-                self.assertIn(part, str(caught.exception))
-                self.assertEqual(caught.exception.line, line)
-                self.assertNotIn("\n", str(caught.exception))
+        for sheet, cases in ((SHEET, self.CASES), (FADING_SHEET, self.FADING_CASES)):
+            for old, new, line, part in cases:
+                with self.subTest(part):
+                    self.assertIn(old, sheet)
+                    with self.assertRaises(ScriptError) as caught:
+                        assemble(sheet.replace(old, new))
+                    self.assertIn(part, str(caught.exception))
+                    self.assertEqual(caught.exception.line, line)
+                    self.assertNotIn("\n", str(caught.exception))
+
+    def test_a_text_that_ends_within_a_setup_with_fading(self):
+        with self.assertRaises(ScriptError) as caught:
+            assemble(FADING_SHEET.split("module 2")[0])
+        self.assertEqual((caught.exception.line, str(caught.exception)),
+                         (3, "the setup of 4 modules with fading has 10 words, and the script only 7 (refused 3 at 0)"))
 
     def test_unchecked_still_wants_numbers_that_fit(self):
         for text, part in [("play 268435456", "28 bits"), ("modules 4\nloss 32 to all", "0 to 31"), ("modules 32", "5 bits"),
@@ -216,6 +329,7 @@ class Command(unittest.TestCase):
         self.assertEqual(ran.returncode, 0)
         self.assertIn(b"penalty limit 1", ran.stdout)
         self.assertIn(b"return limit 5", ran.stdout)
+        self.assertIn(b"fading factor 0.5 limit 3.0", ran.stdout)
 
     @needs_bench
     def test_the_bench_plays_what_is_assembled(self):

@@ -1,7 +1,7 @@
 import tempfile
 import unittest
 
-from common import SHEET, printed, read, root, stored, tool
+from common import FADING_SHEET, SHEET, printed, read, root, stored, tool
 
 from runtools import check, script
 from runtools.account import Account, ranges_text
@@ -14,13 +14,14 @@ def told(output, text=None):
     return summary(Account(read_run(output.splitlines(True)), loaded))
 
 
-def told_of(name):
-    """The summary of a stored run with a return limit."""
-    data, output = (read(root(f"harness/data/e06/{name}.{end}")) for end in ("bin", "out"))
+def told_of(name, folder="e06"):
+    """The summary of a stored run, by default of one with a return limit."""
+    data, output = (read(root(f"harness/data/{folder}/{name}.{end}")) for end in ("bin", "out"))
     return summary(Account(read_run(output.decode().splitlines(True)), script.load(data, name)))
 
 
 SETUP = SHEET.split("cast")[0]
+FADING = FADING_SHEET.split("cast")[0]
 ALL = ("1111", "1111")
 
 
@@ -74,7 +75,7 @@ Left the view:
         self.assertIn("all modules, so there is no rule-follower", told(output, SETUP + "cast all\nplay 1"))
 
     def test_no_stored_run_has_a_fault(self):
-        for name, data, output in stored("vectors", "e06"):
+        for name, data, output in stored("vectors", "e06", "e09"):
             if check.refusal(data) is None:
                 with self.subTest(name):
                     account = Account(read_run(output.splitlines(True)), script.load(data, name))
@@ -138,6 +139,62 @@ Came back into the view (2.5 ms a round):
         self.assertEqual(text.count("outside\n"), 8)
         text = told(printed(("in", *[gone] * 4), *[("in", *[("1111", "0111")] * 4)] * 1000, ("in", *[ALL] * 4)))
         self.assertIn("  module 1: in round 1002, at 2,505 ms, after 1,001 rounds (2,502.5 ms) outside\n", text)
+
+    def test_with_fading_a_module_leaves_with_its_score(self):
+        # the losses of rounds 1 and 5 are judged in rounds 2 and 6, and one charge is over the limit
+        self.assertEqual(told_of("017-ok-limit-half", "e09"), """\
+6 modules, 7 rounds
+fading:    factor 0.9999999999999998, limit 0.5, return 8
+cast:      nobody
+limit:     kept in every round
+agreement: all rule-followers gave the same health and view in every round
+
+Charged (health 0 while in the view):
+  module 1: 1 charge in round 2
+    round 2: its word of round 1 was lost to everybody
+  module 2: 1 charge in round 6
+    round 6: its word of round 5 was lost to everybody
+
+Highest scores (a charge adds 1.0, a good round multiplies by 0.9999999999999998, with 0.5 or more a module leaves):
+  module 1: 1.0 in round 2
+  module 2: 1.0 in round 6
+
+Left the view:
+  module 1: in round 2 with score 1.0
+  module 2: in round 6 with score 1.0
+
+Came back into the view, with score 0.0 (2.5 ms a round):
+  nobody
+""")
+
+    def test_a_module_whose_score_fades_crosses_the_limit_and_returns(self):
+        # factor 0.9, limit 3.0, return limit 2: module 1 is charged in rounds 3 to 5, 8, 11, 13, 15, 38, 44 to 46, 53, 54 and 58
+        text = told_of("006-run-blackouts-n3-u0-cast0-fade-q", "e09")
+        self.assertIn("\n  module 1: 3.59049 in round 46\n", text)
+        self.assertIn("\nLeft the view:\n  module 1: in round 5 with score 3.0\n  module 1: in round 15 with score 3.3661\n"
+                      "  module 1: in round 46 with score 3.59049\n", text)
+        self.assertIn("\nCame back into the view, with score 0.0 (2.5 ms a round):\n"
+                      "  module 1: in round 7, at 17.5 ms, after 2 rounds (5 ms) outside\n", text)
+
+    def test_with_fading_where_nobody_is_charged(self):
+        text = told(printed(("in", *[ALL] * 4)), FADING + "cast none\nplay 1")
+        self.assertIn("\nfading:    factor 0.5, limit 3.0\n", text)
+        self.assertIn("with 3.0 or more a module leaves):\n  nobody was charged\n\nLeft the view:\n  nobody\n", text)
+
+    def test_scores_that_differ_and_many_leavings(self):
+        charged, gone = ("1110", "1111"), ("1110", "1110")
+        setup = FADING.replace("3.0", "1.0")
+        text = told(printed(("out", ALL, charged, ALL, ALL), ("out", *[gone] * 4)), setup + "cast none\nplay 2")
+        self.assertIn("  module 4: in round 2 with scores from 1.0 to 2.0\n", text)
+        text = told(printed(*[("in", *[gone] * 4), ("in", *[ALL] * 4)] * 20), setup.replace("module 1", "return limit 1\nmodule 1") + "cast none\nplay 40")
+        self.assertEqual(text.count(" with score 1.0\n"), 8)
+        self.assertIn("  module 4: in round 15 with score 1.0\n  module 4: 12 times more, up to round 39\n", text)
+        text = told(printed(("out", ALL, gone, ALL, ALL)), setup + "cast none\nplay 1")
+        self.assertIn("  module 4: in round 1 with score 1.0, from the view of 2 only\n", text)
+
+    def test_a_script_whose_limit_the_run_did_not_have(self):
+        text = told(printed(("in", *[("1110", "1110")] * 4)), FADING + "cast none\nplay 1")
+        self.assertIn("  module 4: in round 1 with score 1.0, below the limit (is it the script of this run?)\n", text)
 
     def test_ranges(self):
         self.assertEqual(ranges_text([2, 5, 6, 7, 9]), "2, 5 to 7, 9")

@@ -20,7 +20,7 @@ import mustfail
 CRATES = os.path.join(ROOT, "crates")
 LOGS = os.path.join(ROOT, "target", "must-fail")
 # crates whose functions the table lists; nothing is built on bench, and agreement has no code
-LISTED = ("words", "setup", "vote", "rules", "image", "presence", "calls", "page", "script", "text", "bus", "backplane", "scanlock", "lockcalls")
+LISTED = ("words", "doubles", "setup", "vote", "rules", "accounts", "image", "presence", "calls", "page", "script", "text", "bus", "backplane", "scanlock", "lockcalls")
 # set by the gate, which has tried every edit before it runs these tests
 IN_GATE = "GIRMAUT_GATE" in os.environ
 
@@ -44,7 +44,7 @@ def functions(source):
     for number, line in enumerate(lines):
         opened = re.match(r"impl (\w+)", line)
         struct = opened[1] if opened else None if line.startswith("}") else struct
-        head = re.match(r'(\s*)(pub )?(extern "C" )?fn (\w+)', line)
+        head = re.match(r'(\s*)(pub )?(?:pub\(crate\) )?(extern "C" )?fn (\w+)', line)
         if head:
             last = next(k for k in range(number, len(lines)) if lines[k] == head[1] + "}")
             body = next((k for k in range(number, last) if lines[k].rstrip().endswith("{")), last)
@@ -54,27 +54,27 @@ def functions(source):
 
 
 def reachable(crate):
-    """The functions that can be called from outside their crate, by name: C's calls, public ones of public files or passed on by `pub use`, and
-    public ones of public structs."""
+    """The functions that can be called from outside their crate, by name: C's calls, public ones of the crate's first file, of public files or
+    passed on by `pub use`, and public ones of public structs."""
     files = sources(crate)
-    open_files = re.findall(r"^pub mod (\w+)", files["lib"], re.M)
+    open_files = ["lib", *re.findall(r"^pub mod (\w+)", files["lib"], re.M)]
     passed_on = re.findall(r"^pub use (\w+)::(\w+);", files["lib"], re.M)
     open_structs = re.findall(r"^pub (?:struct|enum) (\w+)", "\n".join(files.values()), re.M)
     for module, source in files.items():
         for f in functions(source):
             open_here = f.struct in open_structs if f.struct else module in open_files or (module, f.name) in passed_on
             if f.exported or f.public and open_here:
-                yield f"{f.struct or module}::{f.name}", f
+                yield f"{f.struct or module}::{f.name}".removeprefix("lib::"), f
 
 
 def called_from_another_crate(crate, name, crates=None):
     """Whether the code of another crate calls a function of this one."""
-    owner, function = name.split("::")
+    owner, _, function = name.rpartition("::")
     free = rf"\b{crate}::(?:{owner}::)?{function}\b"
     method = rf"(?:\b{owner}::|\.){function}\("
     for other in crates or os.listdir(CRATES):
         for source in sources(other).values() if other != crate else ():
-            if re.search(free, source) or owner[0].isupper() and re.search(rf"\b{crate}::", source) and re.search(method, source):
+            if re.search(free, source) or owner[:1].isupper() and re.search(rf"\b{crate}::", source) and re.search(method, source):
                 return True
     return False
 
@@ -115,9 +115,10 @@ def slips(crate, content):
 
 
 def name_of(crate, module, struct, name):
-    """How the prover names a function: a struct belongs to the file that declares it, which for most is the crate's first."""
+    """How the prover names a function: one of the crate's first file by its name alone; a struct belongs to the file that declares it, which for
+    most is the crate's first."""
     if not struct:
-        return name if module == "main" else f"{module}::{name}"
+        return name if module in ("lib", "main") else f"{module}::{name}"
     declared = re.search(rf"^(pub )?(struct|enum) {struct}\b", text(CRATES, crate, "src", module + ".rt"), re.M)
     inside = declared and module not in ("lib", "main")
     return f"{module}::{struct}::{name}" if inside else f"{struct}::{name}"
@@ -148,7 +149,7 @@ class WrongPrograms(unittest.TestCase):
 
     def rows(self, page, title):
         part = page[page.index(title + "\n") + len(title):].split("\n## ")[0]
-        found = re.findall(r"^\| (\w+) \| (\w+::\w+) \| (\w+), (\w+) \|$", part, re.M)
+        found = re.findall(r"^\| (\w+) \| (\w+(?:::\w+)?) \| (\w+), (\w+) \|$", part, re.M)
         return {(crate, name): {first, second} for crate, name, first, second in found}
 
     def tried(self, crate, edit):

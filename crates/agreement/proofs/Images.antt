@@ -10,7 +10,7 @@ use Rattle.words.proofs.Truth.{cond-both}
 use Rattle.words.proofs.BitLaws.{pack-lt}
 use Rattle.words.proofs.ByteLaws.{bytes-length}
 use Rattle.words.specs.Verdict.{accepted, isAccepted}
-use Rattle.setup.specs.Setup.{setupOf}
+use Rattle.setup.specs.Setup.{frontOf, setupOf}
 use Rattle.setup.specs.Check.{setupVerdict}
 use Rattle.setup.specs.RoundTrip.{ShapedSetup}
 use Rattle.words.specs.declared.Verdict.{Verdict}
@@ -18,7 +18,7 @@ use Rattle.setup.specs.declared.Setup.{Setup}
 use Rattle.setup.proofs.SetupRoundTrip.{round-trip as setups}
 use Rattle.rules.specs.Hearing.{busWord}
 use Rattle.image.specs.Layout.{imageLength}
-use Rattle.image.specs.Check.{checkImage}
+use Rattle.image.specs.Check.{imageLengthIn, checkImage}
 use Rattle.presence.specs.Opening.{fresh, openOf}
 use Rattle.presence.specs.Step.{markOf}
 use Rattle.presence.specs.Image.{imageOf, stateOf}
@@ -29,7 +29,7 @@ use Rattle.presence.specs.declared.State.{State}
 use Rattle.presence.specs.declared.Stepped.{Stepped}
 use Rattle.calls.specs.declared.WordAnswer.{WordAnswer}
 use Rattle.presence.proofs.ValidLaws.{fits-valid}
-use Rattle.calls.proofs.ModuleCallLaws.{handed-out}
+use Rattle.calls.proofs.ModuleCallLaws.{read-sized, handed-out}
 use Rattle.presence.proofs.RoundTrip.{round-trip as states}
 use Rattle.calls.proofs.CallAnswers.{open-writes, step-writes, save-writes}
 use Rattle.calls.proofs.Refusals.{open-accepted, step-accepted, save-accepted}
@@ -146,8 +146,12 @@ module _ (S : Session) (setup : List ℕ) (set-up : SetUp S setup) where
       bits-below : readBits S i (suc k) < 2 ^ sizeOf image
       bits-below = subst (λ (n : ℕ). readBits S i (suc k) < 2 ^ n) (sym sized) (pack-lt (size S) _)
 
-      room : (out : List ℕ) → length out ≡ imageLength (size S) → length out ≡ imageLength (sizeOf image)
-      room out e = e ∙ ap imageLength (sym sized)
+      setup-is : setupOf image ≡ S .setup
+      unfolding stateOf
+      setup-is = ap (λ (x : State). x .setup) st-is ∙ held S ok i below k .setup
+
+      room : (out : List ℕ) → length out ≡ imageLength (frontOf (S .setup)) (size S) → length out ≡ imageLengthIn image
+      room out e = e ∙ ap (λ (s : Setup). imageLength (frontOf s) (s .n)) (sym setup-is) ∙ sym (read-sized image)
 
       told : Verdict → ℕ → WordAnswer
       told v w = record { number = v .number; index = v .index; word = cond (isAccepted v) w 0 }
@@ -176,10 +180,12 @@ module _ (S : Session) (setup : List ℕ) (set-up : SetUp S setup) where
     opens-so : Opens S setup i
     opens-so =
         let most : i + 1 ≤ sizeOf setup = omega (arith, setup-size) in
+        let room : imageLength (frontOf (S .setup)) (size S) ≡ imageLengthIn setup =
+        ap (λ (s : Setup). imageLength (frontOf s) (s .n)) (set-up .same) ∙ sym (read-sized setup)
+        in
         record {
-          alone = λ out e. open-accepted setup (i + 1) out (set-up .accepted) (omega arith) most (e ∙ ap imageLength (sym setup-size));
-          with-page = λ out page e p.
-              page-open-accepted setup (i + 1) out page (set-up .accepted) (omega arith) most (e ∙ ap imageLength (sym setup-size)) p;
+          alone = λ out e. open-accepted setup (i + 1) out (set-up .accepted) (omega arith) most (e ∙ room);
+          with-page = λ out page e p. page-open-accepted setup (i + 1) out page (set-up .accepted) (omega arith) most (e ∙ room) p;
         }
 
 agreement : (S : Session) (setup : List ℕ) → SetUp S setup → (last : ℕ) → Bound S last → (k : ℕ) → 0 < k → k ≤ last → KeptTo S k

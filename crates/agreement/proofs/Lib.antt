@@ -8,6 +8,7 @@ pub mod Meets
 pub mod Ledger
 pub mod Demand
 pub mod BackInView
+pub mod ScoresCounted
 pub mod Existence
 pub mod Images
 pub mod Stars

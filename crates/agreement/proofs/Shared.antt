@@ -6,10 +6,10 @@ use native.Mathlib.Nat.{le-refl}
 use Rattle.words.specs.Bits.{bit}
 use Rattle.words.proofs.BitLaws.{bit-ext}
 use Rattle.setup.specs.declared.Setup.{Setup}
-use Rattle.rules.specs.Account.{countersOf}
+use Rattle.accounts.specs.Round.{countersOf}
 use Rattle.presence.specs.Opening.{fresh}
 use Rattle.presence.specs.Step.{judgementFor, afterRound}
-use Rattle.rules.specs.declared.Counters.{Counters}
+use Rattle.accounts.specs.declared.Counters.{Counters}
 use Rattle.presence.specs.declared.State.{State}
 use Rattle.rules.proofs.SyndromeLaws.{health-lt}
 use Rattle.agreement.specs.Fault.{firstFollower}

@@ -28,7 +28,7 @@ module _ (S : Session) where
 
   -- After round k, of rule-followers that then hold the states st and last answered the health vectors h. The round judged is r = k - 2u - 1.
   pub record Agreement (k : ℕ) : Type 0 where
-    -- the health vector answered, every module's penalty, reward and return count, and the view are equal at all rule-followers
+    -- the health vector answered, every module's penalty, reward, score and return count, and the view are equal at all rule-followers
     pub agree : (i i′ h h′ : ℕ) (st st′ : State) → RuleFollower S i → RuleFollower S i′ → Life S i k st h → Life S i′ k st′ h′
         → (h ≡ h′) × (st .counters ≡ st′ .counters)
     -- whoever is unheard in r has health 0 at every rule-follower

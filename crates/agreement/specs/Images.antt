@@ -7,7 +7,7 @@ use mathlib.Core.Logic.{_≢_}
 use mathlib.Core.List.{List}
 use lib.ListN.{length}
 use Rattle.words.specs.Bits.{bit, full}
-use Rattle.setup.specs.Setup.{setupOf}
+use Rattle.setup.specs.Setup.{setupOf, frontOf}
 use Rattle.setup.specs.Check.{checkSetup}
 use Rattle.image.specs.Layout.{imageLength}
 use Rattle.presence.specs.Image.{imageOf, stateOf}
@@ -50,8 +50,8 @@ pub record SetUp (S : Session) (setup : List ℕ) : Type 0 where
 
 -- An opening into an output of the right length is accepted, without a page and with one.
 pub record Opens (S : Session) (setup : List ℕ) (i : ℕ) : Type 0 where
-  pub alone : (out : List ℕ) → length out ≡ imageLength (size S) → openCall setup (i + 1) out .answer .number ≡ 0
-  pub with-page : (out page : List ℕ) → length out ≡ imageLength (size S) → length page ≡ 64
+  pub alone : (out : List ℕ) → length out ≡ imageLength (frontOf (S .setup)) (size S) → openCall setup (i + 1) out .answer .number ≡ 0
+  pub with-page : (out page : List ℕ) → length out ≡ imageLength (frontOf (S .setup)) (size S) → length page ≡ 64
       → pageOpenCall setup (i + 1) out page .call .answer .number ≡ 0
 
 -- Of an image in a life after k steps: it holds the state of a life, in its one form, and what is done next with it is accepted.
@@ -59,12 +59,12 @@ pub record Kept (S : Session) (i k : ℕ) (image : List ℕ) (h : ℕ) : Type 0 
   pub life : Life S i k (stateOf image) h
   pub one-form : image ≡ imageOf (stateOf image)
   -- the next step into an output of the right length, without a page and with one
-  pub stepped : (out : List ℕ) → length out ≡ imageLength (size S)
+  pub stepped : (out : List ℕ) → length out ≡ imageLength (frontOf (S .setup)) (size S)
       → stepCall image (readBytes S i (suc k)) (readBits S i (suc k)) out .answer .number ≡ 0
-  pub page-stepped : (out page : List ℕ) → length out ≡ imageLength (size S) → length page ≡ 64
+  pub page-stepped : (out page : List ℕ) → length out ≡ imageLength (frontOf (S .setup)) (size S) → length page ≡ 64
       → pageStepCall image (readBytes S i (suc k)) (readBits S i (suc k)) out page .call .answer .number ≡ 0
   -- saving writes the same bytes
-  pub saved : (out : List ℕ) → length out ≡ imageLength (size S) → (saveCall image out .answer .number ≡ 0) × (saveCall image out .out ≡ image)
+  pub saved : (out : List ℕ) → length out ≡ imageLength (frontOf (S .setup)) (size S) → (saveCall image out .answer .number ≡ 0) × (saveCall image out .out ≡ image)
   -- The word that presence_outgoing gives is the one handed out in step k, of which `sent` and `Bound` speak: a caller who puts it on the bus
   -- in its round has met what binds a rule-follower.
   pub outgoing : outgoingCall image ≡ record { number = 0; index = 0; word = handed S i k }

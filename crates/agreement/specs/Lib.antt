@@ -7,3 +7,4 @@ pub mod Existence
 pub mod Ledger
 pub mod Images
 pub mod Stars
+pub mod ScoresCounted

@@ -14,13 +14,14 @@ use Rattle.words.specs.Array.{array}
 use Rattle.setup.specs.Setup.{setupOf}
 use Rattle.setup.specs.Check.{checkSetup}
 use Rattle.setup.specs.declared.Setup.{Setup}
+use Rattle.setup.specs.declared.Limits.the-variants.{Counts}
 use Rattle.rules.specs.Hearing.{busWord, wordHeard}
 use Rattle.vote.specs.Vote.{voteOf}
 use Rattle.rules.specs.Syndrome.{judgementOf}
-use Rattle.rules.specs.Account.{countersOf}
+use Rattle.accounts.specs.Round.{countersOf}
 use Rattle.presence.specs.Opening.{fresh}
 use Rattle.rules.specs.declared.Judgement.{Judgement}
-use Rattle.rules.specs.declared.Counters.{Counters}
+use Rattle.accounts.specs.declared.Counters.{Counters}
 use Rattle.agreement.specs.Session.{Session, size, u, follows, round, wordIn, state, health, sent, Bound, kept}
 use Rattle.agreement.specs.Demand.{KeptTo}
 
@@ -64,7 +65,7 @@ sheet = setupOf sheetBytes
 -- the sheet's limits and criticality with other send marks and read places, for n modules
 abbrev pub like : ℕ → ℕ → List ℕ → Setup
 like n marks places =
-    record { n = n; q = 0; p = 1; r = 3; marks = marks; places = array n (λ j. getD places j 0); criticality = array n (λ j. 1) }
+    record { n = n; q = 0; limits = Counts 1 3; marks = marks; places = array n (λ j. getD places j 0); criticality = array n (λ j. 1) }
 
 -- the rule-breakers, as a vector; who hears whom by round, receiver and sender; and the row sent by round and sender
 abbrev pub castSession : ℕ → Setup → (ℕ → ℕ → ℕ → Bool) → (ℕ → ℕ → ℕ) → Session
@@ -164,9 +165,9 @@ deadCases =
 -- ---- * P = 1: one charge stays in, a second leaves; one charge and three good rounds clear both counters (R = 3)
 
 -- the counters after rounds with these health vectors, one after the other
-abbrev pub counts : List ℕ → Counters → Counters
-counts [] c = c
-counts (h ∷ hs) c = counts hs (countersOf sheet h c)
+abbrev pub accountsAfter : List ℕ → Counters → Counters
+accountsAfter [] c = c
+accountsAfter (h ∷ hs) c = accountsAfter hs (countersOf sheet h c)
 
 -- the counters of a fresh module
 abbrev pub freshCounters : Counters
@@ -175,10 +176,10 @@ freshCounters = fresh sheet 1 .counters
 -- By 14 module 1 alone has health 0. The view after one charge and after two; both counters after one charge and two good rounds, then three.
 abbrev pub countCases : List Case
 countCases =
-    case (digits 4 (counts (14 ∷ []) freshCounters .view)) 1111 ∷ case (digits 4 (counts (14 ∷ 14 ∷ []) freshCounters .view)) 111
-    ∷ case (getD (counts (14 ∷ 15 ∷ 15 ∷ []) freshCounters .penalty) 0 9) 1 ∷ case (getD (counts (14 ∷ 15 ∷ 15 ∷ []) freshCounters .reward) 0 9) 2
-    ∷ case (getD (counts (14 ∷ 15 ∷ 15 ∷ 15 ∷ []) freshCounters .penalty) 0 9) 0
-    ∷ case (getD (counts (14 ∷ 15 ∷ 15 ∷ 15 ∷ []) freshCounters .reward) 0 9) 0 ∷ []
+    case (digits 4 (accountsAfter (14 ∷ []) freshCounters .view)) 1111 ∷ case (digits 4 (accountsAfter (14 ∷ 14 ∷ []) freshCounters .view)) 111
+    ∷ case (getD (accountsAfter (14 ∷ 15 ∷ 15 ∷ []) freshCounters .penalty) 0 9) 1 ∷ case (getD (accountsAfter (14 ∷ 15 ∷ 15 ∷ []) freshCounters .reward) 0 9) 2
+    ∷ case (getD (accountsAfter (14 ∷ 15 ∷ 15 ∷ 15 ∷ []) freshCounters .penalty) 0 9) 0
+    ∷ case (getD (accountsAfter (14 ∷ 15 ∷ 15 ∷ 15 ∷ []) freshCounters .reward) 0 9) 0 ∷ []
 
 -- ---- * N = 4: 5000000F is heard, 5000001F and 4000000F are not
 abbrev pub wordCases : List Case

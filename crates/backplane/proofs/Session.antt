@@ -22,7 +22,7 @@ use Rattle.setup.specs.Setup.{setupOf}
 use Rattle.setup.specs.Check.{setupVerdict}
 use Rattle.setup.specs.declared.Setup.{Setup}
 use Rattle.rules.specs.Lag.{skewed}
-use Rattle.rules.specs.declared.Counters.{Counters}
+use Rattle.accounts.specs.declared.Counters.{Counters}
 use Rattle.presence.specs.Opening.{blank, openOf}
 use Rattle.presence.specs.declared.State.{State}
 use Rattle.script.specs.Check.{checkScript}

@@ -1,12 +1,12 @@
 -- A run: a script played round by round. (document 01, "What runs" and "Bench sheet")
-use Prim.Native.Nat.{ℕ, zero, suc, _+_}
+use Prim.Native.Nat.{ℕ, zero, suc}
 use mathlib.Core.Bool.{Bool, true, cond, not, _&&_}
 use mathlib.Core.List.{List}
 use lib.Dec.{ltb}
 use lib.ListN.{getD}
 use Rattle.words.specs.Word.{wordAt}
 use Rattle.words.specs.Verdict.{isAccepted}
-use Rattle.setup.specs.Setup.{sizeIn, blankSetup}
+use Rattle.setup.specs.Setup.{blankSetup}
 use Rattle.setup.specs.Check.{setupPart, readSetup}
 use Rattle.script.specs.Words.{castAt, castIn, mostRounds}
 use Rattle.script.specs.Check.{checkScript}
@@ -21,9 +21,7 @@ use Rattle.backplane.specs.declared.Started.{Started}
 
 -- before round 1 of an accepted script
 unfoldable pub begun : List ℕ → Run
-begun s =
-    let n = sizeIn (wordAt s 0) in
-    record { cursor = start n; backplane = opened (readSetup (setupPart s) .setup) (castIn (wordAt s (castAt n))) }
+begun s = record { cursor = start s; backplane = opened (readSetup (setupPart s) .setup) (castIn (wordAt s (castAt s))) }
 
 -- what is held where a script is refused: nothing to play
 unfoldable pub idle : Run

@@ -4,8 +4,8 @@ use crate::Run;
 use crate::Started;
 use script::Cursor;
 use script::Events;
+use script::cast_at;
 use script::check::check;
-use setup::check::size_at;
 use setup::part::part;
 use words::word::KIND;
 use words::word::word_at;
@@ -18,11 +18,10 @@ fn begun(s: &[u8]) -> Run
     requires { ⌜ checkScript (now s) .number ≡ 0 ⌝ }
     ensures { λ r. ⌜ r ≡ begun (now (s .entry)) ⌝ }
 {
-    let n = size_at(s);
-    let cast = word_at(s, 3 + n) % KIND;
+    let cast = word_at(s, cast_at(s)) % KIND;
     let read = setup::read::read(part(s));
     let setup = read.setup;
-    let cursor = Cursor::start(n);
+    let cursor = Cursor::start(s);
     let backplane = Backplane::open(setup, cast);
     Run { cursor, backplane }
 }

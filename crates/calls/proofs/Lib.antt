@@ -1,6 +1,9 @@
 pub mod ModuleCallLaws
+pub mod KeptLaws
 pub mod ImageStepLaws
 pub mod CallAnswers
 pub mod Refusals
+pub mod ImageOpenLaws
 pub mod OutgoingImage
 pub mod ReturnCases
+pub mod Cases

@@ -17,11 +17,12 @@ use Rattle.rules.specs.declared.Reception.{Reception}
 use Rattle.rules.specs.Syndrome.{outgoingOf}
 use Rattle.words.proofs.Truth.{cond-true, cond-false}
 use Rattle.words.specs.Verdict.{verdict, accepted, isAccepted, between, allRight}
-use Rattle.setup.specs.Setup.{sizeIn, markIn, setupOf, blankSetup}
+use Rattle.setup.specs.Layout.{frontWords}
+use Rattle.setup.specs.Limits.{fades}
+use Rattle.setup.specs.Setup.{sizeIn, markIn, fadesIn, frontIn, frontOf, setupOf}
+use Rattle.setup.proofs.BoundLaws.{read-fades}
 use Rattle.words.proofs.VerdictLaws.{between-of}
-use Rattle.setup.specs.Check.{checkSetup, readSetup}
-use Rattle.setup.specs.declared.Setup.{Setup}
-use Rattle.setup.specs.declared.SetupRead.{SetupRead}
+use Rattle.setup.specs.Check.{checkSetup}
 use Rattle.words.specs.declared.Verdict.{Verdict}
 use Rattle.image.specs.Layout.{ownAt, latestAt, earlierAt, imageLength}
 use Rattle.image.specs.Words.{ownIn, syndromeIn}
@@ -29,7 +30,6 @@ use Rattle.image.specs.Check.{imageTests, imageSize, checkImage}
 use Rattle.image.proofs.ImageAnswers.{size-fits, by-words}
 use Rattle.image.proofs.TailLaws.{ImageFits, image-pass, image-zero}
 use Rattle.presence.specs.Valid.{Valid}
-use Rattle.presence.specs.Opening.{fresh, openOf}
 use Rattle.presence.specs.Step.{markOf, outgoingFor, afterRound, acceptedStep, stepOf}
 use Rattle.presence.specs.Image.{imageOf, stateOf, roomFor}
 use Rattle.calls.specs.Calls.{answer, called, refusedCall, wrote, openCall, stepCall, saveCall, handedOut, outgoingCall, refusedCause, causeCall}
@@ -37,9 +37,7 @@ use Rattle.presence.specs.declared.State.{State}
 use Rattle.calls.specs.declared.Answer.{Answer}
 use Rattle.calls.specs.declared.WordAnswer.{WordAnswer}
 use Rattle.calls.specs.declared.CauseAnswer.{CauseAnswer}
-use Rattle.presence.specs.declared.Opened.{Opened}
 use Rattle.presence.specs.declared.Stepped.{Stepped}
-use Rattle.presence.proofs.StateStepLaws.{open-valid, open-fresh, open-passed}
 use Rattle.presence.proofs.StateRoundLaws.{not-between, is-between}
 use Rattle.presence.proofs.ImageState.{image-state, load-valid}
 use Rattle.presence.proofs.RoundTrip.{written-read}
@@ -49,30 +47,23 @@ refused-by : {v w : Verdict} (out : List ℕ) → v ≡ w → called (answer (v 
 unfolding refusedCall
 refused-by out e = ap (λ (x : Verdict). called (answer (x .number) (x .index) 0) out) e
 
--- what was opened is valid
-pub opened-valid : (s : Setup) (own : ℕ) {o : Opened} → o ≡ openOf s own → o .number ≡ 0 → Valid (o .state)
-opened-valid s own {o} e z =
-    subst (λ (x : Opened). Valid (x .state)) (sym e) (open-valid s own (ap (λ (x : Opened). x .number) (sym e) ∙ z))
+-- a setup that is read is of the form that its second word says
+pub read-front : (s : List ℕ) → frontOf (setupOf s) ≡ frontIn (wordAt s)
+unfolding setupOf
+read-front s = ap frontWords (read-fades (fadesIn (wordAt s)) (wordAt s))
 
--- of a setup within the limits
-pub opened-most : (s : Setup) (own : ℕ) {o : Opened} → o ≡ openOf s own → o .number ≡ 0 → s .n ≤ 16
-opened-most s own {o} e z = open-passed s own (ap (λ (x : Opened). x .number) (sym e) ∙ z) .0 .most
+pub read-form : (s : List ℕ) → fades (stateOf s .setup .limits) ≡ fadesIn (wordAt s)
+unfolding stateOf setupOf
+read-form s = read-fades (fadesIn (wordAt s)) (wordAt s)
 
--- which it has
-pub opened-size : (s : Setup) (own : ℕ) {o : Opened} → o ≡ openOf s own → o .number ≡ 0 → o .state .setup .n ≡ s .n
-unfolding fresh
-opened-size s own {o} e z =
-    ap (λ (x : Opened). x .state .setup .n) e
-    ∙ ap (λ (x : State). x .setup .n) (open-fresh s own (ap (λ (x : Opened). x .number) (sym e) ∙ z))
+-- an accepted image has the length of its state's image
+pub read-sized : (s : List ℕ) → imageLength (frontIn (wordAt s)) (sizeIn (wordAt s 0)) ≡ imageLength (frontOf (setupOf s)) (setupOf s .n)
+unfolding setupOf
+read-sized s = ap (λ (k : ℕ). imageLength k (sizeIn (wordAt s 0))) (sym (read-front s))
 
--- the output has room for a state of n modules, or not
-pub room-is : (st : State) {n : ℕ} (out : List ℕ) → st .setup .n ≡ n → length out ≡ imageLength n → roomFor st out ≡ true
-unfolding roomFor
-room-is st out e l = eq-eqb (length out) _ (l ∙ ap imageLength (sym e))
-
-pub room-not : (st : State) {n : ℕ} (out : List ℕ) → st .setup .n ≡ n → (length out ≡ imageLength n → ⊥) → roomFor st out ≡ false
-unfolding roomFor
-room-not st out e f = ne-eqb (length out) _ (λ l. f (l ∙ ap imageLength e))
+pub read-length : (s : List ℕ) → checkImage s .number ≡ 0 → length s ≡ imageLength (frontOf (stateOf s .setup)) (stateOf s .setup .n)
+unfolding stateOf
+read-length s z = image-pass s z .size ∙ read-sized s
 
 -- ---- the word to put on the bus
 
@@ -82,9 +73,9 @@ unfolding acceptedStep outgoingFor outgoingOf handedOut afterRound markOf
 handed-out st this causes = refl
 
 -- n is the size, own the own number; wm is the word of the module itself, we and wl are the two syndromes
-module _ (s : List ℕ) (f : ImageFits s) {n own : ℕ} (en : n ≡ sizeIn (wordAt s 0)) (eo : own ≡ ownIn (wordAt s (ownAt n))) where
-  own-is : own ≡ ownIn (wordAt s (ownAt (sizeIn (wordAt s 0))))
-  own-is = eo ∙ ap (λ (m : ℕ). ownIn (wordAt s (ownAt m))) en
+module _ (s : List ℕ) (f : ImageFits s) {n front own : ℕ} (en : n ≡ sizeIn (wordAt s 0)) (ef : front ≡ frontIn (wordAt s)) (eo : own ≡ ownIn (wordAt s (ownAt front n))) where
+  own-is : own ≡ ownIn (wordAt s (ownAt (frontIn (wordAt s)) (sizeIn (wordAt s 0))))
+  own-is = eo ∙ ap₂ (λ (k m : ℕ). ownIn (wordAt s (ownAt k m))) ef en
 
   pub own-in-range : (1 ≤ own) × (own ≤ n)
   unfolding stateOf setupOf
@@ -93,24 +84,24 @@ module _ (s : List ℕ) (f : ImageFits s) {n own : ℕ} (en : n ≡ sizeIn (word
       (omega (arith, own-is, g .first), omega (arith, own-is, g .last, en))
 
   -- the mark of a module, as its own word in the image has it
-  mark-is : bit (wordAt s (3 + own - 1)) 22 ≡ markOf (stateOf s)
+  mark-is : bit (wordAt s (front + own - 1)) 22 ≡ markOf (stateOf s)
   unfolding markOf stateOf setupOf
   mark-is =
       let r = own-in-range in
-      let i : 3 + own - 1 ≡ 3 + (own - 1) = omega (arith, r .0) in
+      let i : front + own - 1 ≡ frontIn (wordAt s) + (own - 1) = omega (arith, r .0, ef) in
       let h : own - 1 < sizeIn (wordAt s 0) = omega (arith, r .0, r .1, en) in
       ap (λ (k : ℕ). bit (wordAt s k) 22) i
-      ∙ sym (bit-pack (sizeIn (wordAt s 0)) (λ j. markIn (wordAt s (3 + j))) (own - 1) h)
-      ∙ ap (λ (k : ℕ). bit (pack (sizeIn (wordAt s 0)) (λ j. markIn (wordAt s (3 + j)))) (k - 1)) own-is
+      ∙ sym (bit-pack (sizeIn (wordAt s 0)) (λ j. markIn (wordAt s (frontIn (wordAt s) + j))) (own - 1) h)
+      ∙ ap (λ (k : ℕ). bit (pack (sizeIn (wordAt s 0)) (λ j. markIn (wordAt s (frontIn (wordAt s) + j)))) (k - 1)) own-is
 
-  pub word-made : {wm we wl r : ℕ} {mark : Bool} → wm ≡ wordAt s (3 + own - 1) → mark ≡ bit wm 22 → we ≡ syndromeIn (wordAt s (earlierAt n))
-      → wl ≡ syndromeIn (wordAt s (latestAt n)) → r ≡ outgoingOf mark we wl → r ≡ handedOut (stateOf s)
+  pub word-made : {wm we wl r : ℕ} {mark : Bool} → wm ≡ wordAt s (front + own - 1) → mark ≡ bit wm 22 → we ≡ syndromeIn (wordAt s (earlierAt front n))
+      → wl ≡ syndromeIn (wordAt s (latestAt front n)) → r ≡ outgoingOf mark we wl → r ≡ handedOut (stateOf s)
   unfolding handedOut outgoingOf stateOf
   word-made {mark = mark} em eb ee el h =
       let b : mark ≡ markOf (stateOf s) = eb ∙ ap (λ (x : ℕ). bit x 22) em ∙ mark-is in
       h
-      ∙ ap₂ (λ (x y : ℕ). busWord (cond mark x y)) (ee ∙ ap (λ (m : ℕ). syndromeIn (wordAt s (earlierAt m))) en)
-      (el ∙ ap (λ (m : ℕ). syndromeIn (wordAt s (latestAt m))) en)
+      ∙ ap₂ (λ (x y : ℕ). busWord (cond mark x y)) (ee ∙ ap₂ (λ (k m : ℕ). syndromeIn (wordAt s (earlierAt k m))) ef en)
+      (el ∙ ap₂ (λ (k m : ℕ). syndromeIn (wordAt s (latestAt k m))) ef en)
       ∙ ap (λ (x : Bool). busWord (cond x (stateOf s .earlier) (stateOf s .latest))) b
 
 module _ (image : List ℕ) {v : Verdict} (e : v ≡ checkImage image) where
@@ -128,54 +119,12 @@ module _ (image : List ℕ) {v : Verdict} (e : v ≡ checkImage image) where
       → _≡_ {A = WordAnswer} (record { number = 0; index = 0; word = w }) (outgoingCall image)
   outgoing-made z h = out-by {a = accepted} (sym (image-zero image (ap (λ (x : Verdict). x .number) (sym e) ∙ z))) h
 
--- ---- the setup that was read
-
-abbrev pub setupVerdictIn : SetupRead → Verdict
-setupVerdictIn r = verdict (r .number) (r .index)
-
-module _ (bytes : List ℕ) {r : SetupRead} (e : r ≡ readSetup bytes) where
-  pub setup-verdict : setupVerdictIn r ≡ checkSetup bytes
-  unfolding readSetup
-  setup-verdict = ap setupVerdictIn e
-
-  pub setup-read : r .number ≡ 0 → r .setup ≡ setupOf bytes
-  unfolding readSetup
-  setup-read z = ap (λ (x : SetupRead). x .setup) e ∙ cond-true (setupOf bytes) blankSetup (eq-eqb _ 0 (ap (λ (x : SetupRead). x .number) (sym e) ∙ z))
-
 -- ---- opening
 
 module _ (setup : List ℕ) (own : ℕ) (out : List ℕ) {v : Verdict} (e : v ≡ checkSetup setup) where
   pub open-bad-setup : (v .number ≡ 0 → ⊥) → called (answer (v .number) (v .index) 0) out ≡ openCall setup own out
   unfolding openCall
   open-bad-setup f = refused-by out e ∙ sym (cond-false _ _ (ap isAccepted (sym e) ∙ ne-eqb (v .number) 0 f))
-
-  module _ (z : v .number ≡ 0) {o : Opened} (h : o ≡ openOf (setupOf setup) own) where
-    inside : cond (eqb (openOf (setupOf setup) own .number) 0)
-        (cond (roomFor (openOf (setupOf setup) own .state) out) (wrote 0 (openOf (setupOf setup) own .state)) (refusedCall 9 0 out))
-        (refusedCall (openOf (setupOf setup) own .number) (openOf (setupOf setup) own .index) out)
-        ≡ openCall setup own out
-    unfolding openCall
-    inside = sym (cond-true _ _ (ap isAccepted (sym e) ∙ eq-eqb (v .number) 0 z))
-
-    pub open-refused-call : (o .number ≡ 0 → ⊥) → called (answer (o .number) (o .index) 0) out ≡ openCall setup own out
-    unfolding refusedCall
-    open-refused-call f =
-        ap (λ (x : Opened). called (answer (x .number) (x .index) 0) out) h
-        ∙ sym (cond-false _ _ (ap (λ (x : Opened). eqb (x .number) 0) (sym h) ∙ ne-eqb (o .number) 0 f)) ∙ inside
-
-    pub open-no-room : o .number ≡ 0 → roomFor (o .state) out ≡ false → called (answer 9 0 0) out ≡ openCall setup own out
-    unfolding refusedCall
-    open-no-room n f =
-        sym (cond-true _ _ (ap (λ (x : Opened). eqb (x .number) 0) (sym h) ∙ eq-eqb (o .number) 0 n)
-        ∙ cond-false _ _ (ap (λ (x : Opened). roomFor (x .state) out) (sym h) ∙ f)) ∙ inside
-
-    pub open-wrote : {r : Answer} {b : List ℕ} → r ≡ answer 0 0 0 → o .number ≡ 0 → roomFor (o .state) out ≡ true → b ≡ imageOf (o .state)
-        → called r b ≡ openCall setup own out
-    unfolding wrote
-    open-wrote q n t w =
-        ap₂ called q (w ∙ ap (λ (x : Opened). imageOf (x .state)) h)
-        ∙ sym (cond-true _ _ (ap (λ (x : Opened). eqb (x .number) 0) (sym h) ∙ eq-eqb (o .number) 0 n)
-        ∙ cond-true _ _ (ap (λ (x : Opened). roomFor (x .state) out) (sym h) ∙ t)) ∙ inside
 
 -- ---- an image that is checked
 
@@ -254,13 +203,13 @@ read-valid image h z = subst Valid (sym h) (load-valid image z)
 -- ---- an accepted image and an output of its length
 
 module _ (image out : List ℕ) (z : checkImage image .number ≡ 0) where
-  same-room : (length out ≡ length image) → roomFor (stateOf image) out ≡ true
-  unfolding roomFor stateOf setupOf
-  same-room l = eq-eqb (length out) _ (l ∙ image-pass image z .size)
+  pub same-room : (length out ≡ length image) → roomFor (stateOf image) out ≡ true
+  unfolding roomFor
+  same-room l = eq-eqb (length out) _ (l ∙ read-length image z)
 
   pub copy-no-room : (length out ≡ length image → ⊥) → roomFor (stateOf image) out ≡ false
-  unfolding roomFor stateOf setupOf
-  copy-no-room f = ne-eqb (length out) _ (λ l. f (l ∙ sym (image-pass image z .size)))
+  unfolding roomFor
+  copy-no-room f = ne-eqb (length out) _ (λ l. f (l ∙ sym (read-length image z)))
 
   -- saving copies the bytes
   pub copy-wrote : {v : Verdict} {r : Answer} {b : List ℕ} → v ≡ checkImage image → r ≡ answer 0 0 0 → ((i : ℕ) → getD image i 0 < 256)

@@ -1,26 +1,28 @@
 -- The answers of the calls in one chain: what the bytes' check has passed the struct's check passes too.
 use Prim.Native.Nat.{ℕ, _+_, _-_, _*_, _^_, _≤_, _<_}
-use mathlib.Core.Path.{_≡_, refl, sym, ap, _∙_}
+use mathlib.Core.Path.{_≡_, refl, sym, ap, ap₂, _∙_}
 use mathlib.Core.Bool.{Bool, true, false, cond, not, _&&_}
 use mathlib.Core.Logic.{⊎-elim}
-use mathlib.Core.List.{List, [], _∷_}
+use mathlib.Core.List.{List, [], _∷_, _++_}
 use lib.ListN.{length}
 use lib.Dec.{eqb, ltb}
 use borrow.Author.Tests.{eq-eqb, eqb-true, lt-ltb}
+use Rattle.words.specs.Word.{wordAt}
 use Rattle.words.specs.Count.{lowest}
 use Rattle.words.specs.Verdict.{verdict, accepted, isAccepted, between, Test, single, andThen, outcome, thenTests, firstRefusal}
 use Rattle.words.specs.declared.Verdict.{Verdict}
 use Rattle.words.proofs.Truth.{which, cond-true, cond-false, and-l, and-r, and-true, cond-both}
 use Rattle.words.proofs.VerdictLaws.{Passed, between-is, between-of, and-then-next, single-refused, tests-ok}
-use Rattle.setup.specs.Setup.{setupOf}
-use Rattle.setup.specs.Check.{headTests, wordTests, checkHead, checkWords, checkSetup, setupVerdict}
+use Rattle.setup.specs.Layout.{frontWords}
+use Rattle.setup.specs.Setup.{fadesIn, frontIn, frontOf, setupOf}
+use Rattle.setup.specs.Check.{headTests, limitTests, moduleTests, wordTests, checkHead, checkWords, checkSetup, setupVerdict}
 use Rattle.setup.specs.declared.Setup.{Setup}
 use Rattle.setup.proofs.SetupLaws.{SetupFits, fits-verdict as setup-accepted}
 use Rattle.setup.proofs.SetupRoundTrip.{read-fits}
 use Rattle.rules.specs.Hearing.{readingOf, causesOf}
 use Rattle.rules.specs.declared.Reading.{Reading}
 use Rattle.image.specs.Layout.{imageLength}
-use Rattle.image.specs.Check.{imageTests, checkImage}
+use Rattle.image.specs.Check.{imageLengthIn, tailTests, imageTests, checkImage}
 use Rattle.presence.specs.Opening.{fresh, blank, checkOpening, openOf}
 use Rattle.presence.specs.Step.{judgementFor, afterRound, refusedStep, acceptedStep, readStep, stepOf}
 use Rattle.presence.specs.Image.{stateOf, roomFor}
@@ -33,6 +35,7 @@ use Rattle.presence.proofs.ImageState.{load-valid}
 use Rattle.calls.specs.Calls.{Called, refusedCall, wrote, checkCall, openCall, stepCall, saveCall, outgoingCall, causeCall}
 use Rattle.calls.specs.Refusals.{sizeOf, hasRoom, openVerdict, stepVerdict, savingVerdict, answering, oneOf, Refusals}
 use Rattle.calls.specs.declared.CauseAnswer.{CauseAnswer}
+use Rattle.calls.proofs.ModuleCallLaws.{read-sized}
 
 -- ---- what a call does is what its verdict says
 
@@ -63,6 +66,11 @@ answered v health st out =
 
     by-refusal : isAccepted v ≡ false → answering v health st out .answer .number ≡ v .number
     by-refusal f = ap (λ (c : Called). c .answer .number) (cond-false (wrote health st) _ f)
+
+-- the room for the state that is read, by the bytes
+room-by : (image out : List ℕ) → roomFor (stateOf image) out ≡ hasRoom image out
+unfolding roomFor stateOf
+room-by image out = ap (eqb (length out)) (sym (read-sized image))
 
 -- ---- opening
 
@@ -104,28 +112,32 @@ module _ (setup : List ℕ) (own : ℕ) (out : List ℕ) where
   writes o =
       cond (eqb (o .number) 0) (cond (roomFor (o .state) out) (wrote 0 (o .state)) (refusedCall 9 0 out)) (refusedCall (o .number) (o .index) out)
 
+  fresh-room : roomFor (fresh s own) out ≡ hasRoom setup out
+  unfolding roomFor fresh
+  fresh-room = ap (eqb (length out)) (sym (read-sized setup))
+
   writes-by : (b : Bool)
       → writes (cond b (record { number = 0; index = 0; state = fresh s own }) (record { number = 7; index = 0; state = blank }))
-      ≡ cond b (cond (hasRoom (sizeOf setup) out) (wrote 0 (fresh s own)) (refusedCall 9 0 out)) (refusedCall 7 0 out)
-  unfolding writes roomFor fresh setupOf
-  writes-by true = refl
+      ≡ cond b (cond (hasRoom setup out) (wrote 0 (fresh s own)) (refusedCall 9 0 out)) (refusedCall 7 0 out)
+  unfolding writes
+  writes-by true = ap (λ (b : Bool). cond b (wrote 0 (fresh s own)) (refusedCall 9 0 out)) fresh-room
   writes-by false = refl
 
   -- the verdict by these tests
   pub open-verdict : openVerdict setup own out
-      ≡ cond (isAccepted (checkSetup setup)) (cond (between 1 (sizeOf setup) own) (cond (hasRoom (sizeOf setup) out) accepted (verdict 9 0)) (verdict 7 0))
+      ≡ cond (isAccepted (checkSetup setup)) (cond (between 1 (sizeOf setup) own) (cond (hasRoom setup out) accepted (verdict 9 0)) (verdict 7 0))
       (checkSetup setup)
   unfolding openVerdict andThen
   open-verdict =
       ap (λ (v : Verdict). cond (isAccepted (checkSetup setup)) v (checkSetup setup))
-      (two-answers 7 9 refl (between 1 (sizeOf setup) own) (hasRoom (sizeOf setup) out))
+      (two-answers 7 9 refl (between 1 (sizeOf setup) own) (hasRoom setup out))
 
   opening : openCall setup own out ≡ answering (openVerdict setup own out) 0 (fresh s own) out
   unfolding openCall writes setupOf
   opening =
       cond-then (isAccepted (checkSetup setup)) _ _ _
       (λ t. ap writes (opened-by s own (read-fits setup (eqb-true (checkSetup setup .number) 0 t))) ∙ writes-by (between 1 (sizeOf setup) own))
-      ∙ open-chain (checkSetup setup) (isAccepted (checkSetup setup)) (between 1 (sizeOf setup) own) (hasRoom (sizeOf setup) out) refl
+      ∙ open-chain (checkSetup setup) (isAccepted (checkSetup setup)) (between 1 (sizeOf setup) own) (hasRoom setup out) refl
       ∙ ap (λ (v : Verdict). answering v 0 (fresh s own) out) (sym open-verdict)
 
 -- ---- step
@@ -177,22 +189,22 @@ module _ (image read : List ℕ) (controller : ℕ) (out : List ℕ) where
   -- the verdict by these tests
   pub step-verdict : stepVerdict image read controller out
       ≡ cond (isAccepted (checkImage image))
-      (cond (hasRoom (sizeOf image) out && eqb (length read) (sizeOf image * 4)) (cond (ltb controller (2 ^ sizeOf image)) accepted (verdict 10 0)) (verdict 9 0))
+      (cond (hasRoom image out && eqb (length read) (sizeOf image * 4)) (cond (ltb controller (2 ^ sizeOf image)) accepted (verdict 10 0)) (verdict 9 0))
       (checkImage image)
   unfolding stepVerdict andThen
   step-verdict =
       ap (λ (v : Verdict). cond (isAccepted (checkImage image)) v (checkImage image))
-      (two-answers 9 10 refl (hasRoom (sizeOf image) out && eqb (length read) (sizeOf image * 4)) (ltb controller (2 ^ sizeOf image)))
+      (two-answers 9 10 refl (hasRoom image out && eqb (length read) (sizeOf image * 4)) (ltb controller (2 ^ sizeOf image)))
 
   step : stepCall image read controller out ≡ answering (stepVerdict image read controller out) (judgementFor st this .health) (afterRound st this) out
-  unfolding stepCall tells roomFor stateOf setupOf
+  unfolding stepCall tells stateOf setupOf
   step =
       cond-then (isAccepted (checkImage image)) _ _ _
       (λ t.
       let f = valid-fits st (load-valid image (eqb-true (checkImage image .number) 0 t)) in
-      ap (λ (c : Called). cond (hasRoom (sizeOf image) out) c (refusedCall 9 0 out))
+      ap₂ (λ (b : Bool) (c : Called). cond b c (refusedCall 9 0 out)) (room-by image out)
       (ap tells (stepped-by st read controller f) ∙ tells-by _ (eqb (length read) (sizeOf image * 4)) (ltb controller (2 ^ sizeOf image))))
-      ∙ step-chain (checkImage image) (isAccepted (checkImage image)) (hasRoom (sizeOf image) out) (eqb (length read) (sizeOf image * 4))
+      ∙ step-chain (checkImage image) (isAccepted (checkImage image)) (hasRoom image out) (eqb (length read) (sizeOf image * 4))
       (ltb controller (2 ^ sizeOf image)) refl
       ∙ ap (λ (v : Verdict). answering v (judgementFor st this .health) (afterRound st this) out) (sym step-verdict)
 
@@ -207,11 +219,13 @@ save-chain v true false st out e = refl
 save-chain v false b st out e = sym (cond-false _ _ e)
 
 saving : (image out : List ℕ) → saveCall image out ≡ answering (savingVerdict image out) 0 (stateOf image) out
-unfolding saveCall savingVerdict andThen roomFor stateOf setupOf
+unfolding saveCall savingVerdict andThen
 saving image out =
-    save-chain (checkImage image) (isAccepted (checkImage image)) (hasRoom (sizeOf image) out) (stateOf image) out refl
+    ap (λ (b : Bool). cond (isAccepted (checkImage image)) (cond b (wrote 0 (stateOf image)) (refusedCall 9 0 out)) (refusedCall (checkImage image .number) (checkImage image .index) out))
+    (room-by image out)
+    ∙ save-chain (checkImage image) (isAccepted (checkImage image)) (hasRoom image out) (stateOf image) out refl
     ∙ ap (λ (v : Verdict). answering (cond (isAccepted (checkImage image)) v (checkImage image)) 0 (stateOf image) out)
-    (sym (one-answer 9 (hasRoom (sizeOf image) out)))
+    (sym (one-answer 9 (hasRoom image out)))
 
 -- ---- accepted calls
 
@@ -220,36 +234,36 @@ pub both-accept : (v next : Verdict) → v .number ≡ 0 → next ≡ accepted �
 both-accept v next z e = and-then-next v next z ∙ e
 
 pub open-accepted : (setup : List ℕ) (own : ℕ) (out : List ℕ) → checkSetup setup .number ≡ 0 → 1 ≤ own → own ≤ sizeOf setup
-    → length out ≡ imageLength (sizeOf setup) → openCall setup own out .answer .number ≡ 0
+    → length out ≡ imageLengthIn setup → openCall setup own out .answer .number ≡ 0
 unfolding openVerdict Passed
 open-accepted setup own out z h l room =
     let e : openVerdict setup own out ≡ accepted =
     both-accept (checkSetup setup) _ z
-    (tests-ok (single (between 1 (sizeOf setup) own) 7 0 ∷ single (hasRoom (sizeOf setup) out) 9 0 ∷ [])
-    (λ _ _. between-of 1 (sizeOf setup) own h l, (λ _ _. eq-eqb (length out) (imageLength (sizeOf setup)) room, tt)))
+    (tests-ok (single (between 1 (sizeOf setup) own) 7 0 ∷ single (hasRoom setup out) 9 0 ∷ [])
+    (λ _ _. between-of 1 (sizeOf setup) own h l, (λ _ _. eq-eqb (length out) (imageLengthIn setup) room, tt)))
     in
     ap (λ (c : Called). c .answer .number) (opening setup own out) ∙ answered (openVerdict setup own out) 0 _ out ∙ ap (λ (v : Verdict). v .number) e
 
-pub step-accepted : (image read : List ℕ) (controller : ℕ) (out : List ℕ) → checkImage image .number ≡ 0 → length out ≡ imageLength (sizeOf image)
+pub step-accepted : (image read : List ℕ) (controller : ℕ) (out : List ℕ) → checkImage image .number ≡ 0 → length out ≡ imageLengthIn image
     → length read ≡ sizeOf image * 4 → controller < 2 ^ sizeOf image → stepCall image read controller out .answer .number ≡ 0
 unfolding stepVerdict Passed
 step-accepted image read controller out z room whole bits =
     let e : stepVerdict image read controller out ≡ accepted =
     both-accept (checkImage image) _ z
     (tests-ok
-    (single (hasRoom (sizeOf image) out && eqb (length read) (sizeOf image * 4)) 9 0 ∷ single (ltb controller (2 ^ sizeOf image)) 10 0 ∷ [])
-    (λ _ _. and-true (hasRoom (sizeOf image) out) _ (eq-eqb _ _ room) (eq-eqb _ _ whole), (λ _ _. lt-ltb controller _ bits, tt)))
+    (single (hasRoom image out && eqb (length read) (sizeOf image * 4)) 9 0 ∷ single (ltb controller (2 ^ sizeOf image)) 10 0 ∷ [])
+    (λ _ _. and-true (hasRoom image out) _ (eq-eqb _ _ room) (eq-eqb _ _ whole), (λ _ _. lt-ltb controller _ bits, tt)))
     in
     ap (λ (c : Called). c .answer .number) (step image read controller out) ∙ answered (stepVerdict image read controller out) _ _ out
     ∙ ap (λ (v : Verdict). v .number) e
 
-pub save-accepted : (image out : List ℕ) → checkImage image .number ≡ 0 → length out ≡ imageLength (sizeOf image)
+pub save-accepted : (image out : List ℕ) → checkImage image .number ≡ 0 → length out ≡ imageLengthIn image
     → saveCall image out .answer .number ≡ 0
 unfolding savingVerdict Passed
 save-accepted image out z room =
     let e : savingVerdict image out ≡ accepted =
     both-accept (checkImage image) _ z
-    (tests-ok (single (hasRoom (sizeOf image) out) 9 0 ∷ []) (λ _ _. eq-eqb (length out) (imageLength (sizeOf image)) room, tt))
+    (tests-ok (single (hasRoom image out) 9 0 ∷ []) (λ _ _. eq-eqb (length out) (imageLengthIn image) room, tt))
     in
     ap (λ (c : Called). c .answer .number) (saving image out) ∙ answered (savingVerdict image out) 0 (stateOf image) out ∙ ap (λ (v : Verdict). v .number) e
 
@@ -290,53 +304,89 @@ module _ (ns : List ℕ) where
   among-all : (ts : List Test) → Among 0 → allAmong ns ts ≡ true → Among (firstRefusal ts .number)
   among-all ts h a = among-tests accepted ts h h a
 
-  among-setup : (s : List ℕ) → Among 0 → ((fits : Bool) → allAmong ns (headTests s fits) ≡ true) → ((n : ℕ) → allAmong ns (wordTests s n) ≡ true)
-      → Among (checkSetup s .number)
-  unfolding checkSetup checkHead checkWords
-  among-setup s h0 a b = among-then _ _ (among-all (headTests s _) h0 (a _)) (among-all (wordTests s _) h0 (b _))
+  among-join : (ts us : List Test) → allAmong ns ts ≡ true → allAmong ns us ≡ true → allAmong ns (ts ++ us) ≡ true
+  unfolding allAmong
+  among-join [] us h k = k
+  among-join (t ∷ ts) us h k = and-true (oneOf ns (t .number)) _ (and-l (oneOf ns (t .number)) _ h) (among-join ts us (and-r (oneOf ns (t .number)) _ h) k)
 
-  among-image : (s : List ℕ) → Among 0 → ((fits : Bool) → allAmong ns (headTests s fits) ≡ true) → ((n : ℕ) → allAmong ns (imageTests s n) ≡ true)
-      → Among (checkImage s .number)
+  -- the numbers of the tests of a setup, and of an image, in either form
+  record Numbers (s : List ℕ) : Type 0 where
+    zero : Among 0
+    head : (fits : Bool) → allAmong ns (headTests s fits) ≡ true
+    counts : allAmong ns (limitTests false (wordAt s)) ≡ true
+    fading : allAmong ns (limitTests true (wordAt s)) ≡ true
+    modules : (front n : ℕ) → allAmong ns (moduleTests (wordAt s) front n 5 ∷ moduleTests (wordAt s) front n 6 ∷ []) ≡ true
+
+  limit-numbers : (s : List ℕ) → Numbers s → (b : Bool) → allAmong ns (limitTests b (wordAt s)) ≡ true
+  limit-numbers s h true = h .fading
+  limit-numbers s h false = h .counts
+
+  word-numbers : (s : List ℕ) → Numbers s → (n : ℕ) → allAmong ns (wordTests s n) ≡ true
+  word-numbers s h n =
+      let b = fadesIn (wordAt s) in
+      among-join (limitTests b (wordAt s)) (moduleTests (wordAt s) (frontWords b) n 5 ∷ moduleTests (wordAt s) (frontWords b) n 6 ∷ []) (limit-numbers s h b) (h .modules (frontWords b) n)
+
+  among-setup : (s : List ℕ) → Numbers s → Among (checkSetup s .number)
+  unfolding checkSetup checkHead checkWords
+  among-setup s h = among-then _ _ (among-all (headTests s _) (h .zero) (h .head _)) (among-all (wordTests s _) (h .zero) (word-numbers s h _))
+
+  among-image : (s : List ℕ) → Numbers s → ((b : Bool) (n : ℕ) → allAmong ns (tailTests b (wordAt s) n) ≡ true) → Among (checkImage s .number)
   unfolding checkImage checkHead
-  among-image s h0 a b = among-then _ _ (among-all (headTests s _) h0 (a _)) (among-all (imageTests s _) h0 (b _))
+  among-image s h tail =
+      among-then _ _ (among-all (headTests s _) (h .zero) (h .head _))
+      (among-all (imageTests s _) (h .zero) (among-join (wordTests s _) (tailTests (fadesIn (wordAt s)) (wordAt s) _) (word-numbers s h _) (tail (fadesIn (wordAt s)) _)))
 
 -- the same of what a call answers
 numbered : (ns : List ℕ) {c : Called} (v : Verdict) (health : ℕ) (st : State) (out : List ℕ) → c ≡ answering v health st out
     → oneOf ns (v .number) ≡ true → oneOf ns (c .answer .number) ≡ true
 numbered ns v health st out e h = ap (λ (c : Called). oneOf ns (c .answer .number)) e ∙ ap (oneOf ns) (answered v health st out) ∙ h
 
-setup-numbers : (setup : List ℕ) → oneOf (0 ∷ 1 ∷ 2 ∷ 3 ∷ 4 ∷ 5 ∷ 6 ∷ []) (checkCall setup .number) ≡ true
+setup-numbers : (setup : List ℕ) → oneOf (0 ∷ 1 ∷ 2 ∷ 3 ∷ 4 ∷ 5 ∷ 6 ∷ 22 ∷ []) (checkCall setup .number) ≡ true
 unfolding checkCall oneOf allAmong
-setup-numbers setup = among-setup (0 ∷ 1 ∷ 2 ∷ 3 ∷ 4 ∷ 5 ∷ 6 ∷ []) setup refl (λ _. refl) (λ _. refl)
+setup-numbers setup = among-setup (0 ∷ 1 ∷ 2 ∷ 3 ∷ 4 ∷ 5 ∷ 6 ∷ 22 ∷ []) setup (record { zero = refl; head = λ _. refl; counts = refl; fading = refl; modules = λ _ _. refl })
 
 opening-numbers : (setup : List ℕ) (own : ℕ) (out : List ℕ)
-    → oneOf (0 ∷ 1 ∷ 2 ∷ 3 ∷ 4 ∷ 5 ∷ 6 ∷ 7 ∷ 9 ∷ []) (openCall setup own out .answer .number) ≡ true
+    → oneOf (0 ∷ 1 ∷ 2 ∷ 3 ∷ 4 ∷ 5 ∷ 6 ∷ 7 ∷ 9 ∷ 22 ∷ []) (openCall setup own out .answer .number) ≡ true
 unfolding openVerdict oneOf allAmong
 opening-numbers setup own out =
-    let ns : List ℕ = 0 ∷ 1 ∷ 2 ∷ 3 ∷ 4 ∷ 5 ∷ 6 ∷ 7 ∷ 9 ∷ [] in
+    let ns : List ℕ = 0 ∷ 1 ∷ 2 ∷ 3 ∷ 4 ∷ 5 ∷ 6 ∷ 7 ∷ 9 ∷ 22 ∷ [] in
     numbered ns (openVerdict setup own out) 0 (fresh (setupOf setup) own) out (opening setup own out)
-    (among-then ns (checkSetup setup) _ (among-setup ns setup refl (λ _. refl) (λ _. refl))
-    (among-all ns (single (between 1 (sizeOf setup) own) 7 0 ∷ single (hasRoom (sizeOf setup) out) 9 0 ∷ []) refl refl))
+    (among-then ns (checkSetup setup) _ (among-setup ns setup (record { zero = refl; head = λ _. refl; counts = refl; fading = refl; modules = λ _ _. refl }))
+    (among-all ns (single (between 1 (sizeOf setup) own) 7 0 ∷ single (hasRoom setup out) 9 0 ∷ []) refl refl))
 
 step-numbers : (image read : List ℕ) (controller : ℕ) (out : List ℕ)
-    → oneOf (0 ∷ 1 ∷ 2 ∷ 3 ∷ 4 ∷ 5 ∷ 6 ∷ 7 ∷ 8 ∷ 9 ∷ 10 ∷ []) (stepCall image read controller out .answer .number) ≡ true
+    → oneOf (0 ∷ 1 ∷ 2 ∷ 3 ∷ 4 ∷ 5 ∷ 6 ∷ 7 ∷ 8 ∷ 9 ∷ 10 ∷ 22 ∷ []) (stepCall image read controller out .answer .number) ≡ true
 unfolding stepVerdict oneOf allAmong
 step-numbers image read controller out =
-    let ns : List ℕ = 0 ∷ 1 ∷ 2 ∷ 3 ∷ 4 ∷ 5 ∷ 6 ∷ 7 ∷ 8 ∷ 9 ∷ 10 ∷ [] in
+    let ns : List ℕ = 0 ∷ 1 ∷ 2 ∷ 3 ∷ 4 ∷ 5 ∷ 6 ∷ 7 ∷ 8 ∷ 9 ∷ 10 ∷ 22 ∷ [] in
     numbered ns (stepVerdict image read controller out) _ _ out (step image read controller out)
-    (among-then ns (checkImage image) _ (among-image ns image refl (λ _. refl) (λ _. refl))
-    (among-all ns (single (hasRoom (sizeOf image) out && eqb (length read) (sizeOf image * 4)) 9 0 ∷ single (ltb controller (2 ^ sizeOf image)) 10 0 ∷ []) refl refl))
+    (among-then ns (checkImage image) _ (among-image ns image (record { zero = refl; head = λ _. refl; counts = refl; fading = refl; modules = λ _ _. refl }) tails)
+    (among-all ns (single (hasRoom image out && eqb (length read) (sizeOf image * 4)) 9 0 ∷ single (ltb controller (2 ^ sizeOf image)) 10 0 ∷ []) refl refl))
+  where
+    tails : (b : Bool) (n : ℕ) → allAmong (0 ∷ 1 ∷ 2 ∷ 3 ∷ 4 ∷ 5 ∷ 6 ∷ 7 ∷ 8 ∷ 9 ∷ 10 ∷ 22 ∷ []) (tailTests b (wordAt image) n) ≡ true
+    tails true n = refl
+    tails false n = refl
 
-saving-numbers : (image out : List ℕ) → oneOf (0 ∷ 1 ∷ 2 ∷ 3 ∷ 4 ∷ 5 ∷ 6 ∷ 7 ∷ 8 ∷ 9 ∷ []) (saveCall image out .answer .number) ≡ true
+saving-numbers : (image out : List ℕ) → oneOf (0 ∷ 1 ∷ 2 ∷ 3 ∷ 4 ∷ 5 ∷ 6 ∷ 7 ∷ 8 ∷ 9 ∷ 22 ∷ []) (saveCall image out .answer .number) ≡ true
 unfolding savingVerdict oneOf allAmong
 saving-numbers image out =
-    let ns : List ℕ = 0 ∷ 1 ∷ 2 ∷ 3 ∷ 4 ∷ 5 ∷ 6 ∷ 7 ∷ 8 ∷ 9 ∷ [] in
+    let ns : List ℕ = 0 ∷ 1 ∷ 2 ∷ 3 ∷ 4 ∷ 5 ∷ 6 ∷ 7 ∷ 8 ∷ 9 ∷ 22 ∷ [] in
     numbered ns (savingVerdict image out) 0 (stateOf image) out (saving image out)
-    (among-then ns (checkImage image) _ (among-image ns image refl (λ _. refl) (λ _. refl)) (among-all ns (single (hasRoom (sizeOf image) out) 9 0 ∷ []) refl refl))
+    (among-then ns (checkImage image) _ (among-image ns image (record { zero = refl; head = λ _. refl; counts = refl; fading = refl; modules = λ _ _. refl }) tails) (among-all ns (single (hasRoom image out) 9 0 ∷ []) refl refl))
+  where
+    tails : (b : Bool) (n : ℕ) → allAmong (0 ∷ 1 ∷ 2 ∷ 3 ∷ 4 ∷ 5 ∷ 6 ∷ 7 ∷ 8 ∷ 9 ∷ 22 ∷ []) (tailTests b (wordAt image) n) ≡ true
+    tails true n = refl
+    tails false n = refl
 
-outgoing-numbers : (image : List ℕ) → oneOf (0 ∷ 1 ∷ 2 ∷ 3 ∷ 4 ∷ 5 ∷ 6 ∷ 7 ∷ 8 ∷ []) (outgoingCall image .number) ≡ true
+outgoing-numbers : (image : List ℕ) → oneOf (0 ∷ 1 ∷ 2 ∷ 3 ∷ 4 ∷ 5 ∷ 6 ∷ 7 ∷ 8 ∷ 22 ∷ []) (outgoingCall image .number) ≡ true
 unfolding outgoingCall oneOf allAmong
-outgoing-numbers image = among-image (0 ∷ 1 ∷ 2 ∷ 3 ∷ 4 ∷ 5 ∷ 6 ∷ 7 ∷ 8 ∷ []) image refl (λ _. refl) (λ _. refl)
+outgoing-numbers image =
+    let ns : List ℕ = 0 ∷ 1 ∷ 2 ∷ 3 ∷ 4 ∷ 5 ∷ 6 ∷ 7 ∷ 8 ∷ 22 ∷ [] in
+    among-image ns image (record { zero = refl; head = λ _. refl; counts = refl; fading = refl; modules = λ _ _. refl }) tails
+  where
+    tails : (b : Bool) (n : ℕ) → allAmong (0 ∷ 1 ∷ 2 ∷ 3 ∷ 4 ∷ 5 ∷ 6 ∷ 7 ∷ 8 ∷ 22 ∷ []) (tailTests b (wordAt image) n) ≡ true
+    tails true n = refl
+    tails false n = refl
 
 cause-numbers : (n controller word : ℕ) → oneOf (0 ∷ 2 ∷ 10 ∷ []) (causeCall n controller word .number) ≡ true
 unfolding causeCall oneOf

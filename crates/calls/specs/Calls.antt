@@ -37,11 +37,11 @@ refusedCall number index out = called (answer number index 0) out
 unfoldable pub wrote : ℕ → State → Called
 wrote health st = called (answer 0 0 health) (imageOf st)
 
--- setup check: 1 to 6
+-- setup check: 1 to 6 and 22
 unfoldable pub checkCall : List ℕ → Answer
 checkCall setup = let v = checkSetup setup in answer (v .number) (v .index) 0
 
--- opening: 1 to 6, 7, 9
+-- opening: 1 to 6 and 22, 7, 9
 unfoldable pub openCall : List ℕ → ℕ → List ℕ → Called
 openCall setup own out =
     let v = checkSetup setup in
@@ -51,7 +51,7 @@ openCall setup own out =
     (refusedCall (opened .number) (opened .index) out))
     (refusedCall (v .number) (v .index) out)
 
--- step: 1 to 8, 9 for the output or the read, 10
+-- step: 1 to 8 and 22, 9 for the output or the read, 10
 unfoldable pub stepCall : List ℕ → List ℕ → ℕ → List ℕ → Called
 stepCall image read controller out =
     let v = checkImage image in
@@ -63,7 +63,7 @@ stepCall image read controller out =
     (refusedCall 9 0 out))
     (refusedCall (v .number) (v .index) out)
 
--- saving: 1 to 8, 9
+-- saving: 1 to 8 and 22, 9
 unfoldable pub saveCall : List ℕ → List ℕ → Called
 saveCall image out =
     let v = checkImage image in
@@ -74,7 +74,7 @@ saveCall image out =
 unfoldable pub handedOut : State → ℕ
 handedOut st = busWord (cond (markOf st) (st .earlier) (st .latest))
 
--- the outgoing word of an image, 0 where it is refused: 1 to 8
+-- the outgoing word of an image, 0 where it is refused: 1 to 8 and 22
 unfoldable pub outgoingCall : List ℕ → WordAnswer
 outgoingCall image =
     let v = checkImage image in

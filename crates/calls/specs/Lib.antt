@@ -3,3 +3,4 @@ pub mod Refusals
 pub mod OutgoingImage
 pub mod ReturnCases
 pub mod Held
+pub mod Cases

@@ -14,8 +14,7 @@ use Rattle.setup.specs.Setup.{sizeIn, setupOf}
 use Rattle.setup.specs.Check.{checkSetup}
 use Rattle.words.specs.declared.Verdict.{Verdict}
 use Rattle.rules.specs.Hearing.{readingOf}
-use Rattle.image.specs.Layout.{imageLength}
-use Rattle.image.specs.Check.{checkImage}
+use Rattle.image.specs.Check.{imageLengthIn, checkImage}
 use Rattle.presence.specs.Opening.{fresh}
 use Rattle.presence.specs.Step.{judgementFor, afterRound}
 use Rattle.presence.specs.Image.{stateOf}
@@ -26,26 +25,26 @@ use Rattle.presence.specs.declared.State.{State}
 abbrev pub sizeOf : List ℕ → ℕ
 sizeOf s = sizeIn (wordAt s 0)
 
--- the output has the length of an image of n modules
-abbrev pub hasRoom : ℕ → List ℕ → Bool
-hasRoom n out = eqb (length out) (imageLength n)
+-- the output has the length of an image of the setup at the front of s, an image's or a setup's bytes
+abbrev pub hasRoom : List ℕ → List ℕ → Bool
+hasRoom s out = eqb (length out) (imageLengthIn s)
 
 -- ---- the answers, in their order
 
--- opening: 1 to 6 for the setup, 7 for the own number, 9 for the output
+-- opening: 1 to 6 and 22 for the setup, 7 for the own number, 9 for the output
 unfoldable pub openVerdict : List ℕ → ℕ → List ℕ → Verdict
 openVerdict setup own out =
-    andThen (checkSetup setup) (firstRefusal (single (between 1 (sizeOf setup) own) 7 0 ∷ single (hasRoom (sizeOf setup) out) 9 0 ∷ []))
+    andThen (checkSetup setup) (firstRefusal (single (between 1 (sizeOf setup) own) 7 0 ∷ single (hasRoom setup out) 9 0 ∷ []))
 
--- step: 1 to 8 for the image, 9 for the output or the read, 10 for a controller bit at N or above
+-- step: 1 to 8 and 22 for the image, 9 for the output or the read, 10 for a controller bit at N or above
 unfoldable pub stepVerdict : List ℕ → List ℕ → ℕ → List ℕ → Verdict
 stepVerdict image read controller out =
     andThen (checkImage image)
-    (firstRefusal (single (hasRoom (sizeOf image) out && eqb (length read) (sizeOf image * 4)) 9 0 ∷ single (ltb controller (2 ^ sizeOf image)) 10 0 ∷ []))
+    (firstRefusal (single (hasRoom image out && eqb (length read) (sizeOf image * 4)) 9 0 ∷ single (ltb controller (2 ^ sizeOf image)) 10 0 ∷ []))
 
--- saving: 1 to 8 for the image, 9 for the output
+-- saving: 1 to 8 and 22 for the image, 9 for the output
 unfoldable pub savingVerdict : List ℕ → List ℕ → Verdict
-savingVerdict image out = andThen (checkImage image) (firstRefusal (single (hasRoom (sizeOf image) out) 9 0 ∷ []))
+savingVerdict image out = andThen (checkImage image) (firstRefusal (single (hasRoom image out) 9 0 ∷ []))
 
 -- ---- what a call does
 
@@ -71,12 +70,12 @@ pub record Refusals : Type 0 where
   -- accepted saving writes the state that was read
   pub saving : (image out : List ℕ) → saveCall image out ≡ answering (savingVerdict image out) 0 (stateOf image) out
   -- the numbers that a call can answer
-  pub setup-numbers : (setup : List ℕ) → oneOf (0 ∷ 1 ∷ 2 ∷ 3 ∷ 4 ∷ 5 ∷ 6 ∷ []) (checkCall setup .number) ≡ true
+  pub setup-numbers : (setup : List ℕ) → oneOf (0 ∷ 1 ∷ 2 ∷ 3 ∷ 4 ∷ 5 ∷ 6 ∷ 22 ∷ []) (checkCall setup .number) ≡ true
   pub opening-numbers : (setup : List ℕ) (own : ℕ) (out : List ℕ)
-      → oneOf (0 ∷ 1 ∷ 2 ∷ 3 ∷ 4 ∷ 5 ∷ 6 ∷ 7 ∷ 9 ∷ []) (openCall setup own out .answer .number) ≡ true
+      → oneOf (0 ∷ 1 ∷ 2 ∷ 3 ∷ 4 ∷ 5 ∷ 6 ∷ 7 ∷ 9 ∷ 22 ∷ []) (openCall setup own out .answer .number) ≡ true
   pub step-numbers : (image read : List ℕ) (controller : ℕ) (out : List ℕ)
-      → oneOf (0 ∷ 1 ∷ 2 ∷ 3 ∷ 4 ∷ 5 ∷ 6 ∷ 7 ∷ 8 ∷ 9 ∷ 10 ∷ []) (stepCall image read controller out .answer .number) ≡ true
+      → oneOf (0 ∷ 1 ∷ 2 ∷ 3 ∷ 4 ∷ 5 ∷ 6 ∷ 7 ∷ 8 ∷ 9 ∷ 10 ∷ 22 ∷ []) (stepCall image read controller out .answer .number) ≡ true
   pub saving-numbers : (image out : List ℕ)
-      → oneOf (0 ∷ 1 ∷ 2 ∷ 3 ∷ 4 ∷ 5 ∷ 6 ∷ 7 ∷ 8 ∷ 9 ∷ []) (saveCall image out .answer .number) ≡ true
-  pub outgoing-numbers : (image : List ℕ) → oneOf (0 ∷ 1 ∷ 2 ∷ 3 ∷ 4 ∷ 5 ∷ 6 ∷ 7 ∷ 8 ∷ []) (outgoingCall image .number) ≡ true
+      → oneOf (0 ∷ 1 ∷ 2 ∷ 3 ∷ 4 ∷ 5 ∷ 6 ∷ 7 ∷ 8 ∷ 9 ∷ 22 ∷ []) (saveCall image out .answer .number) ≡ true
+  pub outgoing-numbers : (image : List ℕ) → oneOf (0 ∷ 1 ∷ 2 ∷ 3 ∷ 4 ∷ 5 ∷ 6 ∷ 7 ∷ 8 ∷ 22 ∷ []) (outgoingCall image .number) ≡ true
   pub cause-numbers : (n controller word : ℕ) → oneOf (0 ∷ 2 ∷ 10 ∷ []) (causeCall n controller word .number) ≡ true

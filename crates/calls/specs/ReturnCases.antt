@@ -71,7 +71,7 @@ headCases =
 abbrev pub imageCases : List Case
 imageCases =
     holds (openedImage 0x1000_0204) 18 (0xE080_0000 ∷ 0xE100_0000 ∷ 0xE180_0000 ∷ 0xE200_0000 ∷ 0xF080_0000 ∷ 0xF100_0000 ∷ 0xF180_0000 ∷ 0xF200_0000 ∷ [])
-    ++ (case (imageLength 4) (26 * 4) ∷ answers (openCall (setup 0x1000_0204) 1 (replicate 88 0) .answer) 9 0
+    ++ (case (imageLength 3 4) (26 * 4) ∷ answers (openCall (setup 0x1000_0204) 1 (replicate 88 0) .answer) 9 0
     ++ answers (saveCall (take 88 (openedImage 0x1000_0204)) out .answer) 3 0)
 
 -- ---- Q = 2: a module outside the view with health 1 for Q rounds running returns with penalty P and reward 0

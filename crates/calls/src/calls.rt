@@ -10,14 +10,19 @@ use image::image_length;
 use image::latest_in;
 use image::load_image;
 use image::own_in;
-use presence::State;
-use presence::save::save_words;
+use image::save_accounts;
+use image::save_sections;
+use setup::bounds::fades_at;
+use setup::bounds::front_words;
 use setup::check::size_at;
 use setup::layout::LEAST_MODULES;
-use setup::layout::MODULES_AT;
 use setup::layout::MOST_MODULES;
+use setup::layout::setup_words;
+use words::array::filled;
 use words::bits::bit_at;
+use words::bits::full_of;
 use words::bits::power;
+use words::word::copy_words;
 use words::word::word_at;
 ghost use mathlib.Core.Path.{_≡_};
 ghost use Rattle.image.specs.Check.{checkImage};
@@ -35,7 +40,7 @@ fn refuse(number: u32, index: u32) -> Answer
     }
 }
 
-// Numbers 1 to 6 of a setup.
+// Numbers 1 to 6 and 22 of a setup.
 #[no_mangle]
 pub extern "C" fn presence_check_setup(bytes: &[u8]) -> Answer
     ensures { λ r. ⌜ r ≡ checkCall (now (bytes .entry)) ⌝ }
@@ -44,25 +49,31 @@ pub extern "C" fn presence_check_setup(bytes: &[u8]) -> Answer
     refuse(v.number, v.index)
 }
 
-// Opens module `own` of a setup, and writes its image: 1 to 6, 7, 9.
+// Opens module `own` of a setup, and writes its image: 1 to 6 and 22, 7, 9. There is no state between, whose arrays were copied by calls of memcpy.
+// The words of the setup are copied: those of an accepted setup are in their one form.
 #[no_mangle]
 pub extern "C" fn presence_open(bytes: &[u8], own: u32, out: &mut [u8]) -> Answer
     ensures { λ r. ⌜ called r (now (out .exit)) ≡ openCall (now (bytes .entry)) own (now (out .entry)) ⌝ }
 {
-    let read = setup::read::read(bytes);
-    if read.number != 0 {
-        return refuse(read.number, read.index);
+    let found = setup::check::check(bytes);
+    if found.number != 0 {
+        return refuse(found.number, found.index);
     }
-    let setup = read.setup;
-    let opened = State::open(setup, own as usize);
-    if opened.number != 0 {
-        return refuse(opened.number, opened.index);
+    let n = size_at(bytes);
+    let fades = fades_at(bytes);
+    let front = front_words(fades);
+    if (own < 1) | (n < own as usize) {
+        return refuse(7, 0);
     }
-    let state = opened.state;
-    if out.len() != image_length(setup.n) {
+    if out.len() != image_length(front, n) {
         return refuse(9, 0);
     }
-    save_words(state, out);
+    let full = full_of(n);
+    let rows = filled(n, full);
+    let zeros = [0u32; 16];
+    copy_words(bytes, setup_words(front, n), out);
+    save_sections(fades, n, own as usize, full, full, &rows, full, full, out);
+    save_accounts(fades, n, &zeros, &zeros, &zeros, out);
     refuse(0, 0)
 }
 
@@ -74,7 +85,7 @@ fn refuse_image(image: &[u8]) -> Answer
     refuse(v.number, v.index)
 }
 
-// One step, from image to image: 1 to 8, 9 for the read or the output, 10.
+// One step, from image to image: 1 to 8 and 22, 9 for the read or the output, 10.
 #[no_mangle]
 pub extern "C" fn presence_step(
     image: &[u8],
@@ -88,24 +99,26 @@ pub extern "C" fn presence_step(
     if n == 0 {
         return refuse_image(image);
     }
+    let fades = fades_at(image);
     let mut criticality = [0u32; 16];
     let mut rows = [0u32; 16];
-    let mut penalty = [0u32; 16];
-    let mut reward = [0u32; 16];
+    let mut first = [0u32; 16];
+    let mut second = [0u32; 16];
     let mut returns = [0u32; 16];
     let part = load_image(
         image,
+        fades,
         n,
         &mut criticality,
         &mut rows,
-        &mut penalty,
-        &mut reward,
+        &mut first,
+        &mut second,
         &mut returns,
     );
     if !part.good {
         return refuse_image(image);
     }
-    if (out.len() != image_length(n)) | (read.len() != n * 4) {
+    if (out.len() != image.len()) | (read.len() != n * 4) {
         return refuse(9, 0);
     }
     if power(n) <= controller {
@@ -113,12 +126,13 @@ pub extern "C" fn presence_step(
     }
     let health = played(
         image,
+        fades,
         n,
         part,
         &criticality,
         &mut rows,
-        &mut penalty,
-        &mut reward,
+        &mut first,
+        &mut second,
         &mut returns,
         read,
         controller,
@@ -131,7 +145,7 @@ pub extern "C" fn presence_step(
     }
 }
 
-// Tests an image and writes it again, in its one form: 1 to 8, 9.
+// Tests an image and writes it again, in its one form: 1 to 8 and 22, 9.
 #[no_mangle]
 pub extern "C" fn presence_save(image: &[u8], out: &mut [u8]) -> Answer
     ensures { λ r. ⌜ called r (now (out .exit)) ≡ saveCall (now (image .entry)) (now (out .entry)) ⌝ }
@@ -153,14 +167,15 @@ fn word_in(image: &[u8]) -> u32
     ensures { λ r. ⌜ r ≡ handedOut (stateOf (now (image .entry))) ⌝ }
 {
     let n = size_at(image);
-    let own = own_in(image, n);
-    let mark = bit_at(word_at(image, MODULES_AT + own - 1), 22);
-    let earlier = earlier_in(image, n);
-    let latest = latest_in(image, n);
+    let front = front_words(fades_at(image));
+    let own = own_in(image, front, n);
+    let mark = bit_at(word_at(image, front + own - 1), 22);
+    let earlier = earlier_in(image, front, n);
+    let latest = latest_in(image, front, n);
     rules::judge::outgoing(mark, earlier, latest)
 }
 
-// The word to put on the bus, from an image: 1 to 8.
+// The word to put on the bus, from an image: 1 to 8 and 22.
 #[no_mangle]
 pub extern "C" fn presence_outgoing(image: &[u8]) -> WordAnswer
     ensures { λ r. ⌜ r ≡ outgoingCall (now (image .entry)) ⌝ }

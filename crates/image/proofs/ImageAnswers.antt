@@ -1,25 +1,26 @@
 -- What the check of a saved state answers, by what was found of its head, its length and its words.
-use mathlib.Core.Path.{_≡_, refl, ap, _∙_, sym}
+use mathlib.Core.Path.{_≡_, refl, ap, ap₂, _∙_, sym}
 use mathlib.Core.Bool.{Bool, true, false, cond, _&&_}
 use mathlib.Core.List.{List}
-use Prim.Native.Nat.{ℕ, _≤_}
+use Prim.Native.Nat.{ℕ, _/_, _%_, _≤_}
 use native.Mathlib.Omega.{arith}
 use lib.ListN.{length}
 use lib.Dec.{eqb}
 use borrow.Author.Tests.{eq-eqb, ne-eqb, eqb-true}
-use Rattle.words.specs.Word.{wordAt}
+use Rattle.words.specs.Word.{wordAt, kindUnit}
 use Rattle.words.specs.Verdict.{verdict, accepted, isAccepted, andThen, allRight, firstRefusal}
 use Rattle.words.specs.declared.Verdict.{Verdict}
 use Rattle.words.proofs.Truth.{cond-true, cond-false}
 use Rattle.words.proofs.VerdictLaws.{tests-accept, and-then-stops, and-then-goes, and-then-accepts, and-end}
 use Rattle.setup.specs.Limits.{mostReturnLimit}
-use Rattle.setup.specs.Setup.{sizeIn, returnLimitIn}
-use Rattle.setup.specs.Check.{checkHead, checkWords}
+use Rattle.setup.specs.Layout.{frontWords}
+use Rattle.setup.specs.Setup.{sizeIn, returnLimitIn, fadesIn, frontIn}
+use Rattle.setup.specs.Check.{headOk, checkHead, checkWords}
 use Rattle.setup.proofs.WordFields.{head-made}
-use Rattle.setup.proofs.SetupCheckLaws.{head-pass}
+use Rattle.setup.proofs.SetupCheckLaws.{HeadFits, head-pass, head-ok}
 use Rattle.setup.proofs.SetupAnswerLaws.{head-stays, head-short, head-goes}
 use Rattle.image.specs.Layout.{imageLength}
-use Rattle.image.specs.Check.{imageTests, checkTail, imageSize, checkImage}
+use Rattle.image.specs.Check.{imageTests, imageLengthIn, checkTail, imageSize, checkImage}
 use Rattle.image.proofs.TailLaws.{image-numbers, tests-parts}
 
 -- v is the answer of numbers 1 and 2
@@ -28,52 +29,67 @@ module _ {v : Verdict} (s : List ℕ) (e : v ≡ checkHead s true) where
   unfolding checkImage
   stays-head f = head-stays s e _ _ f
 
-  module _ {n : ℕ} (size : n ≡ sizeIn (wordAt s 0)) (z : v .number ≡ 0) where
-    pub stays-length : {r : Verdict} → (length s ≡ imageLength n → ⊥) → r ≡ verdict 3 0 → r ≡ checkImage s
-    unfolding checkImage
-    stays-length f a = head-short s e _ z (ne-eqb _ _ (rw size at f)) a
+  -- n modules, whose words stand after the first `front`, by the form of the setup
+  module _ {n front : ℕ} {b : Bool} (size : n ≡ sizeIn (wordAt s 0)) (form : b ≡ fadesIn (wordAt s)) (at : front ≡ frontWords b) (z : v .number ≡ 0) where
+    length-is : imageLength front n ≡ imageLengthIn s
+    length-is = ap₂ imageLength (at ∙ ap frontWords form) size
 
-    goes : {r : Verdict} → length s ≡ imageLength n → r ≡ firstRefusal (imageTests s n) → r ≡ checkImage s
+    pub stays-length : {r : Verdict} → (length s ≡ imageLength front n → ⊥) → r ≡ verdict 3 0 → r ≡ checkImage s
     unfolding checkImage
-    goes l a = head-goes s e _ z (eq-eqb _ _ (rw size at l)) (rw size at a)
+    stays-length f a = head-short s e _ z (ne-eqb _ _ (λ l. f (l ∙ sym length-is))) a
+
+    goes : {r : Verdict} → length s ≡ imageLength front n → r ≡ firstRefusal (imageTests s n) → r ≡ checkImage s
+    unfolding checkImage
+    goes l a = head-goes s e _ z (eq-eqb _ _ (l ∙ length-is)) (rw size at a)
 
     -- u is the answer for the setup's words, t that for the others
-    pub stays-words : {u : Verdict} → length s ≡ imageLength n → u ≡ checkWords s n → (u .number ≡ 0 → ⊥) → u ≡ checkImage s
+    pub stays-words : {u : Verdict} → length s ≡ imageLength front n → u ≡ checkWords s n → (u .number ≡ 0 → ⊥) → u ≡ checkImage s
     stays-words l a f = goes l (and-then-stops _ a f ∙ sym (tests-parts s n))
 
-    pub ends-tail : {u t : Verdict} → length s ≡ imageLength n → u ≡ checkWords s n → u .number ≡ 0 → t ≡ checkTail (wordAt s) n → t ≡ checkImage s
-    ends-tail l a q b = goes l (and-then-goes _ a q b ∙ sym (tests-parts s n))
+    pub ends-tail : {u t : Verdict} → length s ≡ imageLength front n → u ≡ checkWords s n → u .number ≡ 0 → t ≡ checkTail b (wordAt s) n → t ≡ checkImage s
+    ends-tail l a q d = goes l (and-then-goes _ a q (d ∙ ap (λ (f : Bool). checkTail f (wordAt s) n) form) ∙ sym (tests-parts s n))
 
 -- ---- the size, where head and length are right
 
 module _ (s : List ℕ) where
   abbrev headed : Bool
-  headed = isAccepted (checkHead s (eqb (length s) (imageLength (sizeIn (wordAt s 0)))))
+  headed = isAccepted (checkHead s (eqb (length s) (imageLengthIn s)))
 
-  -- by the answer r of the head and the length
-  head-is : {r : Verdict} → r ≡ andThen (checkHead s (eqb (length s) (imageLength (sizeIn (wordAt s 0))))) accepted → headed ≡ isAccepted r
-  head-is {r} e =
-      let a = checkHead s (eqb (length s) (imageLength (sizeIn (wordAt s 0)))) in
-      sym (ap isAccepted e ∙ and-then-accepts a accepted ∙ and-end (isAccepted a))
+  -- 0 where one of them is wrong
+  pub size-none : (HeadFits s → length s ≡ imageLengthIn s → ⊥) → 0 ≡ imageSize s
+  unfolding imageSize
+  size-none f = sym (cond-false _ 0 (go headed refl))
+    where
+      go : (a : Bool) → headed ≡ a → headed ≡ false
+      go false e = e
+      go true e =
+          let (h, g) = head-pass s (eqb (length s) (imageLengthIn s)) (eqb-true _ 0 e) in
+          absurd (f h (eqb-true _ _ g))
 
-  module _ {v : Verdict} (e : v ≡ checkHead s true) where
-    pub size-headless : (v .number ≡ 0 → ⊥) → 0 ≡ imageSize s
+  -- a length that the words of a right head ask for is a whole number of words
+  module _ (ok : headOk (wordAt s 0) ≡ true) (l : length s ≡ imageLengthIn s) where
+    head-there : HeadFits s
+    head-there =
+        let m = head-made (wordAt s 0) ok .0 in
+        record { whole = omega arith; room = omega (arith, m .least); head = ok; least = m .least; most = m .most }
+
+    pub size-there : sizeIn (wordAt s 0) ≡ imageSize s
     unfolding imageSize
-    size-headless f = sym (cond-false _ 0 (head-is (head-stays s e _ accepted f) ∙ ne-eqb (v .number) 0 f))
+    size-there = sym (cond-true _ 0 (ap isAccepted (head-ok s (eqb (length s) (imageLengthIn s)) head-there (eq-eqb _ _ l))))
 
-    module _ {n : ℕ} (size : n ≡ sizeIn (wordAt s 0)) (z : v .number ≡ 0) where
-      pub size-other : (length s ≡ imageLength n → ⊥) → 0 ≡ imageSize s
-      unfolding imageSize
-      size-other f = sym (cond-false _ 0 (head-is (head-short s e {r = verdict 3 0} accepted z (ne-eqb _ _ (rw size at f)) refl)))
+  -- the length by the kind of the second word
+  pub fading-length : wordAt s 1 / kindUnit ≡ 0 → imageLengthIn s ≡ imageLength 6 (sizeIn (wordAt s 0))
+  unfolding fadesIn
+  fading-length k = ap (λ (b : Bool). imageLength (frontWords b) (sizeIn (wordAt s 0))) (eq-eqb _ _ k)
 
-      pub size-there : length s ≡ imageLength n → n ≡ imageSize s
-      unfolding imageSize
-      size-there l = size ∙ sym (cond-true _ 0 (head-is (head-goes s e {r = accepted} accepted z (eq-eqb _ _ (rw size at l)) refl)))
+  pub counts-length : (wordAt s 1 / kindUnit ≡ 0 → ⊥) → imageLengthIn s ≡ imageLength 3 (sizeIn (wordAt s 0))
+  unfolding fadesIn
+  counts-length k = ap (λ (b : Bool). imageLength (frontWords b) (sizeIn (wordAt s 0))) (ne-eqb _ _ k)
 
   accepted-by : isAccepted (checkImage s) ≡ headed && allRight (imageTests s (sizeIn (wordAt s 0)))
   unfolding checkImage
   accepted-by =
-      and-then-accepts (checkHead s (eqb (length s) (imageLength (sizeIn (wordAt s 0))))) _
+      and-then-accepts (checkHead s (eqb (length s) (imageLengthIn s))) _
       ∙ ap (λ (b : Bool). headed && b) (tests-accept (imageTests s (sizeIn (wordAt s 0))) (image-numbers s (sizeIn (wordAt s 0))))
 
   -- size 0: number 1, 2 or 3
@@ -100,16 +116,16 @@ module _ (s : List ℕ) where
     unfolding imageSize
     size-same = e ∙ cond-true _ 0 headed-so
 
-    pub size-fits : (n ≤ 16) × (length s ≡ imageLength n) × (n ≡ sizeIn (wordAt s 0))
+    pub size-fits : (n ≤ 16) × (length s ≡ imageLength (frontIn (wordAt s)) n) × (n ≡ sizeIn (wordAt s 0)) × (length s % 4 ≡ 0)
     size-fits =
-        let (h, f) = head-pass s (eqb (length s) (imageLength (sizeIn (wordAt s 0)))) (eqb-true _ 0 headed-so) in
+        let (h, f) = head-pass s (eqb (length s) (imageLengthIn s)) (eqb-true _ 0 headed-so) in
         let m = h .most in
-        (omega (arith, size-same), eqb-true _ _ f ∙ ap imageLength (sym size-same), size-same)
+        (omega (arith, size-same), eqb-true _ _ f ∙ ap (imageLength (frontIn (wordAt s))) (sym size-same), size-same, h .whole)
 
     -- the return limit of the head
     pub size-return : returnLimitIn (wordAt s 0) ≤ mostReturnLimit
     size-return =
-        let (h, f) = head-pass s (eqb (length s) (imageLength (sizeIn (wordAt s 0)))) (eqb-true _ 0 headed-so) in
+        let (h, f) = head-pass s (eqb (length s) (imageLengthIn s)) (eqb-true _ 0 headed-so) in
         head-made (wordAt s 0) (h .head) .0 .limit
 
     -- then the words decide

@@ -3,9 +3,12 @@ pub mod RowLaws
 pub mod CounterSectionLaws
 pub mod PenaltyLaws
 pub mod ReturnLaws
+pub mod ScoreLaws
 pub mod CounterLaws
+pub mod LentLaws
 pub mod TailLaws
 pub mod ReadLaws
 pub mod GapLaws
+pub mod HalfLaws
 pub mod SectionLaws
 pub mod ImageAnswers

@@ -110,46 +110,46 @@ rows-roomy n r m =
 
 -- ---- words that a read is written as
 
-module _ (w : ℕ → ℕ) (n : ℕ) (r : Reading) (m : RowsSmall n r)
-    (f : (j : ℕ) → j < n → w (rowsAt n + j) ≡ rowWord j (bit (r .heard) j) (getD (r .rows) j 0)) where
-  pub heard-read : (j : ℕ) → j < n → heardIn (w (rowsAt n + j)) ≡ bit (r .heard) j
+module _ (w : ℕ → ℕ) (front n : ℕ) (r : Reading) (m : RowsSmall n r)
+    (f : (j : ℕ) → j < n → w (rowsAt front n + j) ≡ rowWord j (bit (r .heard) j) (getD (r .rows) j 0)) where
+  pub heard-read : (j : ℕ) → j < n → heardIn (w (rowsAt front n + j)) ≡ bit (r .heard) j
   heard-read j h = ap heardIn (f j h) ∙ heard-back j (bit (r .heard) j) _ (m .row j h)
 
-  pub row-read : (j : ℕ) → j < n → rowIn (w (rowsAt n + j)) ≡ getD (r .rows) j 0
+  pub row-read : (j : ℕ) → j < n → rowIn (w (rowsAt front n + j)) ≡ getD (r .rows) j 0
   row-read j h = ap rowIn (f j h) ∙ row-back j (bit (r .heard) j) _ (m .row j h)
 
   -- they pass where the rows fit, and the rows fit where they pass
-  pub rows-ok : ((j : ℕ) → j < n → rowFits n (bit (r .heard) j) (getD (r .rows) j 0) ≡ true) → (j : ℕ) → j < n → rowTest w n j ≡ true
+  pub rows-ok : ((j : ℕ) → j < n → rowFits n (bit (r .heard) j) (getD (r .rows) j 0) ≡ true) → (j : ℕ) → j < n → rowTest w front n j ≡ true
   rows-ok fits j h = rw (f j h) (row-right j (bit (r .heard) j) _ (m .row j h) n (fits j h))
 
-  pub rows-pass : ((j : ℕ) → j < n → rowTest w n j ≡ true) → (j : ℕ) → j < n → rowFits n (bit (r .heard) j) (getD (r .rows) j 0) ≡ true
-  rows-pass pass j h = rw (heard-read j h, row-read j h) at (row-made n j (w (rowsAt n + j)) (pass j h) .1)
+  pub rows-pass : ((j : ℕ) → j < n → rowTest w front n j ≡ true) → (j : ℕ) → j < n → rowFits n (bit (r .heard) j) (getD (r .rows) j 0) ≡ true
+  rows-pass pass j h = rw (heard-read j h, row-read j h) at (row-made n j (w (rowsAt front n + j)) (pass j h) .1)
 
 -- read from their bytes, they give it back
-pub reading-back : (s : List ℕ) (n : ℕ) (r : Reading) → n ≤ 16 → RowsSmall n r → length (r .rows) ≡ 16
-    → ((j : ℕ) → j < n → wordAt s (rowsAt n + j) ≡ rowWord j (bit (r .heard) j) (getD (r .rows) j 0)) → r ≡ readingIn s n
+pub reading-back : (s : List ℕ) (front n : ℕ) (r : Reading) → n ≤ 16 → RowsSmall n r → length (r .rows) ≡ 16
+    → ((j : ℕ) → j < n → wordAt s (rowsAt front n + j) ≡ rowWord j (bit (r .heard) j) (getD (r .rows) j 0)) → r ≡ readingIn s front n
 unfolding readingIn
-reading-back s n r l m shaped f = λ i. record {
-  heard = sym (pack-ext n _ (bit (r .heard)) (heard-read (wordAt s) n r m f) ∙ pack-own n (r .heard) (m .heard)) i;
-  rows = sym (array-ext n _ (λ j. getD (r .rows) j 0) (row-read (wordAt s) n r m f) ∙ array-own n (r .rows) l shaped (m .no-rows)) i;
+reading-back s front n r l m shaped f = λ i. record {
+  heard = sym (pack-ext n _ (bit (r .heard)) (heard-read (wordAt s) front n r m f) ∙ pack-own n (r .heard) (m .heard)) i;
+  rows = sym (array-ext n _ (λ j. getD (r .rows) j 0) (row-read (wordAt s) front n r m f) ∙ array-own n (r .rows) l shaped (m .no-rows)) i;
 }
 
 -- ---- words that pass
 
-module _ (s : List ℕ) (n : ℕ) (l : n ≤ 16) (pass : (j : ℕ) → j < n → rowTest (wordAt s) n j ≡ true) where
+module _ (s : List ℕ) (front n : ℕ) (l : n ≤ 16) (pass : (j : ℕ) → j < n → rowTest (wordAt s) front n j ≡ true) where
   -- the rows read from them fit
-  pub read-rows : (j : ℕ) → j < n → rowFits n (bit (readingIn s n .heard) j) (getD (readingIn s n .rows) j 0) ≡ true
+  pub read-rows : (j : ℕ) → j < n → rowFits n (bit (readingIn s front n .heard) j) (getD (readingIn s front n .rows) j 0) ≡ true
   unfolding readingIn
   read-rows j h =
-      rw (bit-pack n (λ k. heardIn (wordAt s (rowsAt n + k))) j h, array-at n (λ k. rowIn (wordAt s (rowsAt n + k))) j h l)
-      (row-made n j (wordAt s (rowsAt n + j)) (pass j h) .1)
+      rw (bit-pack n (λ k. heardIn (wordAt s (rowsAt front n + k))) j h, array-at n (λ k. rowIn (wordAt s (rowsAt front n + k))) j h l)
+      (row-made n j (wordAt s (rowsAt front n + j)) (pass j h) .1)
 
   -- and are written as they were read
-  pub rows-same : (j : ℕ) → j < n → wordAt s (rowsAt n + j) ≡ rowWord j (bit (readingIn s n .heard) j) (getD (readingIn s n .rows) j 0)
+  pub rows-same : (j : ℕ) → j < n → wordAt s (rowsAt front n + j) ≡ rowWord j (bit (readingIn s front n .heard) j) (getD (readingIn s front n .rows) j 0)
   unfolding readingIn
   rows-same j h =
-      sym (rw (bit-pack n (λ k. heardIn (wordAt s (rowsAt n + k))) j h, array-at n (λ k. rowIn (wordAt s (rowsAt n + k))) j h l)
-      (row-made n j (wordAt s (rowsAt n + j)) (pass j h) .0))
+      sym (rw (bit-pack n (λ k. heardIn (wordAt s (rowsAt front n + k))) j h, array-at n (λ k. rowIn (wordAt s (rowsAt front n + k))) j h l)
+      (row-made n j (wordAt s (rowsAt front n + j)) (pass j h) .0))
 
 -- ---- the test by one comparison
 

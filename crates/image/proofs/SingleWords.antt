@@ -1,12 +1,14 @@
 -- A word that stands alone is made of its fields, and its fields are those that it was made of.
-use mathlib.Core.Path.{_≡_, refl}
+use mathlib.Core.Path.{_≡_, refl, ap, _∙_}
 use mathlib.Core.Bool.{Bool, true, false, not, _&&_, _||_}
 use Prim.Native.Nat.{ℕ, _+_, _*_, _/_, _%_, _^_, _<_, _≤_}
 use native.Mathlib.Omega.{arith}
+use lib.Pow.{pow-mono}
 use lib.Dec.{eqb, ltb}
 use borrow.Author.Tests.{eqb-true, eq-eqb, ltb-true, lt-ltb}
+use Rattle.words.specs.Word.{kindUnit}
 use Rattle.words.specs.Verdict.{between}
-use Rattle.words.proofs.Truth.{and-l, and-r, and-true, or-r}
+use Rattle.words.proofs.Truth.{and-l, and-r, and-true, or-r, iff-eq}
 use Rattle.words.proofs.VerdictLaws.{between-is, between-of}
 use Rattle.image.specs.Words.{ownWord, ownIn, viewIn, ownNumberOk, ownOk, syndromeWord, syndromeIn, syndromeOk}
 
@@ -92,3 +94,16 @@ unfolding syndromeOk
 syndrome-right n v h l =
     let e : syndromeWord v / 2 ^ 28 ≡ 12 = omega arith in
     and-true (eqb (syndromeWord v / 2 ^ 28) 12) _ (eq-eqb _ _ e) (rw (syndrome-back v h) (lt-ltb v (2 ^ n) l))
+
+-- a syndrome by one comparison: d is how far its word is above the first of its kind
+pub syndrome-one : {x : ℕ} (n w d : ℕ) → n ≤ 16 → d < 2 ^ 32 → (d + 12 * kindUnit) % 2 ^ 32 ≡ w → x ≡ 2 ^ n → ltb d x ≡ syndromeOk n w
+unfolding syndromeOk
+syndrome-one n w d few h e p =
+    let q = pow-mono {i = n} {j = 16} few in
+    ap (ltb d) p
+    ∙ iff-eq _ _
+    (λ t. let l = ltb-true d (2 ^ n) t in and-true _ _ (eq-eqb (w / kindUnit) 12 (omega arith)) (lt-ltb (syndromeIn w) (2 ^ n) (omega arith)))
+    (λ t.
+    let k = eqb-true (w / kindUnit) 12 (and-l (eqb (w / kindUnit) 12) _ t) in
+    let l = ltb-true (syndromeIn w) (2 ^ n) (and-r (eqb (w / kindUnit) 12) _ t) in
+    lt-ltb d (2 ^ n) (omega arith))

@@ -10,10 +10,10 @@ use Rattle.words.specs.Bits.{bit}
 use Rattle.words.specs.Array.{array, bounded}
 use Rattle.words.specs.Verdict.{Test, each}
 use Rattle.words.specs.Runs.{Run}
-use Rattle.setup.specs.Layout.{headAt, penaltyLimitAt, rewardLimitAt, modulesAt}
+use Rattle.setup.specs.Layout.{headAt, penaltyLimitAt, rewardLimitAt}
 use Rattle.setup.specs.Setup.{returnLimitIn, limitIn, criticalityIn}
-use Rattle.rules.specs.declared.Counters.{Counters}
-use Rattle.image.specs.Layout.{ownAt, penaltiesAt}
+use Rattle.accounts.specs.declared.Counters.{Counters}
+use Rattle.image.specs.Layout.{ownAt, accountsAt}
 use Rattle.image.specs.Words.{viewIn}
 use Rattle.image.specs.declared.Basis.{Basis}
 
@@ -29,11 +29,11 @@ counterIn w = w % numberUnit
 abbrev pub counterOf : ℕ → ℕ → ℕ → Bool
 counterOf kind j w = eqb (w / numberUnit) (kind * 2 ^ 5 + (j + 1))
 
--- the kind of the words, their place in an image of n modules, the counters that they hold, and which counters are right, on the basis of what
+-- the kind of the words, their place in an image of n modules with so many words before theirs, the counters that they hold, and which counters are right, on the basis of what
 -- other words say of the module
 pub record CounterSection : Type 0 where
   pub kind : ℕ
-  pub at : ℕ → ℕ
+  pub at : ℕ → ℕ → ℕ
   pub values : Counters → List ℕ
   pub fits : Basis → ℕ → Bool
 
@@ -46,30 +46,30 @@ abbrev pub Each : (CounterSection → Type 0) → List CounterSection → Type 0
 Each P [] = Unit {0}
 Each P (x ∷ xs) = P x × Each P xs
 
--- ---- in an image of n modules whose words are w, or whose bytes are s
+-- ---- in an image of n modules with `front` words before theirs, whose words are w, or whose bytes are s
 
 -- the basis for module j + 1
-abbrev pub basisIn : (ℕ → ℕ) → ℕ → ℕ → Basis
-basisIn w n j = record {
+abbrev pub basisIn : (ℕ → ℕ) → ℕ → ℕ → ℕ → Basis
+basisIn w front n j = record {
   p = limitIn (w penaltyLimitAt);
   r = limitIn (w rewardLimitAt);
   q = returnLimitIn (w headAt);
-  criticality = criticalityIn (w (modulesAt + j));
-  present = bit (viewIn (w (ownAt n))) j;
-  penalty = counterIn (w (penaltiesAt n + j));
+  criticality = criticalityIn (w (front + j));
+  present = bit (viewIn (w (ownAt front n))) j;
+  penalty = counterIn (w (accountsAt front n + j));
 }
 
 -- whether the word of module j + 1 is right in a section
-abbrev pub counterTest : CounterSection → (ℕ → ℕ) → ℕ → ℕ → Bool
-counterTest x w n j = counterOk x (basisIn w n j) j (w (x .at n + j))
+abbrev pub counterTest : CounterSection → (ℕ → ℕ) → ℕ → ℕ → ℕ → Bool
+counterTest x w front n j = counterOk x (basisIn w front n j) j (w (x .at front n + j))
 
 -- number 8 at the first wrong counter
-abbrev pub sectionTest : (ℕ → ℕ) → ℕ → CounterSection → Test
-sectionTest w n x = each n (counterTest x w n) 8 (x .at n)
+abbrev pub sectionTest : (ℕ → ℕ) → ℕ → ℕ → CounterSection → Test
+sectionTest w front n x = each n (counterTest x w front n) 8 (x .at front n)
 
 -- read
-abbrev pub valuesIn : List ℕ → ℕ → CounterSection → List ℕ
-valuesIn s n x = array n (λ j. counterIn (wordAt s (x .at n + j)))
+abbrev pub valuesIn : List ℕ → ℕ → ℕ → CounterSection → List ℕ
+valuesIn s front n x = array n (λ j. counterIn (wordAt s (x .at front n + j)))
 
 -- written
 abbrev pub sectionRun : ℕ → Counters → CounterSection → Run

@@ -3,6 +3,7 @@ pub mod Words
 pub mod Rows
 pub mod CounterSection
 pub mod Returns
+pub mod Scores
 pub mod Counters
 pub mod Sections
 pub mod Part

@@ -37,19 +37,19 @@ rowFits n heard row = ltb row (cond heard (2 ^ n) 1)
 unfoldable pub rowOk : ℕ → ℕ → ℕ → Bool
 rowOk n j w = eqb (w / numberUnit) (11 * 2 ^ 5 + (j + 1)) && rowFits n (heardIn w) (rowIn w)
 
--- ---- the section, in an image of n modules whose words are w, or whose bytes are s
+-- ---- the section, in an image of n modules with `front` words before theirs, whose words are w, or whose bytes are s
 
-abbrev pub rowTest : (ℕ → ℕ) → ℕ → ℕ → Bool
-rowTest w n j = rowOk n j (w (rowsAt n + j))
+abbrev pub rowTest : (ℕ → ℕ) → ℕ → ℕ → ℕ → Bool
+rowTest w front n j = rowOk n j (w (rowsAt front n + j))
 
 -- number 8 at the first wrong row
-abbrev pub rowTests : (ℕ → ℕ) → ℕ → Test
-rowTests w n = each n (rowTest w n) 8 (rowsAt n)
+abbrev pub rowTests : (ℕ → ℕ) → ℕ → ℕ → Test
+rowTests w front n = each n (rowTest w front n) 8 (rowsAt front n)
 
 -- read
-unfoldable pub readingIn : List ℕ → ℕ → Reading
-readingIn s n =
-    record { heard = pack n (λ j. heardIn (wordAt s (rowsAt n + j))); rows = array n (λ j. rowIn (wordAt s (rowsAt n + j))) }
+unfoldable pub readingIn : List ℕ → ℕ → ℕ → Reading
+readingIn s front n =
+    record { heard = pack n (λ j. heardIn (wordAt s (rowsAt front n + j))); rows = array n (λ j. rowIn (wordAt s (rowsAt front n + j))) }
 
 -- written
 abbrev pub rowRun : ℕ → Reading → Run

@@ -1,13 +1,14 @@
-// The counters of the modules, kinds 13 and 14, and 15 of returns.rt: tested, read and written.
+// The counters of the modules of a setup that counts, kinds 13 and 14, and 15 of returns.rt: tested, read and written.
 use crate::Basis;
-use crate::layout::penalties_at;
+use crate::layout::accounts_at;
 use crate::layout::returns_at;
 use crate::layout::rewards_at;
 use crate::read::criticality_in;
 use crate::read::limit_in;
 use crate::read::view_in;
 use crate::returns::return_fits;
-use rules::Counters;
+use accounts::Counters;
+use doubles::array::clear_doubles;
 use setup::layout::PENALTY_LIMIT_AT;
 use setup::layout::REWARD_LIMIT_AT;
 use words::array::bounded;
@@ -19,17 +20,17 @@ use words::word::gap;
 use words::word::put_word;
 use words::word::word_at;
 ghost use mathlib.Core.Path.{_≡_};
-ghost use mathlib.Core.Bool.{true, _&&_};
+ghost use mathlib.Core.Bool.{true, false, _&&_};
 ghost use Prim.Native.Nat.{ℕ, _+_, _*_, _^_, _≤_, _<_};
 ghost use lib.ListN.{length, getD};
 ghost use Rattle.words.specs.Word.{wordAt, numberUnit};
 ghost use Rattle.words.specs.Array.{array};
 ghost use Rattle.words.specs.Verdict.{allRight};
 ghost use Rattle.words.specs.Runs.{putRun};
-ghost use Rattle.setup.specs.Layout.{headAt, penaltyLimitAt, rewardLimitAt, modulesAt};
+ghost use Rattle.setup.specs.Layout.{headAt, penaltyLimitAt, rewardLimitAt, frontWords};
 ghost use Rattle.setup.specs.Setup.{returnLimitIn, limitIn, criticalityIn};
 ghost use Rattle.setup.specs.Limits.{mostReturnLimit, mostPenaltyLimit, mostRewardLimit};
-ghost use Rattle.image.specs.Layout.{ownAt, penaltiesAt, rewardsAt, returnsAt, endAt, imageLength};
+ghost use Rattle.image.specs.Layout.{ownAt, accountsAt, rewardsAt, returnsAt, endAt, imageLength};
 ghost use Rattle.image.specs.Words.{viewIn};
 ghost use Rattle.image.specs.CounterSection.{counterWord, counterIn, counterOf, basisIn, valuesIn};
 ghost use Rattle.image.specs.Returns.{returnCounts};
@@ -62,17 +63,17 @@ fn reward_fits(limit: u32, penalty: u32, reward: u32) -> bool
 }
 
 // What the counters of module j + 1 are tested by.
-fn basis_in(s: &[u8], n: usize, j: usize) -> Basis
-    requires { ⌜ (n ≤ 16) × (length (now s) ≡ imageLength n) × (j < n) ⌝ }
-    ensures { λ r. ⌜ r ≡ basisIn (wordAt (now (s .entry))) n j ⌝ }
+fn basis_in(s: &[u8], front: usize, n: usize, j: usize) -> Basis
+    requires { ⌜ (front ≤ 6) × (n ≤ 16) × (length (now s) ≡ imageLength front n) × (2 < front) × (j < n) ⌝ }
+    ensures { λ r. ⌜ r ≡ basisIn (wordAt (now (s .entry))) front n j ⌝ }
 {
     Basis {
         p: limit_in(s, PENALTY_LIMIT_AT),
         r: limit_in(s, REWARD_LIMIT_AT),
         q: field(word_at(s, 0), 8, 20),
-        criticality: criticality_in(s, j),
-        present: bit_at(view_in(s, n), j),
-        penalty: word_at(s, penalties_at(n) + j) % NUMBER,
+        criticality: criticality_in(s, front, j),
+        present: bit_at(view_in(s, front, n), j),
+        penalty: word_at(s, accounts_at(front, n) + j) % NUMBER,
     }
 }
 
@@ -90,12 +91,12 @@ fn counter_fits(kind: u32, b: Basis, v: u32) -> bool
 }
 
 // Whether the word of module j + 1 is right in the section of a kind that begins at `at`.
-pub fn counter_right(s: &[u8], n: usize, kind: u32, at: usize, j: usize) -> bool
-    requires { ⌜ (n ≤ 16) × (length (now s) ≡ imageLength n) × (kind < 16) × (at + n ≤ endAt n) × (j < n) ⌝ }
+pub fn counter_right(s: &[u8], front: usize, n: usize, kind: u32, at: usize, j: usize) -> bool
+    requires { ⌜ (front ≤ 6) × (n ≤ 16) × (length (now s) ≡ imageLength front n) × (2 < front) × (kind < 16) × (at + n ≤ endAt front n) × (j < n) ⌝ }
     ensures { λ r. ⌜ r ≡ counterOf kind j (wordAt (now (s .entry)) (at + j))
-        && fitsBy kind (basisIn (wordAt (now (s .entry))) n j) (counterIn (wordAt (now (s .entry)) (at + j))) ⌝ }
+        && fitsBy kind (basisIn (wordAt (now (s .entry))) front n j) (counterIn (wordAt (now (s .entry)) (at + j))) ⌝ }
 {
-    let basis = basis_in(s, n, j);
+    let basis = basis_in(s, front, n, j);
     let w = word_at(s, at + j);
     counter_of(kind, j, w) & counter_fits(kind, basis, w % NUMBER)
 }
@@ -114,18 +115,18 @@ pub fn load_counters(
     reward: &mut [u32; 16],
     returns: &mut [u32; 16],
 ) -> bool
-    requires { ⌜ (n ≤ 16) × (length (now s) ≡ imageLength n) ⌝ }
-    requires { ⌜ (p ≡ limitIn (wordAt (now s) penaltyLimitAt)) × (limit ≡ limitIn (wordAt (now s) rewardLimitAt)) × (view ≡ viewIn (wordAt (now s) (ownAt n)))
-        × (now criticality ≡ array n (λ j. criticalityIn (wordAt (now s) (modulesAt + j)))) × (q ≡ returnLimitIn (wordAt (now s) headAt)) ⌝ }
+    requires { ⌜ (n ≤ 16) × (length (now s) ≡ imageLength (frontWords false) n) ⌝ }
+    requires { ⌜ (p ≡ limitIn (wordAt (now s) penaltyLimitAt)) × (limit ≡ limitIn (wordAt (now s) rewardLimitAt)) × (view ≡ viewIn (wordAt (now s) (ownAt (frontWords false) n)))
+        × (now criticality ≡ array n (λ j. criticalityIn (wordAt (now s) (frontWords false + j)))) × (q ≡ returnLimitIn (wordAt (now s) headAt)) ⌝ }
     requires { ⌜ (p ≤ mostPenaltyLimit) × (limit ≤ mostRewardLimit) × (q ≤ mostReturnLimit) ⌝ }
     requires { ⌜ (now penalty ≡ array 0 (λ _. 0)) × (now reward ≡ array 0 (λ _. 0)) × (now returns ≡ array 0 (λ _. 0)) ⌝ }
-    ensures { λ r. ⌜ (r ≡ allRight (counterTests (wordAt (now (s .entry))) n))
-        × (r ≡ true → (now (penalty .exit) ≡ valuesIn (now (s .entry)) n penalties) × (now (reward .exit) ≡ valuesIn (now (s .entry)) n rewards)
-        × (now (returns .exit) ≡ valuesIn (now (s .entry)) n returnCounts)) ⌝ }
+    ensures { λ r. ⌜ (r ≡ allRight (counterTests false (wordAt (now (s .entry))) n))
+        × (r ≡ true → (now (penalty .exit) ≡ valuesIn (now (s .entry)) (frontWords false) n penalties) × (now (reward .exit) ≡ valuesIn (now (s .entry)) (frontWords false) n rewards)
+        × (now (returns .exit) ≡ valuesIn (now (s .entry)) (frontWords false) n returnCounts)) ⌝ }
 {
-    let i = penalties_at(n);
-    let k = rewards_at(n);
-    let l = returns_at(n);
+    let i = accounts_at(3, n);
+    let k = rewards_at(3, n);
+    let l = returns_at(3, n);
     let mut good = true;
     for j in 0..n {
         let x = gap(13, j, word_at(s, i + j));
@@ -148,16 +149,18 @@ pub fn zero_counters(view: u32) -> Counters
     ensures { λ r. ⌜ r ≡ zeroCounters view ⌝ }
 {
     let zeros = [0u32; 16];
+    let score = [0.0; 16];
     Counters {
         view,
         penalty: zeros,
         reward: zeros,
+        score,
         returns: zeros,
     }
 }
 
 // The word of a counter of module j + 1.
-fn counter_word(kind: u32, j: usize, v: u32) -> u32
+pub fn counter_word(kind: u32, j: usize, v: u32) -> u32
     requires { ⌜ (kind < 16) × (j < 16) × (v < 2 ^ 23) ⌝ }
     ensures { λ r. ⌜ r ≡ counterWord kind j v ⌝ }
 {
@@ -172,14 +175,14 @@ pub fn save_counters(
     returns: &[u32; 16],
     out: &mut [u8],
 )
-    requires { ⌜ (n ≤ 16) × (length (now out) ≡ imageLength n) × ((j : ℕ) → j < n → getD (now penalty) j 0 < numberUnit)
+    requires { ⌜ (n ≤ 16) × (length (now out) ≡ imageLength (frontWords false) n) × ((j : ℕ) → j < n → getD (now penalty) j 0 < numberUnit)
         × ((j : ℕ) → j < n → getD (now reward) j 0 < numberUnit) × ((j : ℕ) → j < n → getD (now returns) j 0 < numberUnit) ⌝ }
-    ensures { λ _. ⌜ now (out .exit) ≡ putRun (putRun (putRun (now (out .entry)) (penaltiesAt n) n (λ j. counterWord 13 j (getD (now (penalty .entry)) j 0)))
-        (rewardsAt n) n (λ j. counterWord 14 j (getD (now (reward .entry)) j 0))) (returnsAt n) n (λ j. counterWord 15 j (getD (now (returns .entry)) j 0)) ⌝ }
+    ensures { λ _. ⌜ now (out .exit) ≡ putRun (putRun (putRun (now (out .entry)) (accountsAt (frontWords false) n) n (λ j. counterWord 13 j (getD (now (penalty .entry)) j 0)))
+        (rewardsAt (frontWords false) n) n (λ j. counterWord 14 j (getD (now (reward .entry)) j 0))) (returnsAt (frontWords false) n) n (λ j. counterWord 15 j (getD (now (returns .entry)) j 0)) ⌝ }
 {
-    let i = penalties_at(n);
-    let k = rewards_at(n);
-    let l = returns_at(n);
+    let i = accounts_at(3, n);
+    let k = rewards_at(3, n);
+    let l = returns_at(3, n);
     for j in 0..n {
         put_word(out, i + j, counter_word(13, j, penalty[j]));
         put_word(out, k + j, counter_word(14, j, reward[j]));
@@ -187,12 +190,18 @@ pub fn save_counters(
     }
 }
 
-// Whether every counter has room in its word, and nothing stands in the entries from n on.
-pub fn counters_roomy(n: usize, counters: Counters) -> bool
-    ensures { λ r. ⌜ r ≡ countersRoomy n counters ⌝ }
+// Whether every counter has room in its word, and nothing stands in what is not in use.
+pub fn counters_roomy(fades: bool, n: usize, counters: Counters) -> bool
+    ensures { λ r. ⌜ r ≡ countersRoomy fades n counters ⌝ }
 {
     let penalty = counters.penalty;
     let reward = counters.reward;
     let returns = counters.returns;
-    bounded(n, MOST, penalty) & (bounded(n, MOST, reward) & bounded(n, MOST, returns))
+    let score = counters.score;
+    if fades {
+        return (bounded(0, 0, penalty) & bounded(0, 0, reward))
+            & (clear_doubles(n, score) & bounded(n, MOST, returns));
+    }
+    bounded(n, MOST, penalty)
+        & (bounded(n, MOST, reward) & (bounded(n, MOST, returns) & clear_doubles(0, score)))
 }

@@ -1,69 +1,69 @@
-// Where the words of a saved state stand, of n modules, section after section.
+// Where the words of a saved state stand, of n modules and with `front` words before those of the modules, section after section.
 use setup::layout::setup_words;
 ghost use mathlib.Core.Path.{_≡_};
 ghost use Prim.Native.Nat.{_≤_};
-ghost use Rattle.image.specs.Layout.{ownAt, rowsAt, latestAt, earlierAt, penaltiesAt, rewardsAt, returnsAt, imageLength};
+ghost use Rattle.image.specs.Layout.{ownAt, rowsAt, latestAt, earlierAt, accountsAt, rewardsAt, returnsAt, imageLength};
 
 // Own number and view, after the setup's words.
-pub fn own_at(n: usize) -> usize
-    requires { ⌜ n ≤ 16 ⌝ }
-    ensures { λ r. ⌜ r ≡ ownAt n ⌝ }
+pub fn own_at(front: usize, n: usize) -> usize
+    requires { ⌜ (front ≤ 6) × (n ≤ 16) ⌝ }
+    ensures { λ r. ⌜ r ≡ ownAt front n ⌝ }
 {
-    setup_words(n)
+    setup_words(front, n)
 }
 
 // The rows of the previous read.
-pub fn rows_at(n: usize) -> usize
-    requires { ⌜ n ≤ 16 ⌝ }
-    ensures { λ r. ⌜ r ≡ rowsAt n ⌝ }
+pub fn rows_at(front: usize, n: usize) -> usize
+    requires { ⌜ (front ≤ 6) × (n ≤ 16) ⌝ }
+    ensures { λ r. ⌜ r ≡ rowsAt front n ⌝ }
 {
-    own_at(n) + 1
+    own_at(front, n) + 1
 }
 
 // The latest syndrome.
-pub fn latest_at(n: usize) -> usize
-    requires { ⌜ n ≤ 16 ⌝ }
-    ensures { λ r. ⌜ r ≡ latestAt n ⌝ }
+pub fn latest_at(front: usize, n: usize) -> usize
+    requires { ⌜ (front ≤ 6) × (n ≤ 16) ⌝ }
+    ensures { λ r. ⌜ r ≡ latestAt front n ⌝ }
 {
-    rows_at(n) + n
+    rows_at(front, n) + n
 }
 
 // The syndrome before it.
-pub fn earlier_at(n: usize) -> usize
-    requires { ⌜ n ≤ 16 ⌝ }
-    ensures { λ r. ⌜ r ≡ earlierAt n ⌝ }
+pub fn earlier_at(front: usize, n: usize) -> usize
+    requires { ⌜ (front ≤ 6) × (n ≤ 16) ⌝ }
+    ensures { λ r. ⌜ r ≡ earlierAt front n ⌝ }
 {
-    latest_at(n) + 1
+    latest_at(front, n) + 1
 }
 
-// The penalties.
-pub fn penalties_at(n: usize) -> usize
-    requires { ⌜ n ≤ 16 ⌝ }
-    ensures { λ r. ⌜ r ≡ penaltiesAt n ⌝ }
+// The accounts: the penalties, or the scores.
+pub fn accounts_at(front: usize, n: usize) -> usize
+    requires { ⌜ (front ≤ 6) × (n ≤ 16) ⌝ }
+    ensures { λ r. ⌜ r ≡ accountsAt front n ⌝ }
 {
-    earlier_at(n) + 1
+    earlier_at(front, n) + 1
 }
 
-// The rewards.
-pub fn rewards_at(n: usize) -> usize
-    requires { ⌜ n ≤ 16 ⌝ }
-    ensures { λ r. ⌜ r ≡ rewardsAt n ⌝ }
+// The rewards, after n penalties.
+pub fn rewards_at(front: usize, n: usize) -> usize
+    requires { ⌜ (front ≤ 6) × (n ≤ 16) ⌝ }
+    ensures { λ r. ⌜ r ≡ rewardsAt front n ⌝ }
 {
-    penalties_at(n) + n
+    accounts_at(front, n) + n
 }
 
 // The return counts.
-pub fn returns_at(n: usize) -> usize
-    requires { ⌜ n ≤ 16 ⌝ }
-    ensures { λ r. ⌜ r ≡ returnsAt n ⌝ }
+pub fn returns_at(front: usize, n: usize) -> usize
+    requires { ⌜ (front ≤ 6) × (n ≤ 16) ⌝ }
+    ensures { λ r. ⌜ r ≡ returnsAt front n ⌝ }
 {
-    rewards_at(n) + n
+    rewards_at(front, n) + n
 }
 
 // How many bytes an image has.
-pub fn image_length(n: usize) -> usize
-    requires { ⌜ n ≤ 16 ⌝ }
-    ensures { λ r. ⌜ r ≡ imageLength n ⌝ }
+pub fn image_length(front: usize, n: usize) -> usize
+    requires { ⌜ (front ≤ 6) × (n ≤ 16) ⌝ }
+    ensures { λ r. ⌜ r ≡ imageLength front n ⌝ }
 {
-    (returns_at(n) + n) * 4
+    (returns_at(front, n) + n) * 4
 }

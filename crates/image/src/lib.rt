@@ -31,8 +31,7 @@ pub struct ImagePart {
     pub good: bool,
     pub skew: bool,
     pub q: u32,
-    pub p: u32,
-    pub r: u32,
+    pub limits: Limits,
     pub own: usize,
     pub view: u32,
     pub heard: u32,
@@ -43,18 +42,25 @@ pub struct ImagePart {
 pub mod check;
 mod counters;
 mod layout;
+mod lent;
 mod load;
 mod read;
 mod returns;
 mod rows;
 mod save;
+mod scores;
 mod word;
+
+use setup::Limits;
 
 // What states are read, tested and written by, and where calls and pages find a word.
 pub use counters::counters_roomy;
-pub use counters::load_counters;
 pub use counters::zero_counters;
 pub use layout::image_length;
+pub use lent::first_of;
+pub use lent::lent_counters;
+pub use lent::second_of;
+pub use load::load_accounts;
 pub use load::load_image;
 pub use read::earlier_in;
 pub use read::latest_in;
@@ -64,5 +70,6 @@ pub use read::place_in;
 pub use read::view_in;
 pub use rows::load_rows;
 pub use rows::rows_roomy;
+pub use save::save_accounts;
 pub use save::save_sections;
 pub use word::VECTOR;

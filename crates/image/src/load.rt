@@ -1,27 +1,64 @@
-// What a step needs of a saved state, in one pass over its words, and whether they are right.
+// Reading an image in one pass: what a step needs of it, and whether all its words are right.
 use crate::ImagePart;
 use crate::counters::load_counters;
-use crate::read::limit_in;
 use crate::read::load_words;
 use crate::rows::load_rows;
-use setup::check::limits_right;
-use setup::layout::PENALTY_LIMIT_AT;
-use setup::layout::REWARD_LIMIT_AT;
+use crate::scores::load_scores;
+use setup::Limits;
+use setup::bounds::front_words;
+use setup::bounds::limits_at;
+use setup::bounds::limits_right;
 use setup::modules::load_modules;
 use words::word::field;
 use words::word::word_at;
 ghost use mathlib.Core.Path.{_≡_};
 ghost use mathlib.Core.Bool.{true, false};
-ghost use Prim.Native.Nat.{_≤_};
+ghost use Prim.Native.Nat.{_+_, _≤_};
 ghost use lib.ListN.{length};
 ghost use Rattle.words.specs.Word.{wordAt};
 ghost use Rattle.words.specs.Array.{array};
 ghost use Rattle.words.specs.Verdict.{allRight};
-ghost use Rattle.setup.specs.Limits.{mostReturnLimit};
-ghost use Rattle.setup.specs.Setup.{sizeIn, returnLimitIn};
-ghost use Rattle.image.specs.Layout.{imageLength};
-ghost use Rattle.image.specs.Part.{PartOf};
+ghost use Rattle.setup.specs.Layout.{headAt, frontWords};
+ghost use Rattle.setup.specs.Limits.{mostReturnLimit, fades as fadesOf};
+ghost use Rattle.setup.specs.Setup.{sizeIn, returnLimitIn, criticalityIn, fadesIn, limitsIn};
+ghost use Rattle.setup.specs.Check.{limitTests};
+ghost use Rattle.image.specs.Layout.{ownAt, imageLength};
+ghost use Rattle.image.specs.Words.{viewIn};
+ghost use Rattle.image.specs.CounterSection.{valuesIn};
+ghost use Rattle.image.specs.Returns.{returnCounts};
+ghost use Rattle.image.specs.Counters.{counterTests};
+ghost use Rattle.image.specs.Part.{firstIn, secondIn, PartOf};
 ghost use Rattle.image.specs.Check.{imageTests};
+
+// The accounts in three lent arrays, and whether their words are right: by counts the penalties, the rewards and the return counts, by scores their high
+// halves, their low halves and the return counts. The limits are right, since the accounts are tested by them.
+pub fn load_accounts(
+    s: &[u8],
+    limits: Limits,
+    n: usize,
+    q: u32,
+    criticality: &[u32; 16],
+    view: u32,
+    first: &mut [u32; 16],
+    second: &mut [u32; 16],
+    returns: &mut [u32; 16],
+) -> bool
+    requires { ⌜ (n ≤ 16) × (length (now s) ≡ imageLength (frontWords (fadesOf limits)) n) × (limits ≡ limitsIn (fadesOf limits) (wordAt (now s)))
+        × (allRight (limitTests (fadesOf limits) (wordAt (now s))) ≡ true) × (q ≡ returnLimitIn (wordAt (now s) headAt)) × (q ≤ mostReturnLimit)
+        × (now criticality ≡ array n (λ j. criticalityIn (wordAt (now s) (frontWords (fadesOf limits) + j))))
+        × (view ≡ viewIn (wordAt (now s) (ownAt (frontWords (fadesOf limits)) n))) ⌝ }
+    requires { ⌜ (now first ≡ array 0 (λ _. 0)) × (now second ≡ array 0 (λ _. 0)) × (now returns ≡ array 0 (λ _. 0)) ⌝ }
+    ensures { λ r. ⌜ (r ≡ allRight (counterTests (fadesOf limits) (wordAt (now (s .entry))) n))
+        × (r ≡ true → (now (first .exit) ≡ firstIn (fadesOf limits) (now (s .entry)) n) × (now (second .exit) ≡ secondIn (fadesOf limits) (now (s .entry)) n)
+        × (now (returns .exit) ≡ valuesIn (now (s .entry)) (frontWords (fadesOf limits)) n returnCounts)) ⌝ }
+{
+    match limits {
+        Limits::Counts(p, r) => {
+            load_counters(s, n, q, p, r, criticality, view, first, second, returns)
+        }
+        Limits::Fading(_, limit) => load_scores(s, n, q, limit, view, first, second, returns),
+    }
+}
 
 // Nothing of use, of an image whose words are wrong.
 fn no_part() -> ImagePart
@@ -31,8 +68,7 @@ fn no_part() -> ImagePart
         good: false,
         skew: false,
         q: 0,
-        p: 0,
-        r: 0,
+        limits: Limits::Counts(0, 0),
         own: 0,
         view: 0,
         heard: 0,
@@ -41,50 +77,50 @@ fn no_part() -> ImagePart
     }
 }
 
-// An image whose head and length are right: whether all its words are, and then what they hold, the arrays lent as zeros. The limits are tested first,
-// since the counters are tested by them.
+// An image whose head and length are right: whether all its words are, and then what they hold, the arrays lent as zeros. The limits are tested before
+// the accounts, which are tested by them.
 pub fn load_image(
     s: &[u8],
+    fades: bool,
     n: usize,
     criticality: &mut [u32; 16],
     rows: &mut [u32; 16],
-    penalty: &mut [u32; 16],
-    reward: &mut [u32; 16],
+    first: &mut [u32; 16],
+    second: &mut [u32; 16],
     returns: &mut [u32; 16],
 ) -> ImagePart
-    requires { ⌜ (n ≤ 16) × (length (now s) ≡ imageLength n) × (n ≡ sizeIn (wordAt (now s) 0)) × (returnLimitIn (wordAt (now s) 0) ≤ mostReturnLimit) ⌝ }
-    requires { ⌜ (now criticality ≡ array 0 (λ _. 0)) × (now rows ≡ array 0 (λ _. 0)) × (now penalty ≡ array 0 (λ _. 0)) × (now reward ≡ array 0 (λ _. 0))
+    requires { ⌜ (n ≤ 16) × (length (now s) ≡ imageLength (frontWords fades) n) × (n ≡ sizeIn (wordAt (now s) 0)) × (fades ≡ fadesIn (wordAt (now s)))
+        × (returnLimitIn (wordAt (now s) 0) ≤ mostReturnLimit) ⌝ }
+    requires { ⌜ (now criticality ≡ array 0 (λ _. 0)) × (now rows ≡ array 0 (λ _. 0)) × (now first ≡ array 0 (λ _. 0)) × (now second ≡ array 0 (λ _. 0))
         × (now returns ≡ array 0 (λ _. 0)) ⌝ }
     ensures { λ r. ⌜ (r .good ≡ allRight (imageTests (now (s .entry)) n))
-        × (r .good ≡ true → PartOf (now (s .entry)) n r (now (criticality .exit)) (now (rows .exit)) (now (penalty .exit)) (now (reward .exit)) (now (returns .exit))) ⌝ }
+        × (r .good ≡ true → PartOf (now (s .entry)) fades n r (now (criticality .exit)) (now (rows .exit)) (now (first .exit)) (now (second .exit)) (now (returns .exit))) ⌝ }
 {
-    if !limits_right(s) {
+    let q = field(word_at(s, 0), 8, 20);
+    let front = front_words(fades);
+    let modules = load_modules(s, front, n, criticality);
+    let alone = load_words(s, front, n);
+    let read = load_rows(s, front, n, rows);
+    if !limits_right(s, fades) {
         return no_part();
     }
-    let q = field(word_at(s, 0), 8, 20);
-    let p = limit_in(s, PENALTY_LIMIT_AT);
-    let r = limit_in(s, REWARD_LIMIT_AT);
-    let modules = load_modules(s, n, criticality);
-    let alone = load_words(s, n);
-    let read = load_rows(s, n, rows);
-    let counted = load_counters(
+    let limits = limits_at(s, fades);
+    let right = load_accounts(
         s,
+        limits,
         n,
         q,
-        p,
-        r,
         criticality,
         alone.view,
-        penalty,
-        reward,
+        first,
+        second,
         returns,
     );
     ImagePart {
-        good: modules.good & (alone.good & (read.good & counted)),
+        good: modules.good & (alone.good & (read.good & right)),
         skew: modules.skew,
         q,
-        p,
-        r,
+        limits,
         own: alone.own,
         view: alone.view,
         heard: read.heard,

@@ -38,20 +38,20 @@ fn row_ok(n: usize, j: usize, w: u32) -> bool
 }
 
 // Whether the row of module j + 1 is right.
-pub fn row_right(s: &[u8], n: usize, j: usize) -> bool
-    requires { ⌜ (n ≤ 16) × (length (now s) ≡ imageLength n) × (j < n) ⌝ }
-    ensures { λ r. ⌜ r ≡ rowTest (wordAt (now (s .entry))) n j ⌝ }
+pub fn row_right(s: &[u8], front: usize, n: usize, j: usize) -> bool
+    requires { ⌜ (front ≤ 6) × (n ≤ 16) × (length (now s) ≡ imageLength front n) × (j < n) ⌝ }
+    ensures { λ r. ⌜ r ≡ rowTest (wordAt (now (s .entry))) front n j ⌝ }
 {
-    row_ok(n, j, word_at(s, rows_at(n) + j))
+    row_ok(n, j, word_at(s, rows_at(front, n) + j))
 }
 
 // The previous read, its rows in a lent array, and whether its words are right.
-pub fn load_rows(s: &[u8], n: usize, rows: &mut [u32; 16]) -> RowsPart
-    requires { ⌜ (n ≤ 16) × (length (now s) ≡ imageLength n) × (now rows ≡ array 0 (λ _. 0)) ⌝ }
-    ensures { λ r. ⌜ (r .good ≡ all n (rowTest (wordAt (now (s .entry))) n)) × (r .heard ≡ readingIn (now (s .entry)) n .heard)
-        × (now (rows .exit) ≡ readingIn (now (s .entry)) n .rows) ⌝ }
+pub fn load_rows(s: &[u8], front: usize, n: usize, rows: &mut [u32; 16]) -> RowsPart
+    requires { ⌜ (front ≤ 6) × (n ≤ 16) × (length (now s) ≡ imageLength front n) × (now rows ≡ array 0 (λ _. 0)) ⌝ }
+    ensures { λ r. ⌜ (r .good ≡ all n (rowTest (wordAt (now (s .entry))) front n)) × (r .heard ≡ readingIn (now (s .entry)) front n .heard)
+        × (now (rows .exit) ≡ readingIn (now (s .entry)) front n .rows) ⌝ }
 {
-    let i = rows_at(n);
+    let i = rows_at(front, n);
     let mut good = true;
     let mut heard: u32 = 0;
     for j in 0..n {

@@ -10,7 +10,7 @@ use lib.Dec.{eqb, ltb}
 use borrow.Author.Tests.{lt-ltb, eq-eqb, eqb-true}
 use Rattle.words.proofs.Truth.{which, clash, cond-true, cond-false}
 use Rattle.setup.proofs.SetupLaws.{verdict-fits}
-use Rattle.rules.specs.declared.Counters.{Counters}
+use Rattle.accounts.specs.declared.Counters.{Counters}
 use Rattle.agreement.specs.Session.{Session, size}
 use Rattle.agreement.specs.Demand.{KeptTo}
 use Rattle.agreement.proofs.Demand.{demand-3}

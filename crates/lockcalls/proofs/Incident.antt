@@ -7,7 +7,7 @@ use Rattle.words.specs.Count.{count, any, all, lowest}
 use Rattle.words.specs.Array.{array, bounded}
 use Rattle.words.specs.Verdict.{andThen, outcome, thenTests}
 use Rattle.words.specs.Runs.{runsOf, runWord}
-use Rattle.setup.specs.Setup.{setupOf, setupBytes, blankSetup}
+use Rattle.setup.specs.Setup.{fadesIn, limitsIn, limitList, setupOf, setupBytes, blankSetup}
 use Rattle.setup.specs.Check.{moduleFits, markFits, whole, headFits, headOk, limitOk, moduleOk, markOk, moduleTest, checkHead, checkWords, checkSetup, setupRoomy, roomVerdict, setupVerdict}
 use Rattle.image.specs.Words.{ownNumberOk, ownOk, syndromeOk}
 use Rattle.image.specs.Rows.{rowFits, rowOk, rowsRoomy}
@@ -21,7 +21,12 @@ use Rattle.rules.specs.Alignment.{alignedOf}
 use Rattle.vote.specs.Vote.{decision, tally, voteOf, healthOf}
 use Rattle.rules.specs.Accusation.{differsAt, accusationOf, accusationsOf}
 use Rattle.rules.specs.Syndrome.{syndromeOf, votersOf, judgementOf, outgoingOf}
-use Rattle.rules.specs.Account.{charged, rewarded, awaited, accounted, accountAt, accountedAt, countersOf}
+use lib.Ieee.{fits, ofInt, toBits}
+use Rattle.words.specs.Table.{updated}
+use Rattle.doubles.specs.Double.{double}
+use Rattle.doubles.specs.Array.{doubles, clearDoubles}
+use Rattle.accounts.specs.Account.{charged, rewarded, awaited, accounted}
+use Rattle.accounts.specs.Round.{accountedBy, accountAt, accountedAt, countersOf}
 use Rattle.presence.specs.Opening.{fresh, blank, checkOpening, openOf}
 use Rattle.presence.specs.Step.{placeOf, markOf, ownSyndrome, alignedFor, judgementFor, outgoingFor, afterRound, refusedStep, acceptedStep, readStep, stepOf}
 use Rattle.agreement.specs.Fault.{differ, half, heard, halfIn, breakerIn, unheardIn, within, keptOver, limit}
@@ -33,5 +38,5 @@ use Rattle.lockcalls.specs.Cards.{history}
 use Rattle.lockcalls.specs.Incident.{incident}
 
 pub incident-right : right incident ≡ true
-unfolding wordAt bytesOf bit pack count any all lowest array bounded andThen outcome thenTests runWord runsOf setupBytes setupOf blankSetup moduleFits markFits whole headFits headOk limitOk moduleOk markOk moduleTest checkHead checkWords checkSetup setupRoomy roomVerdict setupVerdict skewed busWord receptionOf isHeard heardRow causeIn entryOf readingOf causesOf alignedOf decision tally voteOf healthOf differsAt accusationOf accusationsOf syndromeOf votersOf judgementOf outgoingOf charged rewarded awaited accounted accountAt accountedAt countersOf rowFits ownNumberOk ownOk rowOk syndromeOk rowsRoomy counterOk countersRoomy checkTail roomy stateVerdict fresh blank checkOpening openOf placeOf markOf ownSyndrome alignedFor judgementFor outgoingFor afterRound refusedStep acceptedStep readStep stepOf differ half heard halfIn breakerIn unheardIn within keptOver limit bitIn wordIn readRound state health handed sent keptBy digits bound keptTo present onAxis startedMotion abortedMotion stoppedMotion motion isUnfinished isHalting left latestView named taken number acceptedEvents live history
+unfolding fits ofInt toBits updated double doubles clearDoubles wordAt bytesOf bit pack count any all lowest array bounded andThen outcome thenTests runWord runsOf fadesIn limitsIn limitList setupBytes setupOf blankSetup moduleFits markFits whole headFits headOk limitOk moduleOk markOk moduleTest checkHead checkWords checkSetup setupRoomy roomVerdict setupVerdict skewed busWord receptionOf isHeard heardRow causeIn entryOf readingOf causesOf alignedOf decision tally voteOf healthOf differsAt accusationOf accusationsOf syndromeOf votersOf judgementOf outgoingOf charged rewarded awaited accounted accountedBy accountAt accountedAt countersOf rowFits ownNumberOk ownOk rowOk syndromeOk rowsRoomy counterOk countersRoomy checkTail roomy stateVerdict fresh blank checkOpening openOf placeOf markOf ownSyndrome alignedFor judgementFor outgoingFor afterRound refusedStep acceptedStep readStep stepOf differ half heard halfIn breakerIn unheardIn within keptOver limit bitIn wordIn readRound state health handed sent keptBy digits bound keptTo present onAxis startedMotion abortedMotion stoppedMotion motion isUnfinished isHalting left latestView named taken number acceptedEvents live history
 incident-right = refl

@@ -10,10 +10,14 @@ use Rattle.rules.specs.Alignment.{alignedOf}
 use Rattle.vote.specs.Vote.{decision, tally, voteOf, healthOf}
 use Rattle.rules.specs.Accusation.{differsAt, accusationOf, accusationsOf}
 use Rattle.rules.specs.Syndrome.{syndromeOf, votersOf, judgementOf, outgoingOf}
-use Rattle.rules.specs.Account.{charged, rewarded, awaited, accounted, accountAt, accountedAt, countersOf}
+use lib.Ieee.{fits, ofInt, toBits}
+use Rattle.doubles.specs.Double.{double}
+use Rattle.doubles.specs.Array.{doubles, clearDoubles}
+use Rattle.accounts.specs.Account.{charged, rewarded, awaited, accounted}
+use Rattle.accounts.specs.Round.{accountedBy, accountAt, accountedAt, countersOf}
 use Rattle.words.specs.Verdict.{andThen, outcome, thenTests}
 use Rattle.words.specs.Runs.{runsOf, runWord}
-use Rattle.setup.specs.Setup.{setupOf, setupBytes, blankSetup}
+use Rattle.setup.specs.Setup.{fadesIn, limitsIn, limitList, setupOf, setupBytes, blankSetup}
 use Rattle.setup.specs.Check.{moduleFits, markFits, whole, headFits, headOk, limitOk, moduleOk, markOk, moduleTest, checkHead, checkWords, checkSetup, setupRoomy, roomVerdict, setupVerdict}
 use Rattle.image.specs.Words.{ownNumberOk, ownOk, syndromeOk}
 use Rattle.image.specs.Rows.{rowFits, rowOk, readingIn, rowsRoomy}
@@ -32,5 +36,5 @@ use Rattle.page.specs.Calls.{withPage, pageOpenCall, pageStepCall}
 use Rattle.page.specs.Cases.{CasesRight}
 
 pub cases-right : CasesRight
-unfolding wordAt putWord bytesOf bit pack count any all lowest array bounded andThen outcome thenTests runsOf runWord setupOf setupBytes blankSetup moduleFits markFits whole headFits headOk limitOk moduleOk markOk moduleTest checkHead checkWords checkSetup setupRoomy roomVerdict setupVerdict skewed busWord receptionOf isHeard heardRow causeIn entryOf readingOf causesOf alignedOf decision tally voteOf healthOf differsAt accusationOf accusationsOf syndromeOf votersOf judgementOf outgoingOf charged rewarded awaited accounted accountAt accountedAt countersOf rowFits ownNumberOk ownOk rowOk syndromeOk readingIn rowsRoomy countersIn counterOk countersRoomy checkTail checkImage roomy stateVerdict fresh blank checkOpening openOf placeOf markOf ownSyndrome alignedFor judgementFor outgoingFor afterRound refusedStep acceptedStep readStep stepOf imageOf stateOf roomFor refusedCall wrote openCall stepCall causeCall joined cleared shared openedWord pageOpened causeWord putCauses somebodyCharged raised pageStepped pageWritten interruptOn host.readCall host.wrotePage host.writeCall host.interruptCall withPage pageOpenCall pageStepCall
+unfolding fits ofInt toBits double doubles clearDoubles wordAt putWord bytesOf bit pack count any all lowest array bounded andThen outcome thenTests runsOf runWord fadesIn limitsIn limitList setupOf setupBytes blankSetup moduleFits markFits whole headFits headOk limitOk moduleOk markOk moduleTest checkHead checkWords checkSetup setupRoomy roomVerdict setupVerdict skewed busWord receptionOf isHeard heardRow causeIn entryOf readingOf causesOf alignedOf decision tally voteOf healthOf differsAt accusationOf accusationsOf syndromeOf votersOf judgementOf outgoingOf charged rewarded awaited accounted accountedBy accountAt accountedAt countersOf rowFits ownNumberOk ownOk rowOk syndromeOk readingIn rowsRoomy countersIn counterOk countersRoomy checkTail checkImage roomy stateVerdict fresh blank checkOpening openOf placeOf markOf ownSyndrome alignedFor judgementFor outgoingFor afterRound refusedStep acceptedStep readStep stepOf imageOf stateOf roomFor refusedCall wrote openCall stepCall causeCall joined cleared shared openedWord pageOpened causeWord putCauses somebodyCharged raised pageStepped pageWritten interruptOn host.readCall host.wrotePage host.writeCall host.interruptCall withPage pageOpenCall pageStepCall
 cases-right = refl

@@ -11,13 +11,15 @@ use Rattle.words.specs.Bits.{bit}
 use Rattle.words.proofs.Truth.{cond-both}
 use Rattle.words.specs.Count.{any}
 use Rattle.words.proofs.CountLaws.{any-ext}
-use Rattle.words.proofs.ArrayLaws.{array-at}
 use Rattle.setup.specs.declared.Setup.{Setup}
+use Rattle.setup.specs.declared.Limits.the-variants.{Counts}
 use Rattle.setup.proofs.SetupLaws.{SetupFits}
-use Rattle.rules.specs.declared.Account.{Account}
-use Rattle.rules.specs.declared.Counters.{Counters}
-use Rattle.rules.specs.Account.{charged, rewarded, awaited, accounted, accountAt, accountedAt, countersOf}
-use Rattle.rules.proofs.AccountLaws.{AccountFits}
+use Rattle.accounts.specs.declared.Account.{Account}
+use Rattle.accounts.specs.declared.Counters.{Counters}
+use Rattle.accounts.specs.Account.{counts, uncounted, charged, rewarded, awaited, accounted}
+use Rattle.accounts.specs.Round.{accountAt, countersOf}
+use Rattle.accounts.proofs.AccountLaws.{AccountFits}
+use Rattle.accounts.proofs.RoundLaws.{accounted-at, counts-at}
 use Rattle.page.specs.Page.{somebodyCharged}
 
 rewarded-most : (r : ℕ) (a : Account) → rewarded r a .penalty ≤ a .penalty
@@ -27,7 +29,8 @@ rewarded-most r a =
     (cond-both (λ (x : Account). x .penalty ≤ a .penalty) (leb r (a .reward + 1)) _ _ (omega arith) (le-refl (a .penalty)))
 
 -- one out of the view returns with penalty P, if it does, which its penalty is above
-awaited-most : (p q : ℕ) (healthy : Bool) (a : Account) → p ≤ a .penalty → awaited p q healthy a .penalty ≤ a .penalty
+awaited-most : (p q : ℕ) (healthy : Bool) (a : Account) → p ≤ a .penalty
+    → awaited (uncounted true p 0) (counts false (a .penalty) (a .reward)) q healthy (a .returns) .penalty ≤ a .penalty
 unfolding awaited
 awaited-most p q healthy a h =
     cond-both (λ (x : Account). x .penalty ≤ a .penalty) (healthy && ltb 0 q) _ _
@@ -40,18 +43,18 @@ unfolding accounted charged
 grows p r q k healthy a h f = go (a .present) healthy refl
   where
     go : (b g : Bool) → a .present ≡ b
-        → b && not g ≡ ltb (a .penalty) (cond b (cond g (rewarded r a) (charged p k a)) (awaited p q healthy a) .penalty)
+        → b && not g ≡ ltb (a .penalty) (cond b (cond g (rewarded r a) (charged p k a)) (awaited (uncounted true p 0) (counts false (a .penalty) (a .reward)) q healthy (a .returns)) .penalty)
     go true true e = sym (le-ltb (a .penalty) _ (rewarded-most r a))
     go true false e = sym (lt-ltb (a .penalty) (a .penalty + k) (omega arith))
     go false g e =
         let above : p < a .penalty = leb-false (a .penalty) p (sym (f .view) ∙ e) in
         sym (le-ltb (a .penalty) _ (awaited-most p q healthy a (omega arith)))
 
-pub charged-grows : (s : Setup) (c : Counters) (health : ℕ) → SetupFits s
-    → ((j : ℕ) → j < s .n → AccountFits (s .p) (s .r) (getD (s .criticality) j 0) (accountAt c j))
+pub charged-grows : (s : Setup) (p r : ℕ) → s .limits ≡ Counts p r → (c : Counters) (health : ℕ) → SetupFits s
+    → ((j : ℕ) → j < s .n → AccountFits p r (getD (s .criticality) j 0) (accountAt c j))
     → somebodyCharged (s .n) (c .view) health ≡ any (s .n) (λ j. ltb (getD (c .penalty) j 0) (getD (countersOf s health c .penalty) j 0))
-unfolding somebodyCharged countersOf accountedAt accountAt
-charged-grows s c health f fits =
+unfolding somebodyCharged accountAt
+charged-grows s p r e c health f fits =
     any-ext (s .n) _ _
-    (λ j h. grows (s .p) (s .r) (s .q) (getD (s .criticality) j 0) (bit health j) (accountAt c j) (f .each j h .least) (fits j h)
-    ∙ ap (ltb (getD (c .penalty) j 0)) (sym (array-at (s .n) (λ i. accountedAt s health c i .penalty) j h (f .most))))
+    (λ j h. grows p r (s .q) (getD (s .criticality) j 0) (bit health j) (accountAt c j) (f .each j h .least) (fits j h)
+    ∙ ap (ltb (getD (c .penalty) j 0)) (sym (ap (λ (a : Account). a .penalty) (accounted-at s health c (f .most) j h ∙ counts-at s p r e health c j))))

@@ -1,9 +1,9 @@
 -- An opening with a page, by what the opening without one has answered.
-use mathlib.Core.Path.{_≡_, ap, ap₂, _∙_, sym}
-use mathlib.Core.Bool.{true, false}
+use mathlib.Core.Path.{_≡_, refl, ap, ap₂, _∙_, sym}
+use mathlib.Core.Bool.{Bool, true, false}
 use mathlib.Core.Logic.{⊎-elim}
 use mathlib.Core.List.{List, [], _++_}
-use Prim.Native.Nat.{ℕ, _+_, _*_, _≤_}
+use Prim.Native.Nat.{ℕ, _+_, _*_, _%_, _≤_}
 use native.Mathlib.Omega.{arith}
 use lib.ListN.{length}
 use lib.Dec.{eqb}
@@ -11,7 +11,9 @@ use borrow.Author.Tests.{eq-eqb, ne-eqb, eqb-false}
 use Rattle.words.specs.Word.{wordAt}
 use Rattle.words.proofs.Truth.{which, cond-true, cond-false}
 use Rattle.words.specs.Verdict.{isAccepted}
-use Rattle.setup.specs.Setup.{sizeIn, setupOf}
+use Rattle.setup.specs.Layout.{frontWords}
+use Rattle.setup.specs.Setup.{sizeIn, fadesIn, frontOf, setupOf}
+use Rattle.setup.specs.declared.Setup.{Setup}
 use Rattle.setup.specs.Check.{checkSetup}
 use Rattle.setup.proofs.SetupCheckLaws.{BytesFit, setup-pass}
 use Rattle.image.specs.Layout.{ownAt, imageLength}
@@ -24,11 +26,16 @@ use Rattle.calls.specs.declared.Answer.{Answer}
 use Rattle.presence.specs.declared.State.{State}
 use Rattle.presence.specs.declared.Opened.{Opened}
 use Rattle.presence.proofs.StateStepLaws.{open-valid}
+use Rattle.calls.proofs.ModuleCallLaws.{read-front}
 use Rattle.calls.proofs.CallAnswers.{open-writes, open-passed}
 use Rattle.page.specs.Page.{pageOpened}
 use Rattle.page.specs.Calls.{pageCalled, pageOpenCall}
 use Rattle.page.proofs.WithPageLaws.{with-accepted, with-refused, with-before, with-nine}
 use Rattle.page.proofs.PageCallLaws.{moved, refused-by, no-room, image-view, image-length}
+
+read-size : (s : List ℕ) → sizeIn (wordAt s 0) ≡ setupOf s .n
+unfolding setupOf
+read-size s = refl
 
 module _ (setup : List ℕ) (own : ℕ) where
   abbrev opened : Opened
@@ -107,24 +114,34 @@ module _ (setup : List ℕ) (own : ℕ) where
       pub setup-room : 4 ≤ length setup
       setup-room = fits .front .room
 
-      module _ {n : ℕ} (size : n ≡ sizeIn (wordAt setup 0)) where
-        size-is : n ≡ opened .state .setup .n
-        unfolding openOf fresh setupOf
-        size-is =
-            size
-            ∙ ap (λ (x : State). x .setup .n)
-            (sym (cond-true (fresh (setupOf setup) own) blank (eq-eqb (opened .number) 0 (open-passed setup own out answered .1))))
+      pub setup-whole : length setup % 4 ≡ 0
+      setup-whole = fits .front .whole
 
-        pub in-fresh : (n ≤ 16) × (length b ≡ imageLength n)
+      -- what was opened is fresh, with the setup that was read
+      setup-is : opened .state .setup ≡ setupOf setup
+      unfolding openOf fresh
+      setup-is =
+          ap (λ (x : State). x .setup)
+          (cond-true (fresh (setupOf setup) own) blank (eq-eqb (opened .number) 0 (open-passed setup own out answered .1)))
+
+      module _ {n front : ℕ} {form : Bool} (size : n ≡ sizeIn (wordAt setup 0)) (fades : form ≡ fadesIn (wordAt setup)) (at : front ≡ frontWords form) where
+        size-is : n ≡ opened .state .setup .n
+        size-is = size ∙ read-size setup ∙ ap (λ (x : Setup). x .n) (sym setup-is)
+
+        front-is : front ≡ frontOf (opened .state .setup)
+        front-is = at ∙ ap frontWords fades ∙ sym (read-front setup) ∙ ap frontOf (sym setup-is)
+
+        pub in-fresh : (n ≤ 16) × (length b ≡ imageLength front n)
         in-fresh =
             let f = fits .front .most in
-            (omega arith, ap length wrote-image ∙ image-length (opened .state) fresh-valid ∙ ap imageLength (sym size-is))
+            (omega arith, ap length wrote-image ∙ image-length (opened .state) fresh-valid ∙ ap₂ imageLength (sym front-is) (sym size-is))
 
-        pub open-paged : (page : List ℕ) {w : ℕ} {p : List ℕ} → length page ≡ 64 → w ≡ viewIn (wordAt b (ownAt n)) → p ≡ pageOpened n w
+        pub open-paged : (page : List ℕ) {w : ℕ} {p : List ℕ} → length page ≡ 64 → w ≡ viewIn (wordAt b (ownAt front n)) → p ≡ pageOpened n w
             → pageCalled (called r b) p ≡ pageOpenCall setup own out page
         unfolding pageOpenCall
         open-paged page {w} {p} l view h =
             let a : w ≡ opened .state .counters .view =
-            view ∙ ap₂ (λ (x : List ℕ) (k : ℕ). viewIn (wordAt x (ownAt k))) wrote-image size-is ∙ image-view (opened .state) fresh-valid
+            view ∙ ap (λ (x : List ℕ). viewIn (wordAt x (ownAt front n))) wrote-image
+            ∙ ap₂ (λ (i k : ℕ). viewIn (wordAt (imageOf (opened .state)) (ownAt i k))) front-is size-is ∙ image-view (opened .state) fresh-valid
             in
             ap₂ pageCalled e (h ∙ ap₂ pageOpened size-is a) ∙ with-accepted _ (openCall setup own out) out page _ l answered

@@ -9,7 +9,9 @@ use borrow.Author.Tests.{ne-eqb}
 use Rattle.words.specs.Word.{wordAt, bytesOf}
 use Rattle.words.specs.Runs.{runsOf}
 use Rattle.words.proofs.ByteLaws.{word-first}
-use Rattle.setup.specs.Setup.{headWord, sizeIn}
+use Rattle.setup.specs.Limits.{fades}
+use Rattle.setup.specs.Setup.{headWord, sizeIn, fadesIn, frontOf}
+use Rattle.setup.proofs.BoundLaws.{fades-back}
 use Rattle.image.specs.Layout.{ownAt, imageLength}
 use Rattle.image.specs.Words.{viewIn}
 use Rattle.image.proofs.SingleWords.{view-back}
@@ -39,18 +41,21 @@ module _ (st : State) (v : Valid st) where
   unfolding imageOf runsOf bytesOf
   image-size = ap sizeIn (word-first (headWord (st .setup .q) (st .setup .n)) _) ∙ omega (arith, valid-small st v .size)
 
-  pub image-view : viewIn (wordAt (imageOf st) (ownAt (st .setup .n))) ≡ st .counters .view
+  pub image-form : fadesIn (wordAt (imageOf st)) ≡ fades (st .setup .limits)
+  image-form = fades-back (wordAt (imageOf st)) (st .setup .limits) (stands-bytes st .limits)
+
+  pub image-view : viewIn (wordAt (imageOf st) (ownAt (frontOf (st .setup)) (st .setup .n))) ≡ st .counters .view
   image-view =
       let s = valid-small st v in
       ap viewIn (stands-bytes st .own) ∙ view-back (st .own) (st .counters .view) (s .own) (s .view)
 
-  pub image-length : length (imageOf st) ≡ imageLength (st .setup .n)
+  pub image-length : length (imageOf st) ≡ imageLength (frontOf (st .setup)) (st .setup .n)
   image-length = length-of st
 
 -- an output of no bytes has no room
 pub no-room : (st : State) → roomFor st [] ≡ false
 unfolding roomFor
-no-room st = ne-eqb 0 (imageLength (st .setup .n)) some
+no-room st = ne-eqb 0 (imageLength (frontOf (st .setup)) (st .setup .n)) some
   where
-    some : 0 ≡ imageLength (st .setup .n) → ⊥
+    some : 0 ≡ imageLength (frontOf (st .setup)) (st .setup .n) → ⊥
     some e = omega arith

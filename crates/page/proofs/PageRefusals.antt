@@ -15,8 +15,7 @@ use Rattle.setup.specs.Check.{checkSetup}
 use Rattle.words.specs.declared.Verdict.{Verdict}
 use Rattle.words.proofs.VerdictLaws.{Passed, between-of, tests-ok}
 use Rattle.rules.specs.Hearing.{readingOf, causesOf}
-use Rattle.image.specs.Layout.{imageLength}
-use Rattle.image.specs.Check.{checkImage}
+use Rattle.image.specs.Check.{imageLengthIn, checkImage}
 use Rattle.presence.specs.Opening.{fresh, openOf}
 use Rattle.presence.specs.Step.{judgementFor, afterRound, acceptedStep, stepOf}
 use Rattle.presence.specs.Image.{stateOf}
@@ -106,11 +105,11 @@ module _ (setup : List ℕ) (own : ℕ) (out page : List ℕ) where
 
   open-verdict : pageOpenVerdict setup own out page
       ≡ cond (isAccepted (checkSetup setup))
-      (cond (between 1 (sizeOf setup) own) (cond (hasRoom (sizeOf setup) out && isPage page) accepted (verdict 9 0)) (verdict 7 0)) (checkSetup setup)
+      (cond (between 1 (sizeOf setup) own) (cond (hasRoom setup out && isPage page) accepted (verdict 9 0)) (verdict 7 0)) (checkSetup setup)
   unfolding pageOpenVerdict andThen
   open-verdict =
       ap (λ (v : Verdict). cond (isAccepted (checkSetup setup)) v (checkSetup setup))
-      (two-answers 7 9 refl (between 1 (sizeOf setup) own) (hasRoom (sizeOf setup) out && isPage page))
+      (two-answers 7 9 refl (between 1 (sizeOf setup) own) (hasRoom setup out && isPage page))
 
   opens : pageOpenCall setup own out page
       ≡ pageAnswering (pageOpenVerdict setup own out page) 0 (fresh (setupOf setup) own) out (pageOpened (opened .setup .n) (opened .counters .view)) page
@@ -121,7 +120,7 @@ module _ (setup : List ℕ) (own : ℕ) (out page : List ℕ) where
       with-by 0 (fresh (setupOf setup) own) out page (pageOpened (opened .setup .n) (opened .counters .view)) (eqb (c .answer .number) 0) (isPage page) c)
       (without-page .opening setup own out ∙ ap (λ (v : Verdict). answering v 0 (fresh (setupOf setup) own) out) (open-without setup own out))
       ∙ open-chain 0 (fresh (setupOf setup) own) out page _ (checkSetup setup) (isAccepted (checkSetup setup)) (between 1 (sizeOf setup) own)
-      (hasRoom (sizeOf setup) out) (isPage page) refl
+      (hasRoom setup out) (isPage page) refl
       ∙ ap (λ (v : Verdict). pageAnswering v 0 (fresh (setupOf setup) own) out (pageOpened (opened .setup .n) (opened .counters .view)) page) (sym open-verdict)
 
   -- the module that is opened is fresh
@@ -158,12 +157,12 @@ module _ (image read : List ℕ) (controller : ℕ) (out page : List ℕ) where
 
   step-verdict : v
       ≡ cond (isAccepted (checkImage image))
-      (cond (hasRoom (sizeOf image) out && eqb (length read) (sizeOf image * 4) && isPage page) (cond (ltb controller (2 ^ sizeOf image)) accepted (verdict 10 0))
+      (cond (hasRoom image out && eqb (length read) (sizeOf image * 4) && isPage page) (cond (ltb controller (2 ^ sizeOf image)) accepted (verdict 10 0))
       (verdict 9 0)) (checkImage image)
   unfolding pageStepVerdict andThen
   step-verdict =
       ap (λ (v : Verdict). cond (isAccepted (checkImage image)) v (checkImage image))
-      (two-answers 9 10 refl (hasRoom (sizeOf image) out && eqb (length read) (sizeOf image * 4) && isPage page) (ltb controller (2 ^ sizeOf image)))
+      (two-answers 9 10 refl (hasRoom image out && eqb (length read) (sizeOf image * 4) && isPage page) (ltb controller (2 ^ sizeOf image)))
 
   steps : pageStepCall image read controller out page
       ≡ pageAnswering v (judgementFor st this .health) (afterRound st this) out (next (stepOf st read controller)) page
@@ -175,7 +174,7 @@ module _ (image read : List ℕ) (controller : ℕ) (out page : List ℕ) where
       (without-page .step image read controller out
       ∙ ap (λ (v : Verdict). answering v (judgementFor st this .health) (afterRound st this) out) (step-without image read controller out))
       ∙ step-chain (judgementFor st this .health) (afterRound st this) out page _ (checkImage image) (isAccepted (checkImage image))
-      (hasRoom (sizeOf image) out) (eqb (length read) (sizeOf image * 4)) (isPage page) (ltb controller (2 ^ sizeOf image)) refl
+      (hasRoom image out) (eqb (length read) (sizeOf image * 4)) (isPage page) (ltb controller (2 ^ sizeOf image)) refl
       ∙ ap (λ (v : Verdict). pageAnswering v (judgementFor st this .health) (afterRound st this) out (next (stepOf st read controller)) page) (sym step-verdict)
 
   -- the step is an accepted one of the struct
@@ -199,29 +198,29 @@ module _ (image read : List ℕ) (controller : ℕ) (out page : List ℕ) where
 -- ---- accepted calls
 
 pub open-accepted : (setup : List ℕ) (own : ℕ) (out page : List ℕ) → checkSetup setup .number ≡ 0 → 1 ≤ own → own ≤ sizeOf setup
-    → length out ≡ imageLength (sizeOf setup) → length page ≡ 64 → pageOpenCall setup own out page .call .answer .number ≡ 0
+    → length out ≡ imageLengthIn setup → length page ≡ 64 → pageOpenCall setup own out page .call .answer .number ≡ 0
 unfolding pageOpenVerdict Passed
 open-accepted setup own out page z h l room long =
     let e : pageOpenVerdict setup own out page ≡ accepted =
     both-accept (checkSetup setup) _ z
-    (tests-ok (single (between 1 (sizeOf setup) own) 7 0 ∷ single (hasRoom (sizeOf setup) out && isPage page) 9 0 ∷ [])
-    (λ _ _. between-of 1 (sizeOf setup) own h l, (λ _ _. and-true (hasRoom (sizeOf setup) out) _ (eq-eqb _ _ room) (eq-eqb (length page) 64 long), tt)))
+    (tests-ok (single (between 1 (sizeOf setup) own) 7 0 ∷ single (hasRoom setup out && isPage page) 9 0 ∷ [])
+    (λ _ _. between-of 1 (sizeOf setup) own h l, (λ _ _. and-true (hasRoom setup out) _ (eq-eqb _ _ room) (eq-eqb (length page) 64 long), tt)))
     in
     ap (λ (c : PageCalled). c .call .answer .number) (opening-is setup own out page) ∙ number-is (pageOpenVerdict setup own out page) 0 _ out _ page
     ∙ ap (λ (v : Verdict). v .number) e
 
 pub step-accepted : (image read : List ℕ) (controller : ℕ) (out page : List ℕ) → checkImage image .number ≡ 0
-    → length out ≡ imageLength (sizeOf image) → length read ≡ sizeOf image * 4 → controller < 2 ^ sizeOf image → length page ≡ 64
+    → length out ≡ imageLengthIn image → length read ≡ sizeOf image * 4 → controller < 2 ^ sizeOf image → length page ≡ 64
     → pageStepCall image read controller out page .call .answer .number ≡ 0
 unfolding pageStepVerdict Passed
 step-accepted image read controller out page z room whole bits long =
     let e : pageStepVerdict image read controller out page ≡ accepted =
     both-accept (checkImage image) _ z
     (tests-ok
-    (single (hasRoom (sizeOf image) out && eqb (length read) (sizeOf image * 4) && isPage page) 9 0 ∷ single (ltb controller (2 ^ sizeOf image)) 10 0 ∷ []) (
+    (single (hasRoom image out && eqb (length read) (sizeOf image * 4) && isPage page) 9 0 ∷ single (ltb controller (2 ^ sizeOf image)) 10 0 ∷ []) (
       λ _ _.
-          and-true (hasRoom (sizeOf image) out && eqb (length read) (sizeOf image * 4)) _
-          (and-true (hasRoom (sizeOf image) out) _ (eq-eqb _ _ room) (eq-eqb _ _ whole)) (eq-eqb (length page) 64 long),
+          and-true (hasRoom image out && eqb (length read) (sizeOf image * 4)) _
+          (and-true (hasRoom image out) _ (eq-eqb _ _ room) (eq-eqb _ _ whole)) (eq-eqb (length page) 64 long),
       (λ _ _. lt-ltb controller _ bits, tt),
     ))
     in

@@ -1,20 +1,21 @@
 -- A step with a page, by what the step without one has answered.
 use mathlib.Core.Path.{_≡_, ap, ap₂, _∙_, sym, subst}
-use mathlib.Core.Bool.{true, false}
+use mathlib.Core.Bool.{Bool, true, false}
 use mathlib.Core.Logic.{⊎-elim}
 use mathlib.Core.List.{List, [], _++_}
-use Prim.Native.Nat.{ℕ, _+_, _*_, _^_, _<_, _≤_}
+use Prim.Native.Nat.{ℕ, _+_, _*_, _%_, _^_, _<_, _≤_}
 use native.Mathlib.Omega.{arith}
 use lib.ListN.{length, getD}
 use borrow.Author.Tests.{eqb-false}
 use Rattle.words.specs.Word.{wordAt}
 use Rattle.words.proofs.Truth.{which, cond-true, cond-false}
 use Rattle.words.specs.Verdict.{isAccepted}
-use Rattle.setup.specs.Setup.{sizeIn, setupOf}
+use Rattle.setup.specs.Layout.{frontWords}
+use Rattle.setup.specs.Setup.{sizeIn, fadesIn, frontOf, setupOf}
+use Rattle.setup.specs.declared.Setup.{Setup}
 use Rattle.rules.specs.Hearing.{causesOf}
 use Rattle.rules.proofs.Causes.{codes-small}
 use Rattle.image.specs.Layout.{ownAt, imageLength}
-use Rattle.image.specs.Counters.{countersIn}
 use Rattle.image.specs.Words.{viewIn}
 use Rattle.image.specs.Check.{checkImage}
 use Rattle.image.proofs.TailLaws.{ImageFits, image-pass}
@@ -27,7 +28,8 @@ use Rattle.presence.specs.declared.State.{State}
 use Rattle.presence.specs.declared.Stepped.{Stepped}
 use Rattle.presence.proofs.ValidLaws.{valid-fits}
 use Rattle.presence.proofs.StateStepLaws.{step-accepted, step-whole, step-valid}
-use Rattle.presence.proofs.ImageState.{load-valid}
+use Rattle.presence.proofs.ImageState.{view-in, load-valid}
+use Rattle.calls.proofs.ModuleCallLaws.{read-form}
 use Rattle.calls.proofs.CallAnswers.{step-writes, step-passed}
 use Rattle.page.specs.Page.{pageStepped}
 use Rattle.page.specs.Calls.{pageCalled, pageStepCall}
@@ -84,9 +86,9 @@ module _ (image read : List ℕ) (controller : ℕ) where
       accepted : s .number ≡ 0
       accepted = step-passed image read controller out answered .1
 
-      same-size : s .state .setup .n ≡ st .setup .n
+      same-setup : s .state .setup ≡ st .setup
       unfolding acceptedStep afterRound
-      same-size = ap (λ (x : Stepped). x .state .setup .n) (step-accepted st read controller accepted .1)
+      same-setup = ap (λ (x : Stepped). x .state .setup) (step-accepted st read controller accepted .1)
 
       causes-are : s .causes ≡ causesOf (st .setup .n) read controller
       unfolding acceptedStep
@@ -101,47 +103,61 @@ module _ (image read : List ℕ) (controller : ℕ) where
       pub image-room : 4 ≤ length image
       image-room = fits .front .room
 
+      pub image-whole : length image % 4 ≡ 0
+      image-whole = fits .front .whole
+
       module _ {n : ℕ} (size : n ≡ sizeIn (wordAt image 0)) where
         size-is : n ≡ st .setup .n
         unfolding stateOf setupOf
         size-is = size
 
-        pub in-image : (n ≤ 16) × (length image ≡ imageLength n)
-        in-image =
-            let f = fits .front .most in
-            (omega arith, fits .size ∙ ap imageLength (sym size))
-
         -- the read has N words
         pub in-read : (n ≤ 16) × (length read ≡ n * 4)
-        in-read = (in-image .0, step-whole st read controller accepted ∙ ap (λ (k : ℕ). k * 4) (sym size-is))
+        in-read =
+            let f = fits .front .most in
+            (omega arith, step-whole st read controller accepted ∙ ap (λ (k : ℕ). k * 4) (sym size-is))
 
-        pub in-output : (n ≤ 16) × (length b ≡ imageLength n)
-        in-output =
-            (in-image .0, ap length wrote-image ∙ image-length (s .state) next-valid ∙ ap imageLength (same-size ∙ sym size-is))
+        module _ {front : ℕ} {form : Bool} (fades : form ≡ fadesIn (wordAt image)) (at : front ≡ frontWords form) where
+          front-is : front ≡ frontOf (st .setup)
+          front-is = at ∙ ap frontWords (fades ∙ sym (read-form image))
 
-        module _ {v : ℕ} (before : v ≡ viewIn (wordAt image (ownAt n))) where
-          before-is : v ≡ st .counters .view
-          unfolding stateOf countersIn
-          before-is = before ∙ ap (λ (k : ℕ). viewIn (wordAt image (ownAt k))) size
+          pub in-image : (n ≤ 16) × (length image ≡ imageLength front n)
+          in-image = (in-read .0, fits .size ∙ ap₂ imageLength (sym (at ∙ ap frontWords fades)) (sym size))
 
-          pub before-small : v < 2 ^ n
-          before-small =
-              subst (λ (k : ℕ). v < 2 ^ k) (sym size-is)
-              (subst (λ (x : ℕ). x < 2 ^ st .setup .n) (sym before-is) (valid-fits st (load-valid image (step-passed image read controller out answered .0)) .view))
+          pub in-output : (n ≤ 16) × (length b ≡ imageLength front n)
+          in-output = (
+            in-read .0,
+            ap length wrote-image ∙ image-length (s .state) next-valid ∙ ap (λ (x : Setup). imageLength (frontOf x) (x .n)) same-setup
+                ∙ ap₂ imageLength (sym front-is) (sym size-is),
+          )
 
-          pub step-paged : (page : List ℕ) {w : ℕ} {p q : List ℕ} → length page ≡ 64 → w ≡ viewIn (wordAt b (ownAt n)) → q ≡ causesOf n read controller
-              → p ≡ pageStepped n v (r .health) w q page
-              → pageCalled (called r b) p ≡ pageStepCall image read controller out page
-          unfolding pageStepCall
-          step-paged page {w} {p} {q} l after cs h =
-              let a : w ≡ s .state .counters .view =
-              after ∙ ap₂ (λ (x : List ℕ) (k : ℕ). viewIn (wordAt x (ownAt k))) wrote-image (size-is ∙ sym same-size) ∙ image-view (s .state) next-valid
-              in
-              let k : r .health ≡ s .health = ap (λ (c : Called). c .answer .health) e ∙ step-writes image read controller out answered .1 in
-              let d : q ≡ s .causes = cs ∙ ap (λ (m : ℕ). causesOf m read controller) size-is ∙ sym causes-are in
-              let g : p ≡ pageStepped (st .setup .n) (st .counters .view) (s .health) (s .state .counters .view) (s .causes) page =
-              h ∙ ap₂ (λ (x y : ℕ). pageStepped x y (r .health) w q page) size-is before-is
-              ∙ ap₂ (λ (x y : ℕ). pageStepped (st .setup .n) (st .counters .view) x y q page) k a
-              ∙ ap (λ (x : List ℕ). pageStepped (st .setup .n) (st .counters .view) (s .health) (s .state .counters .view) x page) d
-              in
-              ap₂ pageCalled e g ∙ with-accepted _ (stepCall image read controller out) out page _ l answered
+          module _ {v : ℕ} (before : v ≡ viewIn (wordAt image (ownAt front n))) where
+            before-is : v ≡ st .counters .view
+            unfolding stateOf
+            before-is =
+                before ∙ ap₂ (λ (i k : ℕ). viewIn (wordAt image (ownAt i k))) (at ∙ ap frontWords fades) size
+                ∙ sym (view-in (fadesIn (wordAt image)) image (sizeIn (wordAt image 0)))
+
+            pub before-small : v < 2 ^ n
+            before-small =
+                subst (λ (k : ℕ). v < 2 ^ k) (sym size-is)
+                (subst (λ (x : ℕ). x < 2 ^ st .setup .n) (sym before-is) (valid-fits st (load-valid image (step-passed image read controller out answered .0)) .view))
+
+            pub step-paged : (page : List ℕ) {w : ℕ} {p q : List ℕ} → length page ≡ 64 → w ≡ viewIn (wordAt b (ownAt front n)) → q ≡ causesOf n read controller
+                → p ≡ pageStepped n v (r .health) w q page
+                → pageCalled (called r b) p ≡ pageStepCall image read controller out page
+            unfolding pageStepCall
+            step-paged page {w} {p} {q} l after cs h =
+                let a : w ≡ s .state .counters .view =
+                after ∙ ap (λ (x : List ℕ). viewIn (wordAt x (ownAt front n))) wrote-image
+                ∙ ap₂ (λ (i k : ℕ). viewIn (wordAt (imageOf (s .state)) (ownAt i k))) (front-is ∙ ap frontOf (sym same-setup)) (size-is ∙ ap (λ (x : Setup). x .n) (sym same-setup))
+                ∙ image-view (s .state) next-valid
+                in
+                let k : r .health ≡ s .health = ap (λ (c : Called). c .answer .health) e ∙ step-writes image read controller out answered .1 in
+                let d : q ≡ s .causes = cs ∙ ap (λ (m : ℕ). causesOf m read controller) size-is ∙ sym causes-are in
+                let g : p ≡ pageStepped (st .setup .n) (st .counters .view) (s .health) (s .state .counters .view) (s .causes) page =
+                h ∙ ap₂ (λ (x y : ℕ). pageStepped x y (r .health) w q page) size-is before-is
+                ∙ ap₂ (λ (x y : ℕ). pageStepped (st .setup .n) (st .counters .view) x y q page) k a
+                ∙ ap (λ (x : List ℕ). pageStepped (st .setup .n) (st .counters .view) (s .health) (s .state .counters .view) x page) d
+                in
+                ap₂ pageCalled e g ∙ with-accepted _ (stepCall image read controller out) out page _ l answered

@@ -13,15 +13,18 @@ use Rattle.words.specs.Bits.{bit}
 use Rattle.words.proofs.Truth.{which, cond-true, cond-false, or-r}
 use Rattle.words.proofs.WordLaws.{read-put, read-put-other}
 use Rattle.words.specs.Verdict.{isAccepted}
-use Rattle.setup.specs.Setup.{setupOf}
+use Rattle.setup.specs.Layout.{frontWords}
+use Rattle.setup.specs.Setup.{sizeIn, fadesIn, setupOf}
+use Rattle.setup.specs.declared.Limits.{Limits}
+use Rattle.accounts.specs.Round.{accountAt}
+use Rattle.accounts.proofs.RoundLaws.{Kept}
 use Rattle.rules.specs.Hearing.{readingOf, causesOf}
 use Rattle.rules.specs.Causes.{causeOf}
 use Rattle.rules.proofs.Causes.{of-read, hears, above as no-module}
 use Rattle.image.specs.Layout.{ownAt}
-use Rattle.image.specs.Counters.{countersIn}
 use Rattle.image.specs.Words.{viewIn}
 use Rattle.image.specs.Check.{checkImage}
-use Rattle.image.proofs.PenaltyLaws.{accounts-fit}
+use Rattle.image.proofs.CounterLaws.{within-kept}
 use Rattle.presence.specs.Valid.{Valid}
 use Rattle.presence.specs.Opening.{openOf}
 use Rattle.presence.specs.Step.{acceptedStep, stepOf}
@@ -31,7 +34,7 @@ use Rattle.presence.specs.declared.State.{State}
 use Rattle.presence.specs.declared.Stepped.{Stepped}
 use Rattle.presence.proofs.ValidLaws.{valid-fits}
 use Rattle.presence.proofs.StateStepLaws.{step-accepted, step-valid, open-valid}
-use Rattle.presence.proofs.ImageState.{load-valid}
+use Rattle.presence.proofs.ImageState.{view-in, load-valid}
 use Rattle.calls.proofs.CallAnswers.{open-writes, open-passed, step-writes, step-passed, save-writes, save-passed}
 use Rattle.page.specs.Flags.{cleared}
 use Rattle.page.specs.Page.{isPage, pageOpened, causeAt, somebodyCharged, raised, pageStepped, pageWritten, interruptOn}
@@ -39,7 +42,7 @@ use Rattle.page.specs.Host.{writeCall}
 use Rattle.page.specs.Calls.{PageCalled, pageCalled, pageOpenCall, pageStepCall}
 use Rattle.page.specs.Refusals.{page-of-opening}
 use Rattle.page.specs.Promise.{Paged, opens, steps, saves, refused-image, refused-page, writes, Unnamed, here, stepped, not-opened, written, Promise}
-use Rattle.page.proofs.PageCallLaws.{image-view, image-size}
+use Rattle.page.proofs.PageCallLaws.{image-view, image-size, image-form}
 use Rattle.page.proofs.RaisedLaws.{raised-kept, raised-0, raised-1, raised-above, cleared-kept, cleared-bit, turns-on, on-by}
 use Rattle.page.proofs.PageWords.{opened-1, written-1, opened-cause, word-0, word-1, word-2, word-other, cause-of}
 use Rattle.page.proofs.HostLaws.{write-either, write-8, write-12, write-none}
@@ -50,9 +53,10 @@ use Rattle.page.proofs.ChargeLaws.{charged-grows}
 
 -- the view of a state is read back from its image
 view-read : (st : State) → Valid st → stateOf (imageOf st) .counters .view ≡ st .counters .view
-unfolding stateOf countersIn
+unfolding stateOf
 view-read st v =
-    ap (λ (k : ℕ). viewIn (wordAt (imageOf st) (ownAt k))) (image-size st v) ∙ image-view st v
+    view-in (fadesIn (wordAt (imageOf st))) (imageOf st) (sizeIn (wordAt (imageOf st) 0))
+    ∙ ap₂ (λ (b : Bool) (k : ℕ). viewIn (wordAt (imageOf st) (ownAt (frontWords b) k))) (image-form st v) (image-size st v) ∙ image-view st v
 
 -- ---- an accepted step
 
@@ -270,9 +274,11 @@ promise = record {
   health = health-word;
   view = view-word;
   shown = shows;
-  grew = λ image health z.
+  grew = λ image p r health z e.
       let f = valid-fits (stateOf image) (load-valid image z) in
-      charged-grows (stateOf image .setup) (stateOf image .counters) health (f .setup) (accounts-fit (stateOf image .setup) (stateOf image .counters) (f .counters));
+      let kept = within-kept (stateOf image .setup .limits) (stateOf image .setup) (stateOf image .counters) (f .setup .most) (f .counters) in
+      charged-grows (stateOf image .setup) p r e (stateOf image .counters) health (f .setup)
+      (λ j h. subst (λ (l : Limits). Kept l (getD (stateOf image .setup .criticality) j 0) (accountAt (stateOf image .counters) j)) e (kept j h) .0);
   change-flag = change-is;
   charge-flag = charge-is;
   other-flags = others-are;

@@ -81,7 +81,7 @@ setup =
 
 -- an output for its image, 26 words
 abbrev pub out : List ℕ
-out = replicate (imageLength 4) 0
+out = replicate (imageLength 3 4) 0
 
 -- a page before its opening, of any bytes
 abbrev pub lent : List ℕ
@@ -189,7 +189,7 @@ fiveSetup =
 
 -- an output for its image
 abbrev pub fiveOut : List ℕ
-fiveOut = replicate (imageLength 5) 0
+fiveOut = replicate (imageLength 3 5) 0
 
 -- opened as module 2
 abbrev pub fiveOpened : PageCalled

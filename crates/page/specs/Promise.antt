@@ -11,7 +11,8 @@ use Rattle.words.specs.Bits.{bit}
 use Rattle.words.specs.Count.{any}
 use Rattle.rules.specs.Hearing.{readingOf}
 use Rattle.rules.specs.Causes.{causeOf}
-use Rattle.rules.specs.Account.{countersOf}
+use Rattle.setup.specs.declared.Limits.the-variants.{Counts}
+use Rattle.accounts.specs.Round.{countersOf}
 use Rattle.image.specs.Check.{checkImage}
 use Rattle.presence.specs.Image.{stateOf}
 use Rattle.calls.specs.Calls.{openCall, stepCall, saveCall}
@@ -58,8 +59,8 @@ pub record Promise : Type 0 where
       → wordAt (pageStepCall image read controller out page .page) 1 ≡ stateOf (pageStepCall image read controller out page .call .out) .counters .view
   -- So a page that goes along with its module shows its view at all times; word 1 before a step is the view before it.
   pub shown : (image page : List ℕ) → Paged image page → wordAt page 1 ≡ stateOf image .counters .view
-  -- Somebody was charged exactly if rule 8 made a penalty grow.
-  pub grew : (image : List ℕ) (health : ℕ) → checkImage image .number ≡ 0
+  -- Somebody was charged exactly if rule 8 made a penalty grow, where account is kept by counts.
+  pub grew : (image : List ℕ) (p r health : ℕ) → checkImage image .number ≡ 0 → stateOf image .setup .limits ≡ Counts p r
       → somebodyCharged (stateOf image .setup .n) (stateOf image .counters .view) health
       ≡ any (stateOf image .setup .n)
       (λ j. ltb (getD (stateOf image .counters .penalty) j 0) (getD (countersOf (stateOf image .setup) health (stateOf image .counters) .penalty) j 0))

@@ -31,14 +31,14 @@ use Rattle.page.specs.Calls.{PageCalled, pageCalled, pageOpenCall, pageS
 unfoldable pub pageOpenVerdict : List ℕ → ℕ → List ℕ → List ℕ → Verdict
 pageOpenVerdict setup own out page =
     andThen (checkSetup setup)
-    (firstRefusal (single (between 1 (sizeOf setup) own) 7 0 ∷ single (hasRoom (sizeOf setup) out && isPage page) 9 0 ∷ []))
+    (firstRefusal (single (between 1 (sizeOf setup) own) 7 0 ∷ single (hasRoom setup out && isPage page) 9 0 ∷ []))
 
 -- step: 1 to 8 for the image, 9 for the output, the read or the page, 10 for a controller bit at N or above
 unfoldable pub pageStepVerdict : List ℕ → List ℕ → ℕ → List ℕ → List ℕ → Verdict
 pageStepVerdict image read controller out page =
     andThen (checkImage image)
     (firstRefusal
-    (single (hasRoom (sizeOf image) out && eqb (length read) (sizeOf image * 4) && isPage page) 9 0
+    (single (hasRoom image out && eqb (length read) (sizeOf image * 4) && isPage page) 9 0
     ∷ single (ltb controller (2 ^ sizeOf image)) 10 0
     ∷ []))
 

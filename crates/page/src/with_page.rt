@@ -5,12 +5,14 @@ use calls::Answer;
 use calls::calls::presence_open;
 use calls::calls::presence_step;
 use image::view_in;
+use setup::bounds::fades_at;
+use setup::bounds::front_words;
 use setup::check::size_at;
 ghost use mathlib.Core.Path.{_≡_};
 ghost use Rattle.calls.specs.Calls.{called};
 ghost use Rattle.page.specs.Calls.{pageCalled, pageOpenCall, pageStepCall};
 
-// Opens module `own` of a setup, and writes its image and its page: 1 to 6, 7, 9 for the output or the page.
+// Opens module `own` of a setup, and writes its image and its page: 1 to 6 and 22, 7, 9 for the output or the page.
 #[no_mangle]
 pub extern "C" fn presence_page_open(
     bytes: &[u8],
@@ -31,12 +33,12 @@ pub extern "C" fn presence_page_open(
         return answer;
     }
     let n = size_at(bytes);
-    let view = view_in(out, n);
+    let view = view_in(out, front_words(fades_at(bytes)), n);
     open_page(n, view, page);
     answer
 }
 
-// One step, from image to image, with the page beside it: 1 to 8, 9 for the read, the output or the page, 10.
+// One step, from image to image, with the page beside it: 1 to 8 and 22, 9 for the read, the output or the page, 10.
 #[no_mangle]
 pub extern "C" fn presence_page_step(
     image: &[u8],
@@ -57,8 +59,9 @@ pub extern "C" fn presence_page_step(
         return answer;
     }
     let n = size_at(image);
-    let before = view_in(image, n);
-    let after = view_in(out, n);
+    let front = front_words(fades_at(image));
+    let before = view_in(image, front, n);
+    let after = view_in(out, front, n);
     let causes = rules::hearing::causes(n, read, controller);
     step_page(n, before, answer.health, after, causes, page);
     answer

@@ -1,43 +1,53 @@
 -- Bytes that pass the check of a saved state give a valid state.
-use mathlib.Core.Path.{_≡_}
+use mathlib.Core.Path.{_≡_, refl}
+use mathlib.Core.Bool.{Bool, true, false}
 use mathlib.Core.List.{List}
 use Prim.Native.Nat.{ℕ}
 use native.Mathlib.Omega.{arith}
 use Rattle.words.specs.Word.{wordAt}
 use Rattle.words.proofs.BitLaws.{pack-lt}
 use Rattle.words.proofs.ArrayLaws.{array-clear}
-use Rattle.setup.specs.Setup.{sizeIn, setupOf}
+use Rattle.setup.specs.Setup.{sizeIn, fadesIn, frontIn, setupOf}
 use Rattle.setup.proofs.FrontLaws.{setup-fits}
+use Rattle.setup.specs.Layout.{frontWords}
 use Rattle.image.specs.Layout.{ownAt, latestAt, earlierAt}
+use Rattle.image.specs.Words.{viewIn}
 use Rattle.image.specs.Rows.{readingIn}
 use Rattle.image.specs.Counters.{countersIn}
 use Rattle.image.specs.Check.{checkImage}
 use Rattle.image.proofs.TailLaws.{ImageFits, image-pass}
 use Rattle.image.proofs.SingleWords.{own-made, syndrome-made}
 use Rattle.image.proofs.RowLaws.{read-rows}
-use Rattle.image.proofs.CounterLaws.{read-counters}
+use Rattle.image.proofs.CounterLaws.{read-accounts}
 use Rattle.presence.specs.Valid.{Valid}
 use Rattle.presence.specs.Image.{stateOf}
 use Rattle.presence.proofs.ValidLaws.{StateFits, fits-valid}
+
+-- the view of the counters that are read
+pub view-in : (b : Bool) (s : List ℕ) (n : ℕ) → countersIn b s n .view ≡ viewIn (wordAt s (ownAt (frontWords b) n))
+unfolding countersIn
+view-in true s n = refl
+view-in false s n = refl
 
 module _ (s : List ℕ) (f : ImageFits s) where
   abbrev size : ℕ
   size = sizeIn (wordAt s 0)
 
   pub image-state : StateFits (stateOf s)
-  unfolding stateOf setupOf readingIn countersIn
+  unfolding stateOf setupOf readingIn
   image-state =
-      let own = own-made size (wordAt s (ownAt size)) (f .tail .number) (f .tail .own) in
+      let front = frontIn (wordAt s) in
+      let own = own-made size (wordAt s (ownAt front size)) (f .tail .number) (f .tail .own) in
       let small = f .front .most in
       record {
         setup = setup-fits s (f .front) (f .words) (omega (arith, f .size));
         first = own .first;
         last = own .last;
-        view = own .view;
-        rows = read-rows s size small (f .tail .rows);
-        latest = syndrome-made size (wordAt s (latestAt size)) (f .tail .latest) .1;
-        earlier = syndrome-made size (wordAt s (earlierAt size)) (f .tail .earlier) .1;
-        counters = read-counters s (f .tail .counters) small;
+        view = rw (view-in (fadesIn (wordAt s)) s size) (own .view);
+        rows = read-rows s front size small (f .tail .rows);
+        latest = syndrome-made size (wordAt s (latestAt front size)) (f .tail .latest) .1;
+        earlier = syndrome-made size (wordAt s (earlierAt front size)) (f .tail .earlier) .1;
+        counters = read-accounts s small (fadesIn (wordAt s)) refl (f .tail .counters);
         heard = pack-lt size _;
         no-rows = array-clear size _;
       }

@@ -1,55 +1,78 @@
 -- The state that one pass over an image finds, part by part.
-use mathlib.Core.Path.{_≡_, refl, _∙_, sym}
+use mathlib.Core.Path.{_≡_, refl, ap, _∙_, sym}
 use mathlib.Core.Bool.{Bool, true, false, _&&_}
 use mathlib.Core.List.{List}
-use Prim.Native.Nat.{ℕ}
+use Prim.Native.Nat.{ℕ, _+_, _≤_}
+use native.Mathlib.Omega.{arith}
+use lib.ListN.{length}
 use Rattle.words.specs.Word.{wordAt}
+use Rattle.words.specs.Array.{array}
 use Rattle.words.specs.Count.{all}
 use Rattle.words.specs.Verdict.{allRight}
-use Rattle.setup.specs.Setup.{sizeIn, setupOf}
-use Rattle.setup.specs.Check.{wordTests}
+use Rattle.words.proofs.Truth.{and-l}
+use Rattle.words.proofs.VerdictLaws.{right-join}
+use Rattle.setup.specs.Limits.{mostReturnLimit}
+use Rattle.setup.specs.Setup.{sizeIn, returnLimitIn, criticalityIn, fadesIn, limitsIn, setupOf}
+use Rattle.setup.specs.Layout.{frontWords}
+use Rattle.setup.specs.Check.{limitTests, wordTests}
 use Rattle.setup.specs.declared.Setup.{Setup}
-use Rattle.rules.specs.declared.Counters.{Counters}
+use Rattle.accounts.specs.declared.Counters.{Counters}
 use Rattle.rules.specs.declared.Reading.{Reading}
-use Rattle.image.specs.Layout.{ownAt, latestAt, earlierAt}
+use Rattle.setup.proofs.SetupCheckLaws.{bothTests}
+use Rattle.image.specs.Layout.{ownAt, latestAt, earlierAt, imageLength}
 use Rattle.image.specs.Words.{ownIn, viewIn, syndromeIn}
 use Rattle.image.specs.Rows.{rowTest, readingIn}
-use Rattle.image.specs.CounterSection.{valuesIn}
-use Rattle.image.specs.Returns.{returnCounts}
-use Rattle.image.specs.Counters.{penalties, rewards, counterTests, countersIn}
+use Rattle.image.specs.Counters.{counterTests, countersIn}
 use Rattle.image.specs.Check.{wordsRight, imageTests}
 use Rattle.image.proofs.ReadLaws.{loaded-good}
+use Rattle.image.proofs.ReturnLaws.{return-limit}
+use Rattle.image.proofs.LentLaws.{Asked, asked-by}
 use Rattle.presence.specs.Image.{stateOf}
 use Rattle.presence.specs.declared.State.{State}
 
 pub state-by : (s : List ℕ) {n : ℕ} → n ≡ sizeIn (wordAt s 0)
-    → {setup : Setup} {own latest earlier : ℕ} {counters : Counters} {previous : Reading}
-    → setup ≡ setupOf s → own ≡ ownIn (wordAt s (ownAt n)) → counters ≡ countersIn s n → previous ≡ readingIn s n
-    → latest ≡ syndromeIn (wordAt s (latestAt n)) → earlier ≡ syndromeIn (wordAt s (earlierAt n))
+    → {setup : Setup} {own latest earlier : ℕ} {counters : Counters} {previous : Reading} {b : Bool} → b ≡ fadesIn (wordAt s)
+    → setup ≡ setupOf s → own ≡ ownIn (wordAt s (ownAt (frontWords b) n)) → counters ≡ countersIn b s n → previous ≡ readingIn s (frontWords b) n
+    → latest ≡ syndromeIn (wordAt s (latestAt (frontWords b) n)) → earlier ≡ syndromeIn (wordAt s (earlierAt (frontWords b) n))
     → _≡_ {A = State} (record { setup = setup; own = own; counters = counters; previous = previous; latest = latest; earlier = earlier }) (stateOf s)
 unfolding stateOf
-state-by s {n} e e₀ e₁ e₂ e₃ e₄ e₅ =
-    rw (← e) (λ i. record { setup = e₀ i; own = e₁ i; counters = e₂ i; previous = e₃ i; latest = e₄ i; earlier = e₅ i })
+state-by s {n} e f e₀ e₁ e₂ e₃ e₄ e₅ =
+    rw (← e, ← f) (λ i. record { setup = e₀ i; own = e₁ i; counters = e₂ i; previous = e₃ i; latest = e₄ i; earlier = e₅ i })
 
 -- ---- whether all words are right, where those of the setup are found first
 
-pub setup-wrong : {first : Bool} (s : List ℕ) (n : ℕ) → first ≡ allRight (wordTests s n) → first ≡ false → false ≡ allRight (imageTests s n)
-setup-wrong s n e f =
-    let g = loaded-good s n {first = false} (sym f ∙ e) refl refl refl in
-    g
+module _ {fades : Bool} {front : ℕ} (s : List ℕ) (n : ℕ) (form : fades ≡ fadesIn (wordAt s)) (at : front ≡ frontWords fades) where
+  pub setup-wrong : {first : Bool} → first ≡ allRight (wordTests s n) → first ≡ false → false ≡ allRight (imageTests s n)
+  setup-wrong e f = loaded-good s n form at {first = false} (sym f ∙ e) refl refl refl
 
-pub setup-right : {first alone rows counters : Bool} (s : List ℕ) (n : ℕ) → first ≡ allRight (wordTests s n) → first ≡ true
-    → alone ≡ wordsRight (wordAt s) n → rows ≡ all n (rowTest (wordAt s) n) → counters ≡ allRight (counterTests (wordAt s) n)
-    → alone && (rows && counters) ≡ allRight (imageTests s n)
-setup-right s n e f a r c = loaded-good s n {first = true} (sym f ∙ e) a r c
+  pub setup-right : {first alone rows counters : Bool} → first ≡ allRight (wordTests s n) → first ≡ true
+      → alone ≡ wordsRight (wordAt s) front n → rows ≡ all n (rowTest (wordAt s) front n) → counters ≡ allRight (counterTests fades (wordAt s) n)
+      → alone && (rows && counters) ≡ allRight (imageTests s n)
+  setup-right e f a r c = loaded-good s n form at {first = true} (sym f ∙ e) a r c
 
--- the counters, where their words are right
-pub counters-read : {view : ℕ} {penalty reward returns : List ℕ} (s : List ℕ) (n : ℕ) → view ≡ viewIn (wordAt s (ownAt n))
-    → (penalty ≡ valuesIn s n penalties) × (reward ≡ valuesIn s n rewards) × (returns ≡ valuesIn s n returnCounts)
-    → record { view = view; penalty = penalty; reward = reward; returns = returns } ≡ countersIn s n
-unfolding countersIn
-counters-read s n v (p, r, t) = λ i. record { view = v i; penalty = p i; reward = r i; returns = t i }
+pub reading-read : {heard : ℕ} {rows : List ℕ} (s : List ℕ) (front n : ℕ) → heard ≡ readingIn s front n .heard → rows ≡ readingIn s front n .rows
+    → record { heard = heard; rows = rows } ≡ readingIn s front n
+reading-read s front n h r = λ i. record { heard = h i; rows = r i }
 
-pub reading-read : {heard : ℕ} {rows : List ℕ} (s : List ℕ) (n : ℕ) → heard ≡ readingIn s n .heard → rows ≡ readingIn s n .rows
-    → record { heard = heard; rows = rows } ≡ readingIn s n
-reading-read s n h r = λ i. record { heard = h i; rows = r i }
+-- ---- what the accounts are read with, of a setup that was read
+
+module _ {setup : Setup} {fades : Bool} {n : ℕ} (s : List ℕ) (e : setup ≡ setupOf s) (form : fades ≡ fadesIn (wordAt s)) (size : n ≡ sizeIn (wordAt s 0)) where
+  pub limits-of : setup .limits ≡ limitsIn fades (wordAt s)
+  unfolding setupOf
+  limits-of = rw form (ap (λ (x : Setup). x .limits) e)
+
+  criticality-of : {front : ℕ} → front ≡ frontWords fades → setup .criticality ≡ array n (λ j. criticalityIn (wordAt s (front + j)))
+  unfolding setupOf
+  criticality-of at = rw (at, form, size) (ap (λ (x : Setup). x .criticality) e)
+
+  limits-hold : {first : Bool} → first ≡ allRight (wordTests s n) → first ≡ true → allRight (limitTests fades (wordAt s)) ≡ true
+  limits-hold g t =
+      let ts = limitTests (fadesIn (wordAt s)) (wordAt s) in
+      ap (λ (b : Bool). allRight (limitTests b (wordAt s))) form ∙ and-l (allRight ts) _ (sym (right-join ts (bothTests s n)) ∙ sym g ∙ t)
+
+  pub accounts-asked : {first : Bool} {front view : ℕ} → first ≡ allRight (wordTests s n) → first ≡ true → front ≡ frontWords fades → n ≤ 16
+      → length s ≡ imageLength (frontWords fades) n → returnLimitIn (wordAt s 0) ≤ mostReturnLimit → view ≡ viewIn (wordAt s (ownAt front n))
+      → Asked s n (setup .q) (setup .criticality) view (setup .limits)
+  accounts-asked g t at few long most view =
+      let q = return-limit s e in
+      asked-by s n fades limits-of at few long (limits-hold g t) q (omega (arith, q, most)) (criticality-of at) view

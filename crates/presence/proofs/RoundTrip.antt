@@ -1,6 +1,6 @@
 -- What is read is what was saved, and what is saved is what was read.
-use mathlib.Core.Path.{_≡_, refl, ap, _∙_, sym, subst}
-use mathlib.Core.Bool.{true}
+use mathlib.Core.Path.{_≡_, refl, ap, ap₂, _∙_, sym, subst}
+use mathlib.Core.Bool.{Bool, true, false}
 use mathlib.Core.List.{List, _++_}
 use Prim.Native.Nat.{ℕ, _+_, _*_, _<_}
 use native.Mathlib.Omega.{arith}
@@ -11,28 +11,33 @@ use Rattle.words.specs.Runs.{total, runsOf, runWord}
 use Rattle.words.specs.Verdict.{accepted}
 use Rattle.words.proofs.Truth.{cond-true}
 use Rattle.words.proofs.ArrayLaws.{array-length}
+use Rattle.words.proofs.WordLaws.{word-lt}
 use Rattle.words.proofs.ByteLaws.{word-front, bytes-join, bytes-own}
 use Rattle.words.proofs.RunLaws.{Follows, follow-runs, runs-join}
-use Rattle.setup.specs.Layout.{setupWords}
-use Rattle.setup.specs.Setup.{sizeIn, setupOf, setupRuns, setupBytes, blankSetup}
+use Rattle.setup.specs.Layout.{frontWords, setupWords}
+use Rattle.setup.specs.Limits.{fades}
+use Rattle.setup.specs.Setup.{sizeIn, fadesIn, frontIn, frontOf, setupOf, setupRuns, setupBytes, blankSetup}
 use Rattle.setup.specs.Check.{checkSetup, readSetup}
 use Rattle.setup.specs.RoundTrip.{ShapedSetup}
 use Rattle.setup.specs.declared.Setup.{Setup}
 use Rattle.setup.specs.declared.SetupRead.{SetupRead}
 use Rattle.setup.proofs.SetupLaws.{SetupFits, verdict-fits}
-use Rattle.setup.proofs.SetupWords.{written-length}
+use Rattle.setup.proofs.BoundLaws.{front-least, read-fades, fades-same}
+use Rattle.setup.proofs.SetupWords.{written-length, written-fades}
 use Rattle.setup.proofs.SetupCheckLaws.{WordsFit, setup-pass}
 use Rattle.setup.proofs.SetupRoundTrip.{read-back}
 use Rattle.setup.proofs.FrontLaws.{words-same, setup-same, setup-written}
 use Rattle.rules.specs.Hearing.{readingOf}
-use Rattle.rules.specs.Account.{countersOf}
+use Rattle.accounts.specs.Round.{countersOf}
 use Rattle.image.specs.Layout.{ownAt, latestAt, earlierAt, endAt, imageLength}
+use Rattle.image.specs.Words.{viewIn}
 use Rattle.image.specs.Rows.{readingIn}
 use Rattle.image.specs.Counters.{countersIn}
+use Rattle.image.specs.Sections.{sectionRuns}
 use Rattle.image.specs.Check.{checkImage}
 use Rattle.image.proofs.SingleWords.{own-made, syndrome-made}
 use Rattle.image.proofs.RowLaws.{reading-back, rows-same}
-use Rattle.image.proofs.CounterLaws.{counters-back, counters-same, zero-shaped, round-shaped, read-shaped}
+use Rattle.image.proofs.CounterLaws.{accounts-back, accounts-same, zero-shaped, round-shaped, read-shaped}
 use Rattle.image.proofs.TailLaws.{TailFits, ImageFits, tail-pass, image-pass, image-ok}
 use Rattle.presence.specs.Valid.{Valid}
 use Rattle.presence.specs.Opening.{fresh, openOf}
@@ -42,7 +47,7 @@ use Rattle.presence.specs.RoundTrip.{Shaped, RoundTrip}
 use Rattle.presence.specs.declared.State.{State}
 use Rattle.presence.specs.declared.Stepped.{Stepped}
 use Rattle.presence.proofs.SmallLaws.{Small, valid-small, valid-setup, valid-tail}
-use Rattle.presence.proofs.StateWords.{Stands, Read, stands-bytes, state-read, image-words, image-length}
+use Rattle.presence.proofs.StateWords.{Stands, Read, stands-bytes, state-read, image-words, image-length, state-total}
 use Rattle.presence.proofs.LoadLaws.{state-by}
 use Rattle.presence.proofs.ImageState.{load-valid}
 use Rattle.presence.proofs.StateStepLaws.{step-accepted, step-valid, open-fresh, open-valid}
@@ -58,22 +63,40 @@ module _ (s : List ℕ) (e : checkImage s .number ≡ 0) where
   abbrev size : ℕ
   size = sizeIn (wordAt s 0)
 
+  abbrev form : Bool
+  form = fadesIn (wordAt s)
+
+  abbrev start : ℕ
+  start = frontWords form
+
   fit : ImageFits s
   fit = image-pass s e
 
-  sections-same : Follows (wordAt s) (ownAt size) (stateRuns (stateOf s))
-  unfolding stateOf setupOf countersIn Follows
-  sections-same =
+  -- the words of the state, whose setup is of the form that the second word says
+  read-runs : stateRuns (stateOf s) ≡ sectionRuns form size (stateOf s .own) (stateOf s .counters) (stateOf s .previous) (stateOf s .latest) (stateOf s .earlier)
+  unfolding stateOf setupOf
+  read-runs =
+      ap (λ (b : Bool). sectionRuns b size (stateOf s .own) (stateOf s .counters) (stateOf s .previous) (stateOf s .latest) (stateOf s .earlier)) (read-fades form (wordAt s))
+
+  read-view : (b : Bool) → countersIn b s size .view ≡ viewIn (wordAt s (ownAt (frontWords b) size))
+  unfolding countersIn
+  read-view true = refl
+  read-view false = refl
+
+  sections-same : ((i : ℕ) → getD s i 0 < 256) → Follows (wordAt s) (ownAt start size) (stateRuns (stateOf s))
+  unfolding stateOf setupOf Follows
+  sections-same b =
       let t = fit .tail in
-      let small = fit .front .most in (
-        λ j h. rw (zero-of (ownAt size) j h) (sym (own-made size (wordAt s (ownAt size)) (t .number) (t .own) .word)),
+      let small = fit .front .most in
+      subst (Follows (wordAt s) (ownAt start size)) (sym read-runs) (
+        λ j h. rw (zero-of (ownAt start size) j h, read-view form) (sym (own-made size (wordAt s (ownAt start size)) (t .number) (t .own) .word)),
         (
-          rows-same s size small (t .rows),
+          rows-same s start size small (t .rows),
           (
-            λ j h. rw (zero-of (latestAt size) j h) (sym (syndrome-made size (wordAt s (latestAt size)) (t .latest) .0)),
+            λ j h. rw (zero-of (latestAt start size) j h) (sym (syndrome-made size (wordAt s (latestAt start size)) (t .latest) .0)),
             (
-              λ j h. rw (zero-of (earlierAt size) j h) (sym (syndrome-made size (wordAt s (earlierAt size)) (t .earlier) .0)),
-              counters-same s (t .counters) small,
+              λ j h. rw (zero-of (earlierAt start size) j h) (sym (syndrome-made size (wordAt s (earlierAt start size)) (t .earlier) .0)),
+              accounts-same s small form (word-lt s b) (t .counters),
             ),
           ),
         ),
@@ -83,19 +106,19 @@ module _ (s : List ℕ) (e : checkImage s .number ≡ 0) where
       zero-of at j h = omega arith
 
   pub written-read : ((i : ℕ) → getD s i 0 < 256) → imageOf (stateOf s) ≡ s
-  unfolding stateOf setupOf total
+  unfolding stateOf setupOf
   written-read b =
-      let first : setupBytes (setupOf s) ≡ bytesOf (ownAt size) (wordAt s) = setup-written s (fit .front) (fit .words) (omega (arith, fit .size)) b in
-      let rest : runsOf (stateRuns (stateOf s)) ≡ bytesOf (total (stateRuns (stateOf s))) (λ i. wordAt s (ownAt size + i)) =
-      follow-runs (wordAt s) (ownAt size) (stateRuns (stateOf s)) sections-same
+      let first : setupBytes (setupOf s) ≡ bytesOf (ownAt start size) (wordAt s) = setup-written s (fit .front) (fit .words) (omega (arith, fit .size)) b in
+      let rest : runsOf (stateRuns (stateOf s)) ≡ bytesOf (total (stateRuns (stateOf s))) (λ i. wordAt s (ownAt start size + i)) =
+      follow-runs (wordAt s) (ownAt start size) (stateRuns (stateOf s)) (sections-same b)
       in
-      let k : ownAt size + total (stateRuns (stateOf s)) ≡ endAt size = omega arith in
+      let k : ownAt start size + total (stateRuns (stateOf s)) ≡ endAt start size = omega (arith, state-total (stateOf s)) in
       image-parts (stateOf s)
       ∙ ap (λ (x : List ℕ). x ++ runsOf (stateRuns (stateOf s))) first
-      ∙ ap (λ (x : List ℕ). bytesOf (ownAt size) (wordAt s) ++ x) rest
-      ∙ sym (bytes-join (ownAt size) (total (stateRuns (stateOf s))) (wordAt s))
+      ∙ ap (λ (x : List ℕ). bytesOf (ownAt start size) (wordAt s) ++ x) rest
+      ∙ sym (bytes-join (ownAt start size) (total (stateRuns (stateOf s))) (wordAt s))
       ∙ ap (λ (m : ℕ). bytesOf m (wordAt s)) k
-      ∙ bytes-own s (endAt size) b (fit .size)
+      ∙ bytes-own s (endAt start size) b (fit .size)
 
 -- ---- a valid state is read back
 
@@ -137,16 +160,26 @@ module _ (st : State) (v : Valid st) (a : Shaped st) where
   unfolding setupOf
   front-size = ap (λ (x : Setup). x .n) front-setup
 
-  front-word : (i : ℕ) → i < setupWords n → wordAt front i ≡ wordAt image i
+  -- the form, by the second word
+  front-form : fadesIn (wordAt front) ≡ fades (st .setup .limits)
+  front-form = written-fades (st .setup)
+
+  front-word : (i : ℕ) → i < setupWords (frontOf (st .setup)) n → wordAt front i ≡ wordAt image i
   front-word i h =
       sym (ap (λ (x : List ℕ). wordAt x i) (image-parts st) ∙ word-front front _ i (omega (arith, written-length (st .setup))))
 
+  same-words : (i : ℕ) → i < setupWords (frontIn (wordAt front)) n → wordAt front i ≡ wordAt image i
+  same-words i h = front-word i (rw front-form at h)
+
   image-setup : setupOf image ≡ st .setup
-  image-setup = sym (setup-same front image n front-word front-size) ∙ front-setup
+  image-setup = sym (setup-same front image n same-words front-size) ∙ front-setup
 
   image-size : sizeIn (wordAt image 0) ≡ n
   unfolding setupOf
   image-size = ap (λ (x : Setup). x .n) image-setup
+
+  image-form : fadesIn (wordAt image) ≡ fades (st .setup .limits)
+  image-form = fades-same (wordAt image) (wordAt front) (sym (front-word 1 (omega (arith, front-least (fades (st .setup .limits)))))) ∙ front-form
 
   image-right : ImageFits image
   image-right =
@@ -155,7 +188,9 @@ module _ (st : State) (v : Valid st) (a : Shaped st) where
       let y = front-size in
       let l = image-length st in
       let w : wordAt front 0 ≡ wordAt image 0 = front-word 0 (omega arith) in
-      let t : TailFits (wordAt image) n = subst (λ (x : ℕ → ℕ). TailFits x n) (sym (image-words st)) (tail-pass (runWord (imageRuns st)) n (valid-tail st v)) in
+      let t : TailFits (fades (st .setup .limits)) (wordAt image) n =
+      subst (λ (x : ℕ → ℕ). TailFits (fades (st .setup .limits)) x n) (sym (image-words st)) (tail-pass (fades (st .setup .limits)) (runWord (imageRuns st)) n (valid-tail st v))
+      in
       record {
         front =
             record {
@@ -165,33 +200,33 @@ module _ (st : State) (v : Valid st) (a : Shaped st) where
               least = omega (arith, fits .least);
               most = omega (arith, fits .most);
             };
-        size = l ∙ ap imageLength (sym z);
-        words = subst (λ (m : ℕ). WordsFit image m) (sym z) (words-same front image n front-word (subst (λ (m : ℕ). WordsFit front m) y (b .words)));
-        tail = subst (λ (m : ℕ). TailFits (wordAt image) m) (sym z) t;
+        size = l ∙ ap₂ (λ (b : Bool) (m : ℕ). imageLength (frontWords b) m) (sym image-form) (sym z);
+        words = subst (λ (m : ℕ). WordsFit image m) (sym z) (words-same front image n same-words (subst (λ (m : ℕ). WordsFit front m) y (b .words)));
+        tail = subst (λ (b : Bool). TailFits b (wordAt image) (sizeIn (wordAt image 0))) (sym image-form) (subst (λ (m : ℕ). TailFits (fades (st .setup .limits)) (wordAt image) m) (sym z) t);
       }
 
-  counters-there : st .counters ≡ countersIn image n
+  counters-there : st .counters ≡ countersIn (fades (st .setup .limits)) image n
   counters-there =
-      counters-back image n (st .counters) (small .size) (small .counters) (a .counters) (words .counters) (back .before .view-there)
+      accounts-back (fades (st .setup .limits)) image n (st .counters) (small .size) (small .counters) (a .counters) (words .counters) (back .before .view-there)
 
-  previous-there : st .previous ≡ readingIn image n
-  previous-there = reading-back image n (st .previous) (small .size) (small .rows) (a .rows) (words .rows)
+  previous-there : st .previous ≡ readingIn image (frontOf (st .setup)) n
+  previous-there = reading-back image (frontOf (st .setup)) n (st .previous) (small .size) (small .rows) (a .rows) (words .rows)
 
   -- a saved state is accepted, and read back
   pub image-accepted : (checkImage (imageOf st) ≡ accepted) × (stateOf (imageOf st) ≡ st)
   image-accepted = (
     image-ok image image-right,
-    sym (state-by image (sym image-size) (sym image-setup) (sym (back .own)) counters-there previous-there (sym (back .latest)) (sym (back .earlier))),
+    sym (state-by image (sym image-size) (sym image-form) (sym image-setup) (sym (back .own)) counters-there previous-there (sym (back .latest)) (sym (back .earlier))),
   )
 
 -- ---- the states that calls give
 
 state-shaped : (s : List ℕ) → Shaped (stateOf s)
-unfolding stateOf setupOf readingIn countersIn
+unfolding stateOf setupOf readingIn
 state-shaped s = record {
   setup = record { places = array-length _ _; criticality = array-length _ _ };
   rows = array-length _ _;
-  counters = read-shaped s (sizeIn (wordAt s 0));
+  counters = read-shaped (fadesIn (wordAt s)) s (sizeIn (wordAt s 0));
 }
 
 pub open-shaped : (s : Setup) (own : ℕ) → ShapedSetup s → openOf s own .number ≡ 0 → Shaped (openOf s own .state)

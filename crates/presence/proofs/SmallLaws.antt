@@ -8,12 +8,13 @@ use borrow.Author.Tests.{leb-true, ltb-true, le-leb, lt-ltb}
 use Rattle.words.specs.Runs.{runWord}
 use Rattle.words.proofs.Truth.{and-l, and-r, and-true}
 use Rattle.words.proofs.VerdictLaws.{and-then-pass, single-pass}
+use Rattle.setup.specs.Limits.{fades}
 use Rattle.setup.specs.Check.{setupVerdict}
 use Rattle.setup.proofs.SetupLaws.{verdict-fits}
 use Rattle.image.specs.Rows.{rowsRoomy}
 use Rattle.image.specs.Check.{checkTail}
 use Rattle.image.proofs.RowLaws.{RowsSmall, roomy-rows, rows-roomy}
-use Rattle.image.proofs.CounterSectionLaws.{CountersSmall, roomy-counters, counters-roomy}
+use Rattle.image.proofs.CounterLaws.{AccountsSmall, roomy-accounts, accounts-roomy}
 use Rattle.presence.specs.Image.{imageRuns}
 use Rattle.presence.specs.Valid.{roomy, stateVerdict, Valid}
 use Rattle.presence.specs.declared.State.{State}
@@ -25,7 +26,7 @@ pub record Small (st : State) : Type 0 where
   pub latest : st .latest < 2 ^ 16
   pub earlier : st .earlier < 2 ^ 16
   pub rows : RowsSmall (st .setup .n) (st .previous)
-  pub counters : CountersSmall (st .setup .n) (st .counters)
+  pub counters : AccountsSmall (fades (st .setup .limits)) (st .setup .n) (st .counters)
 
 pub roomy-small : (st : State) → st .setup .n ≤ 16 → roomy st ≡ true → Small st
 unfolding roomy
@@ -42,7 +43,7 @@ roomy-small st l e =
       latest = ltb-true (st .latest) (2 ^ 16) (and-l (ltb (st .latest) (2 ^ 16)) _ b);
       earlier = ltb-true (st .earlier) (2 ^ 16) (and-r (ltb (st .latest) (2 ^ 16)) _ b);
       rows = roomy-rows n (st .previous) l (and-l (rowsRoomy n (st .previous)) _ parts);
-      counters = roomy-counters n (st .counters) l (and-r (rowsRoomy n (st .previous)) _ parts);
+      counters = roomy-accounts (fades (st .setup .limits)) n (st .counters) l (and-r (rowsRoomy n (st .previous)) _ parts);
     }
 
 pub small-roomy : (st : State) → Small st → roomy st ≡ true
@@ -51,7 +52,7 @@ small-roomy st m =
     and-true _ _
     (and-true _ _ (and-true _ _ (le-leb (st .own) 16 (m .own)) (lt-ltb (st .counters .view) (2 ^ 16) (m .view)))
     (and-true _ _ (lt-ltb (st .latest) (2 ^ 16) (m .latest)) (lt-ltb (st .earlier) (2 ^ 16) (m .earlier))))
-    (and-true _ _ (rows-roomy (st .setup .n) (st .previous) (m .rows)) (counters-roomy (st .setup .n) (st .counters) (m .counters)))
+    (and-true _ _ (rows-roomy (st .setup .n) (st .previous) (m .rows)) (accounts-roomy (fades (st .setup .limits)) (st .setup .n) (st .counters) (m .counters)))
 
 -- what a valid state is: an accepted setup, room for every field, and words that pass
 pub valid-setup : (st : State) → Valid st → setupVerdict (st .setup) .number ≡ 0
@@ -62,9 +63,9 @@ pub valid-roomy : (st : State) → Valid st → roomy st ≡ true
 unfolding stateVerdict
 valid-roomy st e = single-pass (roomy st) 8 0 (omega arith) (and-then-pass _ _ (and-then-pass (setupVerdict (st .setup)) _ e .1) .0)
 
-pub valid-tail : (st : State) → Valid st → checkTail (runWord (imageRuns st)) (st .setup .n) .number ≡ 0
+pub valid-tail : (st : State) → Valid st → checkTail (fades (st .setup .limits)) (runWord (imageRuns st)) (st .setup .n) .number ≡ 0
 unfolding stateVerdict
-valid-tail st e = and-then-pass _ (checkTail (runWord (imageRuns st)) (st .setup .n)) (and-then-pass (setupVerdict (st .setup)) _ e .1) .1
+valid-tail st e = and-then-pass _ (checkTail (fades (st .setup .limits)) (runWord (imageRuns st)) (st .setup .n)) (and-then-pass (setupVerdict (st .setup)) _ e .1) .1
 
 pub valid-size : (st : State) → Valid st → st .setup .n ≤ 16
 valid-size st e = verdict-fits (st .setup) (valid-setup st e) .most

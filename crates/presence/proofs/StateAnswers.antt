@@ -12,6 +12,9 @@ use Rattle.words.specs.Verdict.{verdict, accepted, isAccepted, single, andThen,
 use Rattle.words.specs.Runs.{runWord}
 use Rattle.words.specs.declared.Verdict.{Verdict}
 use Rattle.words.proofs.VerdictLaws.{and-then-next, and-then-stays, single-ok, single-refused}
+use Rattle.setup.specs.Layout.{frontWords}
+use Rattle.setup.specs.Limits.{fades}
+use Rattle.setup.specs.Setup.{frontOf}
 use Rattle.setup.specs.Check.{setupVerdict}
 use Rattle.image.specs.Layout.{imageLength}
 use Rattle.image.specs.Check.{checkTail, checkImage}
@@ -38,15 +41,21 @@ load-accepted s h t =
     let v : accepted ≡ checkImage s = sym (image-zero s (eqb-true _ 0 t)) in
     λ i. record { number = v i .number; index = v i .index; state = (h ∙ sym (cond-true (stateOf s) blank t)) i }
 
+-- ---- the length of an image, as it is found from the limits
+
+pub length-by : {b : Bool} {front k : ℕ} (st : State) → b ≡ fades (st .setup .limits) → front ≡ frontWords b → k ≡ imageLength front (st .setup .n)
+    → k ≡ imageLength (frontOf (st .setup)) (st .setup .n)
+length-by st f e l = l ∙ ap (λ (x : ℕ). imageLength x (st .setup .n)) (e ∙ ap frontWords f)
+
 -- ---- v is the answer for the setup of a struct
 
 pub room-is : {b : Bool} (st : State) → b ≡ roomy st → not b ≡ false → roomy st ≡ true
 room-is {b} st r t = sym r ∙ not-false b t
 
 module _ {v : Verdict} (st : State) (e : v ≡ setupVerdict (st .setup)) where
-  goes : andThen v (andThen (outcome (single (roomy st) 8 0)) (checkTail (runWord (imageRuns st)) (st .setup .n))) ≡ stateVerdict st
+  goes : andThen v (andThen (outcome (single (roomy st) 8 0)) (checkTail (fades (st .setup .limits)) (runWord (imageRuns st)) (st .setup .n))) ≡ stateVerdict st
   unfolding stateVerdict
-  goes = ap (λ (x : Verdict). andThen x (andThen (outcome (single (roomy st) 8 0)) (checkTail (runWord (imageRuns st)) (st .setup .n)))) e
+  goes = ap (λ (x : Verdict). andThen x (andThen (outcome (single (roomy st) 8 0)) (checkTail (fades (st .setup .limits)) (runWord (imageRuns st)) (st .setup .n)))) e
 
   pub setup-stays : (v .number ≡ 0 → ⊥) → v ≡ stateVerdict st
   setup-stays f = sym (and-then-stays v _ f) ∙ goes
@@ -55,13 +64,13 @@ module _ {v : Verdict} (st : State) (e : v ≡ setupVerdict (st .setup)) where
     pub room-lacks : not b ≡ true → r ≡ verdict 8 0 → r ≡ stateVerdict st
     room-lacks f q =
         let o : outcome (single (roomy st) 8 0) ≡ verdict 8 0 = single-refused (roomy st) 8 0 (sym h ∙ not-true b f) in
-        q ∙ sym (ap (λ (x : Verdict). andThen x (checkTail (runWord (imageRuns st)) (st .setup .n))) o ∙ and-then-stays (verdict 8 0) _ (λ y. eight y))
+        q ∙ sym (ap (λ (x : Verdict). andThen x (checkTail (fades (st .setup .limits)) (runWord (imageRuns st)) (st .setup .n))) o ∙ and-then-stays (verdict 8 0) _ (λ y. eight y))
         ∙ sym (and-then-next v _ z) ∙ goes
       where
         eight : _≡_ {A = ℕ} 8 0 → ⊥
         eight y = omega arith
 
-    pub image-answers : not b ≡ false → r ≡ checkTail (runWord (imageRuns st)) (st .setup .n) → r ≡ stateVerdict st
+    pub image-answers : not b ≡ false → r ≡ checkTail (fades (st .setup .limits)) (runWord (imageRuns st)) (st .setup .n) → r ≡ stateVerdict st
     image-answers t q =
         let o = single-ok (roomy st) 8 0 (room-is st h t) in
         q ∙ sym (and-then-next (outcome (single (roomy st) 8 0)) _ (ap (λ (x : Verdict). x .number) o)) ∙ sym (and-then-next v _ z) ∙ goes
@@ -88,23 +97,23 @@ module _ {v : Verdict} (st : State) (out : List ℕ) (e : v ≡ stateVerdict st)
       let h : v ≡ saveVerdict st out = sym (and-then-stays v _ f) ∙ goes-on in
       (h, stays h f)
 
-  pub save-short : {r : Verdict} → r ≡ verdict 9 0 → v .number ≡ 0 → (length out ≡ imageLength (st .setup .n) → ⊥)
+  pub save-short : {r : Verdict} → r ≡ verdict 9 0 → v .number ≡ 0 → (length out ≡ imageLength (frontOf (st .setup)) (st .setup .n) → ⊥)
       → (r ≡ saveVerdict st out) × (out ≡ savedOut st out)
   unfolding roomFor
   save-short {r} q z f =
       let h : r ≡ saveVerdict st out =
-      q ∙ sym (single-refused (eqb (length out) (imageLength (st .setup .n))) 9 0 (ne-eqb _ _ f)) ∙ sym (and-then-next v _ z) ∙ goes-on
+      q ∙ sym (single-refused (eqb (length out) (imageLength (frontOf (st .setup)) (st .setup .n))) 9 0 (ne-eqb _ _ f)) ∙ sym (and-then-next v _ z) ∙ goes-on
       in
       (h, stays h (λ y. nine (ap (λ (x : Verdict). x .number) (sym q) ∙ y)))
     where
       nine : _≡_ {A = ℕ} 9 0 → ⊥
       nine y = omega arith
 
-  pub save-done : {r : Verdict} {o : List ℕ} → r ≡ accepted → o ≡ imageOf st → v .number ≡ 0 → length out ≡ imageLength (st .setup .n)
+  pub save-done : {r : Verdict} {o : List ℕ} → r ≡ accepted → o ≡ imageOf st → v .number ≡ 0 → length out ≡ imageLength (frontOf (st .setup)) (st .setup .n)
       → (r ≡ saveVerdict st out) × (o ≡ savedOut st out)
   unfolding roomFor savedOut
   save-done {r} {o} q b z l =
       let h : r ≡ saveVerdict st out =
-      q ∙ sym (single-ok (eqb (length out) (imageLength (st .setup .n))) 9 0 (eq-eqb _ _ l)) ∙ sym (and-then-next v _ z) ∙ goes-on
+      q ∙ sym (single-ok (eqb (length out) (imageLength (frontOf (st .setup)) (st .setup .n))) 9 0 (eq-eqb _ _ l)) ∙ sym (and-then-next v _ z) ∙ goes-on
       in
       (h, b ∙ sym (cond-true (imageOf st) out (ap isAccepted (sym h ∙ q))))

@@ -19,15 +19,14 @@ use Rattle.words.proofs.VerdictLaws.{between-of, and-then-stops, and-then-goes,
 use Rattle.rules.specs.Hearing.{readingOf, causesOf}
 use Rattle.rules.specs.Alignment.{alignedOf}
 use Rattle.rules.specs.Syndrome.{judgementOf}
-use Rattle.rules.specs.Account.{accountAt, countersOf}
-use Rattle.rules.specs.Range.{InRange}
-use Rattle.rules.proofs.RangeLaws.{fits-in-range}
+use Rattle.accounts.specs.Round.{accountAt, countersOf}
+use Rattle.accounts.specs.Range.{AccountRange}
+use Rattle.accounts.proofs.RoundLaws.{kept-countable}
 use Rattle.rules.specs.declared.Reading.{Reading}
-use Rattle.rules.specs.declared.Counters.{Counters}
+use Rattle.accounts.specs.declared.Counters.{Counters}
 use Rattle.rules.specs.declared.Judgement.{Judgement}
 use Rattle.image.specs.Counters.{zeroCounters}
-use Rattle.image.proofs.PenaltyLaws.{accounts-fit}
-use Rattle.image.proofs.ReturnLaws.{returns-below}
+use Rattle.image.proofs.CounterLaws.{within-kept, within-waits}
 use Rattle.presence.specs.Valid.{stateVerdict, Valid}
 use Rattle.presence.specs.Opening.{fresh, blank, checkOpening, openOf}
 use Rattle.presence.specs.Step.{skewOf, placeOf, ownSyndrome, alignedFor, judgementFor, outgoingFor, afterRound, refusedStep, acceptedStep, readStep, stepOf}
@@ -72,10 +71,11 @@ after-made st this {j} {c} e h =
 
 -- the accounts of a valid state are small enough to add to
 pub in-range : (st : State) → StateFits st → (j : ℕ) → j < st .setup .n
-    → InRange (st .setup .p) (st .setup .q) (getD (st .setup .criticality) j 0) (accountAt (st .counters) j)
+    → AccountRange (st .setup .limits) (st .setup .q) (getD (st .setup .criticality) j 0) (accountAt (st .counters) j)
 in-range st f j h =
-    fits-in-range (st .setup .p) (st .setup .r) (st .setup .q) _ _ (f .setup .p-most) (f .setup .r-most) (f .setup .q-most) (f .setup .each j h .most)
-    (returns-below (st .setup) (st .counters) (f .counters) j h) (accounts-fit (st .setup) (st .counters) (f .counters) j h)
+    let l = st .setup .limits in
+    kept-countable l (st .setup .q) _ _ (f .setup .limits) (f .setup .q-most) (f .setup .each j h .most)
+    (within-waits l (st .setup) (st .counters) (f .counters) j h) (within-kept l (st .setup) (st .counters) (f .setup .most) (f .counters) j h)
 
 -- ---- the round
 

@@ -1,5 +1,6 @@
 -- Where the words of a state's image stand, and the fields that are read from them.
 use mathlib.Core.Path.{_≡_, refl, ap, _∙_, subst}
+use mathlib.Core.Bool.{Bool, true, false}
 use mathlib.Core.List.{[]}
 use Prim.Native.Nat.{ℕ, _+_, _<_}
 use native.Mathlib.Omega.{arith}
@@ -8,17 +9,20 @@ use Rattle.words.specs.Word.{wordAt}
 use Rattle.words.specs.Bits.{bit}
 use Rattle.words.specs.Runs.{total, runsOf, runWord}
 use Rattle.words.proofs.RunLaws.{Follows, runs-length, runs-follow, run-words}
-use Rattle.setup.specs.Setup.{headWord, returnLimitIn, limitWord, limitIn, criticalityIn}
+use Rattle.setup.specs.Limits.{fades}
+use Rattle.setup.specs.Setup.{headWord, returnLimitIn, criticalityIn, frontOf}
+use Rattle.setup.proofs.BoundLaws.{LimitsStand, limits-back, fit-room}
 use Rattle.setup.proofs.SetupLaws.{SetupFits}
 use Rattle.setup.proofs.SetupWords.{moduleOf}
-use Rattle.setup.proofs.WordFields.{return-back, limit-back, criticality-back}
-use Rattle.image.specs.Layout.{ownAt, rowsAt, latestAt, earlierAt, penaltiesAt, imageLength}
+use Rattle.setup.proofs.WordFields.{return-back, criticality-back}
+use Rattle.accounts.specs.declared.Counters.{Counters}
+use Rattle.image.specs.Layout.{ownAt, rowsAt, latestAt, earlierAt, accountsAt, imageLength}
 use Rattle.image.specs.Words.{ownWord, ownIn, viewIn, syndromeWord, syndromeIn}
 use Rattle.image.specs.Rows.{rowWord}
 use Rattle.image.specs.Counters.{counterRuns}
 use Rattle.image.proofs.SingleWords.{own-back, view-back, syndrome-back}
 use Rattle.image.proofs.CounterLaws.{SetupWords}
-use Rattle.presence.specs.Image.{imageRuns, imageOf}
+use Rattle.presence.specs.Image.{stateRuns, imageRuns, imageOf}
 use Rattle.presence.specs.declared.State.{State}
 use Rattle.presence.proofs.SmallLaws.{Small}
 
@@ -27,35 +31,42 @@ pub image-words : (st : State) → wordAt (imageOf st) ≡ runWord (imageRuns st
 unfolding imageOf
 image-words st = run-words (imageRuns st)
 
-pub image-length : (st : State) → length (imageOf st) ≡ imageLength (st .setup .n)
+counters-total : (b : Bool) (n : ℕ) (c : Counters) → total (counterRuns b n c) ≡ n + n + n
+unfolding total
+counters-total true n c = omega arith
+counters-total false n c = omega arith
+
+pub state-total : (st : State) → total (stateRuns st) ≡ st .setup .n + 3 + (st .setup .n + st .setup .n + st .setup .n)
+unfolding total
+state-total st = omega (arith, counters-total (fades (st .setup .limits)) (st .setup .n) (st .counters))
+
+pub image-length : (st : State) → length (imageOf st) ≡ imageLength (frontOf (st .setup)) (st .setup .n)
 unfolding imageOf total
-image-length st = runs-length (imageRuns st) ∙ omega arith
+image-length st = runs-length (imageRuns st) ∙ omega (arith, counters-total (fades (st .setup .limits)) (st .setup .n) (st .counters))
 
 -- w are the words of the image
 pub record Stands (st : State) (w : ℕ → ℕ) : Type 0 where
   pub head : w 0 ≡ headWord (st .setup .q) (st .setup .n)
-  pub p : w 1 ≡ limitWord 2 (st .setup .p)
-  pub r : w 2 ≡ limitWord 3 (st .setup .r)
-  pub modules : (j : ℕ) → j < st .setup .n → w (3 + j) ≡ moduleOf (st .setup) j
-  pub own : w (ownAt (st .setup .n)) ≡ ownWord (st .own) (st .counters .view)
-  pub rows : (j : ℕ) → j < st .setup .n → w (rowsAt (st .setup .n) + j) ≡ rowWord j (bit (st .previous .heard) j) (getD (st .previous .rows) j 0)
-  pub latest : w (latestAt (st .setup .n)) ≡ syndromeWord (st .latest)
-  pub earlier : w (earlierAt (st .setup .n)) ≡ syndromeWord (st .earlier)
-  pub counters : Follows w (penaltiesAt (st .setup .n)) (counterRuns (st .setup .n) (st .counters))
+  pub limits : LimitsStand w (st .setup .limits)
+  pub modules : (j : ℕ) → j < st .setup .n → w (frontOf (st .setup) + j) ≡ moduleOf (st .setup) j
+  pub own : w (ownAt (frontOf (st .setup)) (st .setup .n)) ≡ ownWord (st .own) (st .counters .view)
+  pub rows : (j : ℕ) → j < st .setup .n → w (rowsAt (frontOf (st .setup)) (st .setup .n) + j) ≡ rowWord j (bit (st .previous .heard) j) (getD (st .previous .rows) j 0)
+  pub latest : w (latestAt (frontOf (st .setup)) (st .setup .n)) ≡ syndromeWord (st .latest)
+  pub earlier : w (earlierAt (frontOf (st .setup)) (st .setup .n)) ≡ syndromeWord (st .earlier)
+  pub counters : Follows w (accountsAt (frontOf (st .setup)) (st .setup .n)) (counterRuns (fades (st .setup .limits)) (st .setup .n) (st .counters))
 
 pub stands-bytes : (st : State) → Stands st (wordAt (imageOf st))
 unfolding imageOf runsOf Follows
 stands-bytes st =
-    let (head, (p, (r, (modules, (own, (rows, (latest, (earlier, counters)))))))) = runs-follow [] 0 (imageRuns st) refl in
+    let (head, (limits, (modules, (own, (rows, (latest, (earlier, counters))))))) = runs-follow [] 0 (imageRuns st) refl in
     record {
       head = head 0 (omega arith);
-      p = p 0 (omega arith);
-      r = r 0 (omega arith);
+      limits = limits;
       modules = modules;
-      own = rw (none (ownAt (st .setup .n))) at (own 0 (omega arith));
+      own = rw (none (ownAt (frontOf (st .setup)) (st .setup .n))) at (own 0 (omega arith));
       rows = rows;
-      latest = rw (none (latestAt (st .setup .n))) at (latest 0 (omega arith));
-      earlier = rw (none (earlierAt (st .setup .n))) at (earlier 0 (omega arith));
+      latest = rw (none (latestAt (frontOf (st .setup)) (st .setup .n))) at (latest 0 (omega arith));
+      earlier = rw (none (earlierAt (frontOf (st .setup)) (st .setup .n))) at (earlier 0 (omega arith));
       counters = counters;
     }
   where
@@ -68,18 +79,17 @@ stands st = subst (Stands st) (image-words st) (stands-bytes st)
 -- ---- the fields
 
 pub record Read (st : State) (w : ℕ → ℕ) : Type 0 where
-  pub before : SetupWords w (st .setup) (st .counters .view)
-  pub own : ownIn (w (ownAt (st .setup .n))) ≡ st .own
-  pub latest : syndromeIn (w (latestAt (st .setup .n))) ≡ st .latest
-  pub earlier : syndromeIn (w (earlierAt (st .setup .n))) ≡ st .earlier
+  pub before : SetupWords w (st .setup .limits) (st .setup) (st .counters .view)
+  pub own : ownIn (w (ownAt (frontOf (st .setup)) (st .setup .n))) ≡ st .own
+  pub latest : syndromeIn (w (latestAt (frontOf (st .setup)) (st .setup .n))) ≡ st .latest
+  pub earlier : syndromeIn (w (earlierAt (frontOf (st .setup)) (st .setup .n))) ≡ st .earlier
 
 pub state-read : (st : State) (w : ℕ → ℕ) → SetupFits (st .setup) → Small st → Stands st w → Read st w
 state-read st w f m d =
     record {
       before =
           record {
-            p-there = ap limitIn (d .p) ∙ limit-back 2 (st .setup .p) (omega (arith, f .p-most));
-            r-there = ap limitIn (d .r) ∙ limit-back 3 (st .setup .r) (omega (arith, f .r-most));
+            limits-there = limits-back w (st .setup .limits) (fit-room (st .setup .limits) (f .limits)) (d .limits);
             q-there = ap returnLimitIn (d .head) ∙ return-back (st .setup .q) (st .setup .n) (record { limit = f .q-most; least = f .least; most = f .most });
             criticality-there = λ j h.
                 ap criticalityIn (d .modules j h)

@@ -1,5 +1,5 @@
 -- A valid state, field by field; a fresh module is valid, and a round keeps it so.
-use mathlib.Core.Path.{_≡_, ap, _∙_}
+use mathlib.Core.Path.{_≡_, refl, ap, _∙_}
 use mathlib.Core.Bool.{true}
 use mathlib.Core.List.{List}
 use Prim.Native.Nat.{ℕ, _^_, _<_, _≤_}
@@ -14,19 +14,20 @@ use Rattle.words.specs.declared.Verdict.{Verdict}
 use Rattle.words.proofs.BitLaws.{pack-lt, full-lt, bit-full}
 use Rattle.words.proofs.ArrayLaws.{clearFrom, array-at, array-clear}
 use Rattle.words.proofs.VerdictLaws.{and-then-next, single-ok}
+use Rattle.setup.specs.Limits.{fades}
+use Rattle.setup.specs.Setup.{frontOf}
 use Rattle.setup.specs.Check.{setupVerdict}
 use Rattle.setup.specs.declared.Setup.{Setup}
 use Rattle.setup.proofs.SetupLaws.{SetupFits, verdict-fits, fits-verdict as setup-accepted}
 use Rattle.rules.specs.Hearing.{readingOf}
-use Rattle.rules.specs.Account.{countersOf}
+use Rattle.accounts.specs.Round.{countersOf}
 use Rattle.rules.proofs.SyndromeLaws.{syndrome-lt}
 use Rattle.image.specs.Layout.{ownAt}
 use Rattle.image.specs.Rows.{rowFits}
 use Rattle.image.proofs.TailLaws.{TailFits, tail-pass, tail-ok}
 use Rattle.image.proofs.SingleWords.{own-made, syndrome-made, own-number-right, own-right, syndrome-right}
 use Rattle.image.proofs.RowLaws.{row-small, rows-ok, rows-pass, reading-fits}
-use Rattle.image.proofs.CounterSectionLaws.{CountersFit}
-use Rattle.image.proofs.CounterLaws.{counters-small, counters-ok, counters-pass, zero-counters, round-counters}
+use Rattle.image.proofs.CounterLaws.{AccountsWithin, accounts-small, accounts-ok, accounts-pass, zero-accounts, round-accounts}
 use Rattle.presence.specs.Image.{imageRuns}
 use Rattle.presence.specs.Valid.{roomy, stateVerdict, Valid}
 use Rattle.presence.specs.Opening.{fresh}
@@ -43,7 +44,7 @@ pub record StateFits (st : State) : Type 0 where
   pub rows : (j : ℕ) → j < st .setup .n → rowFits (st .setup .n) (bit (st .previous .heard) j) (getD (st .previous .rows) j 0) ≡ true
   pub latest : st .latest < 2 ^ st .setup .n
   pub earlier : st .earlier < 2 ^ st .setup .n
-  pub counters : CountersFit (st .setup) (st .counters)
+  pub counters : AccountsWithin (st .setup .limits) (st .setup) (st .counters)
   pub heard : st .previous .heard < 2 ^ st .setup .n
   pub no-rows : clearFrom (st .setup .n) (st .previous .rows) ≡ true
 
@@ -55,17 +56,18 @@ valid-fits st e =
     let m = valid-small st e in
     let d = stands st in
     let b = state-read st w f m d in
-    let t = tail-pass w n (valid-tail st e) in
-    let own = own-made n (w (ownAt n)) (t .number) (t .own) in
+    let front = frontOf (st .setup) in
+    let t = tail-pass (fades (st .setup .limits)) w n (valid-tail st e) in
+    let own = own-made n (w (ownAt front n)) (t .number) (t .own) in
     record {
       setup = f;
       first = rw (b .own) at (own .first);
       last = rw (b .own) at (own .last);
       view = rw (b .before .view-there) at (own .view);
-      rows = rows-pass w n (st .previous) (m .rows) (d .rows) (t .rows);
+      rows = rows-pass w front n (st .previous) (m .rows) (d .rows) (t .rows);
       latest = rw (b .latest) at (syndrome-made n _ (t .latest) .1);
       earlier = rw (b .earlier) at (syndrome-made n _ (t .earlier) .1);
-      counters = counters-pass w (st .setup) (st .counters) (m .counters) (d .counters) (b .before) (t .counters);
+      counters = accounts-pass w (st .setup .limits) (st .setup) (st .counters) (f .most) (m .counters) (d .counters) (b .before) (t .counters);
       heard = m .rows .heard;
       no-rows = m .rows .no-rows;
     }
@@ -89,11 +91,11 @@ fits-small st f =
             heard = f .heard;
             no-rows = f .no-rows;
           };
-      counters = counters-small (st .setup) (st .counters) (f .setup) (f .counters);
+      counters = accounts-small (st .setup .limits) (st .setup) (st .counters) (f .setup .limits) (f .setup) (f .counters);
     }
 
 -- the words of its image are right
-tail-fits : (st : State) → StateFits st → TailFits (runWord (imageRuns st)) (st .setup .n)
+tail-fits : (st : State) → StateFits st → TailFits (fades (st .setup .limits)) (runWord (imageRuns st)) (st .setup .n)
 tail-fits st f =
     let n = st .setup .n in
     let w = runWord (imageRuns st) in
@@ -103,10 +105,10 @@ tail-fits st f =
     record {
       number = rw (d .own) (own-number-right (st .own) (st .counters .view) (m .own) (m .view) n (f .first) (f .last));
       own = rw (d .own) (own-right (st .own) (st .counters .view) (m .own) (m .view) n (f .view));
-      rows = rows-ok w n (st .previous) (m .rows) (d .rows) (f .rows);
+      rows = rows-ok w (frontOf (st .setup)) n (st .previous) (m .rows) (d .rows) (f .rows);
       latest = rw (d .latest) (syndrome-right n (st .latest) (m .latest) (f .latest));
       earlier = rw (d .earlier) (syndrome-right n (st .earlier) (m .earlier) (f .earlier));
-      counters = counters-ok w (st .setup) (st .counters) (m .counters) (d .counters) (b .before) (f .counters);
+      counters = accounts-ok w (st .setup .limits) (st .setup) (st .counters) (f .setup .most) (m .counters) (d .counters) (b .before) (f .counters);
     }
 
 pub fits-verdict : (st : State) → StateFits st → stateVerdict st ≡ accepted
@@ -114,7 +116,7 @@ unfolding stateVerdict
 fits-verdict st f =
     and-then-next (setupVerdict (st .setup)) _ (ap (λ (v : Verdict). v .number) (setup-accepted (st .setup) (f .setup)))
     ∙ and-then-next (outcome (single (roomy st) 8 0)) _ (ap (λ (v : Verdict). v .number) (single-ok (roomy st) 8 0 (small-roomy st (fits-small st f))))
-    ∙ tail-ok (runWord (imageRuns st)) (st .setup .n) (tail-fits st f)
+    ∙ tail-ok (fades (st .setup .limits)) (runWord (imageRuns st)) (st .setup .n) (tail-fits st f)
 
 pub fits-valid : (st : State) → StateFits st → Valid st
 fits-valid st f = ap (λ (v : Verdict). v .number) (fits-verdict st f)
@@ -133,7 +135,7 @@ fresh-fits s own f h l =
           rw (bit-full (s .n) j k, array-at (s .n) (λ j. full (s .n)) j k (f .most)) (lt-ltb (full (s .n)) (2 ^ s .n) (full-lt (s .n)));
       latest = full-lt (s .n);
       earlier = full-lt (s .n);
-      counters = zero-counters s f;
+      counters = zero-accounts (s .limits) s (f .limits) f;
       heard = full-lt (s .n);
       no-rows = array-clear (s .n) (λ j. full (s .n));
     }
@@ -153,7 +155,7 @@ after-fits st read controller f =
       rows = λ j h. reading-fits n read controller j h (f .setup .most);
       latest = syndrome-lt n _ _ _;
       earlier = f .latest;
-      counters = round-counters (st .setup) _ (st .counters) (f .setup) (f .counters);
+      counters = round-accounts (st .setup .limits) (st .setup) _ (st .counters) refl (f .setup .limits) (f .setup) (f .counters);
       heard = pack-lt n _;
       no-rows = array-clear n _;
     }

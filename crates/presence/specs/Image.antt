@@ -8,7 +8,8 @@ use Rattle.words.specs.Word.{wordAt}
 use Rattle.words.specs.Verdict.{isAccepted}
 use Rattle.words.specs.Runs.{Run, runsOf}
 use Rattle.setup.specs.Layout.{headAt}
-use Rattle.setup.specs.Setup.{sizeIn, setupOf, setupRuns}
+use Rattle.setup.specs.Limits.{fades}
+use Rattle.setup.specs.Setup.{sizeIn, fadesIn, frontIn, frontOf, setupOf, setupRuns}
 use Rattle.image.specs.Layout.{ownAt, latestAt, earlierAt, imageLength}
 use Rattle.image.specs.Words.{ownIn, syndromeIn}
 use Rattle.image.specs.Rows.{readingIn}
@@ -23,7 +24,7 @@ use Rattle.presence.specs.declared.Opened.{Opened}
 
 -- the words after the setup's, section by section
 abbrev pub stateRuns : State → List Run
-stateRuns st = sectionRuns (st .setup .n) (st .own) (st .counters) (st .previous) (st .latest) (st .earlier)
+stateRuns st = sectionRuns (fades (st .setup .limits)) (st .setup .n) (st .own) (st .counters) (st .previous) (st .latest) (st .earlier)
 
 -- all words: those of its setup, then the others
 abbrev pub imageRuns : State → List Run
@@ -35,22 +36,23 @@ imageOf st = runsOf (imageRuns st)
 
 -- ---- read
 
--- the state that the words of s hold, N by the head; whether they are right is checked apart (`checkImage`)
+-- the state that the words of s hold, N by the head and the form by the second word; whether they are right is checked apart (`checkImage`)
 unfoldable pub stateOf : List ℕ → State
 stateOf s =
     let n = sizeIn (wordAt s headAt) in
+    let front = frontIn (wordAt s) in
     record {
       setup = setupOf s;
-      own = ownIn (wordAt s (ownAt n));
-      counters = countersIn s n;
-      previous = readingIn s n;
-      latest = syndromeIn (wordAt s (latestAt n));
-      earlier = syndromeIn (wordAt s (earlierAt n));
+      own = ownIn (wordAt s (ownAt front n));
+      counters = countersIn (fadesIn (wordAt s)) s n;
+      previous = readingIn s front n;
+      latest = syndromeIn (wordAt s (latestAt front n));
+      earlier = syndromeIn (wordAt s (earlierAt front n));
     }
 
 -- ---- reading as a call, and the room that saving needs
 
--- reading: 1 to 8; what is held where an image is refused is blank
+-- reading: 1 to 8 and 22; what is held where an image is refused is blank
 unfoldable pub loadOf : List ℕ → Opened
 loadOf image =
     let v = checkImage image in
@@ -58,4 +60,4 @@ loadOf image =
 
 -- the output has the length of the state's image
 unfoldable pub roomFor : State → List ℕ → Bool
-roomFor st out = eqb (length out) (imageLength (st .setup .n))
+roomFor st out = eqb (length out) (imageLength (frontOf (st .setup)) (st .setup .n))

@@ -10,7 +10,7 @@ use Rattle.rules.specs.Lag.{skewed}
 use Rattle.rules.specs.Hearing.{readingOf, causesOf}
 use Rattle.rules.specs.Alignment.{alignedOf}
 use Rattle.rules.specs.Syndrome.{judgementOf, outgoingOf}
-use Rattle.rules.specs.Account.{countersOf}
+use Rattle.accounts.specs.Round.{countersOf}
 use Rattle.presence.specs.Valid.{stateVerdict}
 use Rattle.rules.specs.declared.Reading.{Reading}
 use Rattle.rules.specs.declared.Judgement.{Judgement}

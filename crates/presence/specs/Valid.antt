@@ -1,4 +1,4 @@
--- Which states are accepted, and the number and index by which the others are refused: 2 and 4 to 8, as their image would be; and 5 or 8 with
+-- Which states are accepted, and the number and index by which the others are refused: 2, 4 to 8 and 22, as their image would be; and 5 or 8 with
 -- index 0 for what no image shows. (document 01, "Answers and their order", number 8)
 use Prim.Native.Nat.{ℕ}
 use mathlib.Core.Path.{_≡_}
@@ -8,7 +8,7 @@ use lib.Dec.{leb, ltb}
 use Rattle.words.specs.Verdict.{isAccepted, single, andThen, outcome}
 use Rattle.words.specs.Runs.{runWord}
 use Rattle.words.specs.declared.Verdict.{Verdict}
-use Rattle.setup.specs.Limits.{mostModules}
+use Rattle.setup.specs.Limits.{mostModules, fades}
 use Rattle.setup.specs.Check.{setupVerdict}
 use Rattle.image.specs.Words.{vectorUnit}
 use Rattle.image.specs.Rows.{rowsRoomy}
@@ -21,12 +21,12 @@ use Rattle.presence.specs.declared.State.{State}
 unfoldable pub roomy : State → Bool
 roomy st =
     ((leb (st .own) mostModules && ltb (st .counters .view) vectorUnit) && (ltb (st .latest) vectorUnit && ltb (st .earlier) vectorUnit))
-    && (rowsRoomy (st .setup .n) (st .previous) && countersRoomy (st .setup .n) (st .counters))
+    && (rowsRoomy (st .setup .n) (st .previous) && countersRoomy (fades (st .setup .limits)) (st .setup .n) (st .counters))
 
 -- the verdict on a state: that on its setup, 8 with index 0 where its words would not show it, then that on its words
 unfoldable pub stateVerdict : State → Verdict
 stateVerdict st =
-    andThen (setupVerdict (st .setup)) (andThen (outcome (single (roomy st) 8 0)) (checkTail (runWord (imageRuns st)) (st .setup .n)))
+    andThen (setupVerdict (st .setup)) (andThen (outcome (single (roomy st) 8 0)) (checkTail (fades (st .setup .limits)) (runWord (imageRuns st)) (st .setup .n)))
 
 -- a state within the limits: its verdict is number 0
 abbrev pub Valid : State → Type 0

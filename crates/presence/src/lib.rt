@@ -9,7 +9,7 @@ mod step;
 mod verdict;
 mod view;
 
-use rules::Counters;
+use accounts::Counters;
 use rules::Reading;
 use setup::Setup;
 

@@ -3,11 +3,13 @@ use crate::Opened;
 use crate::State;
 use image::check::check_image;
 use image::check::image_size;
-use image::load_counters;
+use image::lent_counters;
+use image::load_accounts;
 use image::load_rows;
 use image::load_words;
-use rules::Counters;
 use rules::Reading;
+use setup::bounds::fades_at;
+use setup::bounds::front_words;
 use setup::read::load_setup;
 ghost use mathlib.Core.Path.{_≡_};
 ghost use mathlib.Core.Bool.{true};
@@ -15,8 +17,9 @@ ghost use Prim.Native.Nat.{_≤_};
 ghost use lib.ListN.{length};
 ghost use Rattle.words.specs.Word.{wordAt};
 ghost use Rattle.words.specs.Verdict.{allRight};
+ghost use Rattle.setup.specs.Layout.{frontWords};
 ghost use Rattle.setup.specs.Limits.{mostReturnLimit};
-ghost use Rattle.setup.specs.Setup.{sizeIn, returnLimitIn};
+ghost use Rattle.setup.specs.Setup.{sizeIn, fadesIn, returnLimitIn};
 ghost use Rattle.image.specs.Layout.{imageLength};
 ghost use Rattle.image.specs.Check.{imageTests, checkImage};
 ghost use Rattle.presence.specs.Opening.{blank as blankState};
@@ -29,46 +32,44 @@ struct Loaded {
 }
 
 // Whether all words are right, and then the state, in an image whose head and length are.
-fn load(s: &[u8], n: usize) -> Loaded
-    requires { ⌜ (n ≤ 16) × (length (now s) ≡ imageLength n) × (n ≡ sizeIn (wordAt (now s) 0)) × (returnLimitIn (wordAt (now s) 0) ≤ mostReturnLimit) ⌝ }
+fn load(s: &[u8], fades: bool, n: usize) -> Loaded
+    requires { ⌜ (n ≤ 16) × (length (now s) ≡ imageLength (frontWords fades) n) × (n ≡ sizeIn (wordAt (now s) 0)) × (fades ≡ fadesIn (wordAt (now s)))
+        × (returnLimitIn (wordAt (now s) 0) ≤ mostReturnLimit) ⌝ }
     ensures { λ r. ⌜ (r .good ≡ allRight (imageTests (now (s .entry)) n)) × (r .good ≡ true → r .state ≡ stateOf (now (s .entry))) ⌝ }
 {
-    let first = load_setup(s, n);
+    let first = load_setup(s, fades, n);
     if !first.good {
         let state = State::blank();
         return Loaded { good: false, state };
     }
     let setup = first.setup;
+    let limits = setup.limits;
     let criticality = setup.criticality;
-    let alone = load_words(s, n);
+    let front = front_words(fades);
+    let alone = load_words(s, front, n);
     let mut rows = [0u32; 16];
-    let mut penalty = [0u32; 16];
-    let mut reward = [0u32; 16];
+    let mut x = [0u32; 16];
+    let mut y = [0u32; 16];
     let mut returns = [0u32; 16];
-    let read = load_rows(s, n, &mut rows);
-    let right = load_counters(
+    let read = load_rows(s, front, n, &mut rows);
+    let right = load_accounts(
         s,
+        limits,
         n,
         setup.q,
-        setup.p,
-        setup.r,
         &criticality,
         alone.view,
-        &mut penalty,
-        &mut reward,
+        &mut x,
+        &mut y,
         &mut returns,
     );
+    let counters = lent_counters(fades, n, alone.view, x, y, returns);
     Loaded {
         good: alone.good & (read.good & right),
         state: State {
             setup,
             own: alone.own,
-            counters: Counters {
-                view: alone.view,
-                penalty,
-                reward,
-                returns,
-            },
+            counters,
             previous: Reading {
                 heard: read.heard,
                 rows,
@@ -94,7 +95,7 @@ fn refused(image: &[u8]) -> Opened
 }
 
 impl State {
-    // Reads a saved state: numbers 1 to 8, and the state where none of them refuses it.
+    // Reads a saved state: numbers 1 to 8 and 22, and the state where none of them refuses it.
     pub fn load(image: &[u8]) -> Opened
         ensures { λ r. ⌜ r ≡ loadOf (now (image .entry)) ⌝ }
     {
@@ -102,7 +103,7 @@ impl State {
         if n == 0 {
             return refused(image);
         }
-        let loaded = load(image, n);
+        let loaded = load(image, fades_at(image), n);
         if !loaded.good {
             return refused(image);
         }

@@ -50,7 +50,7 @@ impl State {
         }
     }
 
-    // Opens module `own` of a setup: numbers 2 and 4 to 6 of the setup, then 7.
+    // Opens module `own` of a setup: numbers 2, 4 to 6 and 22 of the setup, then 7.
     pub fn open(setup: Setup, own: usize) -> Opened
         ensures { λ r. ⌜ r ≡ openOf setup own ⌝ }
     {

@@ -1,7 +1,12 @@
 // Writing a state as words.
 use crate::State;
+use image::first_of;
 use image::image_length;
+use image::save_accounts;
 use image::save_sections;
+use image::second_of;
+use setup::bounds::fades;
+use setup::bounds::front_words;
 use setup::layout::setup_length;
 use setup::write::write_words;
 use words::Verdict;
@@ -10,26 +15,30 @@ use words::check::refusal;
 ghost use mathlib.Core.Path.{_≡_};
 ghost use mathlib.Core.Bool.{true};
 ghost use lib.ListN.{length};
+ghost use Rattle.setup.specs.Setup.{frontOf};
 ghost use Rattle.setup.specs.Check.{setupVerdict};
 ghost use Rattle.image.specs.Layout.{imageLength};
 ghost use Rattle.presence.specs.Image.{imageOf};
 ghost use Rattle.presence.specs.Valid.{roomy, saveVerdict, savedOut};
 
 // Writes all words of a state.
-pub fn save_words(state: State, out: &mut [u8])
-    requires { ⌜ (setupVerdict (state .setup) .number ≡ 0) × (roomy state ≡ true) × (length (now out) ≡ imageLength (state .setup .n)) ⌝ }
+pub(crate) fn save_words(state: State, out: &mut [u8])
+    requires { ⌜ (setupVerdict (state .setup) .number ≡ 0) × (roomy state ≡ true) × (length (now out) ≡ imageLength (frontOf (state .setup)) (state .setup .n)) ⌝ }
     ensures { λ _. ⌜ now (out .exit) ≡ imageOf state ⌝ }
 {
     let setup = state.setup;
-    let k = setup_length(setup.n);
+    let limits = setup.limits;
+    let form = fades(limits);
+    let k = setup_length(front_words(form), setup.n);
     let previous = state.previous;
     let counters = state.counters;
     let rows = previous.rows;
-    let penalty = counters.penalty;
-    let reward = counters.reward;
+    let first = first_of(form, setup.n, counters);
+    let second = second_of(form, setup.n, counters);
     let returns = counters.returns;
     write_words(setup, &mut out[..k]);
     save_sections(
+        form,
         setup.n,
         state.own,
         counters.view,
@@ -37,11 +46,9 @@ pub fn save_words(state: State, out: &mut [u8])
         &rows,
         state.latest,
         state.earlier,
-        &penalty,
-        &reward,
-        &returns,
         out,
     );
+    save_accounts(form, setup.n, &first, &second, &returns, out);
 }
 
 impl State {
@@ -53,7 +60,9 @@ impl State {
         if v.number != 0 {
             return v;
         }
-        if out.len() != image_length(self.setup.n) {
+        let setup = self.setup;
+        let limits = setup.limits;
+        if out.len() != image_length(front_words(fades(limits)), setup.n) {
             return refusal(9, 0);
         }
         save_words(self, out);

@@ -64,7 +64,7 @@ impl State {
     {
         let setup = self.setup;
         let counters = self.counters;
-        let counted = rules::accounts::counters(setup, j.health, counters);
+        let counted = accounts::round::counters(setup, j.health, counters);
         State {
             setup,
             own: self.own,

@@ -6,6 +6,8 @@ use image::check::check_tail;
 use image::counters_roomy;
 use image::image_length;
 use image::rows_roomy;
+use setup::bounds::fades;
+use setup::bounds::front_words;
 use setup::layout::MOST_MODULES;
 use words::Verdict;
 use words::check::refusal;
@@ -14,6 +16,8 @@ ghost use mathlib.Core.Bool.{true};
 ghost use Prim.Native.Nat.{_≤_};
 ghost use lib.ListN.{length};
 ghost use Rattle.words.specs.Runs.{runWord};
+ghost use Rattle.setup.specs.Limits.{fades as fadesOf};
+ghost use Rattle.setup.specs.Setup.{frontOf};
 ghost use Rattle.setup.specs.Check.{setupVerdict};
 ghost use Rattle.image.specs.Layout.{imageLength};
 ghost use Rattle.image.specs.Check.{checkTail};
@@ -25,25 +29,29 @@ fn roomy(state: State) -> bool
     requires { ⌜ state .setup .n ≤ 16 ⌝ }
     ensures { λ r. ⌜ r ≡ roomyOf state ⌝ }
 {
-    let n = state.setup.n;
+    let setup = state.setup;
+    let n = setup.n;
+    let limits = setup.limits;
     let previous = state.previous;
     let counters = state.counters;
     let own = (state.own <= MOST_MODULES) & (counters.view < VECTOR);
     let alone = own & ((state.latest < VECTOR) & (state.earlier < VECTOR));
-    alone & (rows_roomy(n, previous) & counters_roomy(n, counters))
+    alone & (rows_roomy(n, previous) & counters_roomy(fades(limits), n, counters))
 }
 
 // Numbers 7 and 8 of a state's image, which is written to `out`.
 fn image_verdict(state: State, out: &mut [u8]) -> Verdict
-    requires { ⌜ (setupVerdict (state .setup) .number ≡ 0) × (roomyOf state ≡ true) × (length (now out) ≡ imageLength (state .setup .n)) ⌝ }
-    ensures { λ r. ⌜ r ≡ checkTail (runWord (imageRuns state)) (state .setup .n) ⌝ }
+    requires { ⌜ (setupVerdict (state .setup) .number ≡ 0) × (roomyOf state ≡ true) × (length (now out) ≡ imageLength (frontOf (state .setup)) (state .setup .n)) ⌝ }
+    ensures { λ r. ⌜ r ≡ checkTail (fadesOf (state .setup .limits)) (runWord (imageRuns state)) (state .setup .n) ⌝ }
 {
+    let setup = state.setup;
+    let limits = setup.limits;
     save_words(state, out);
-    check_tail(out, state.setup.n)
+    check_tail(out, fades(limits), setup.n)
 }
 
 impl State {
-    // Numbers 2 and 4 to 8 of any state.
+    // Numbers 2, 4 to 8 and 22 of any state.
     pub fn verdict(self) -> Verdict
         ensures { λ r. ⌜ r ≡ stateVerdict self ⌝ }
     {
@@ -56,8 +64,9 @@ impl State {
             return refusal(8, 0);
         }
         // room for the longest image
-        let mut out = [0u8; 344];
-        let k = image_length(setup.n);
+        let limits = setup.limits;
+        let mut out = [0u8; 356];
+        let k = image_length(front_words(fades(limits)), setup.n);
         image_verdict(self, &mut out[..k])
     }
 }

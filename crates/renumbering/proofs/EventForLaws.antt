@@ -25,7 +25,7 @@ use Rattle.renumbering.specs.Renumbering.{Renumbering, wordFor}
 use Rattle.renumbering.specs.Scripts.{scriptFor}
 use Rattle.renumbering.proofs.VectorForLaws.{vector-bit}
 use Rattle.renumbering.proofs.ScriptWordLaws.{sender-below, event-sends, event-receives}
-use Rattle.renumbering.proofs.ScriptForLaws.{few, count′, size′}
+use Rattle.renumbering.proofs.ScriptForLaws.{few, count′, events-at′}
 use Rattle.renumbering.proofs.LastEventLaws.{Last, last-or-none, over-fate}
 use Rattle.renumbering.proofs.ScanForLaws.{ToldWord, PlayWord, EventWord, sort-at, told-end, rounds′}
 
@@ -40,7 +40,7 @@ module _ (s : List ℕ) (ok : checkScript s .number ≡ 0) (π : Renumbering (si
   s′ = scriptFor n π s
 
   after′ : afterCast s′ ≡ afterCast s
-  after′ = ap eventsAt (size′ s ok π)
+  after′ = events-at′ s ok π
 
   -- the kind of a word that is no told word
   kind′ : (w : ℕ) → afterCast s ≤ w → w < count → toldAt s w ≡ false → kindOf (wordAt s′ w) ≡ kindOf (wordAt s w)

@@ -12,7 +12,7 @@ use Rattle.words.specs.Word.{wordAt}
 use Rattle.words.specs.Bits.{bit}
 use Rattle.words.proofs.Truth.{which, cond-true, cond-false}
 use Rattle.words.proofs.ArrayLaws.{array-at}
-use Rattle.setup.specs.Setup.{placeIn, setupOf}
+use Rattle.setup.specs.Setup.{placeIn, frontIn, setupOf}
 use Rattle.setup.specs.declared.Setup.{Setup}
 use Rattle.rules.specs.Lag.{lag}
 use Rattle.presence.specs.declared.State.{State}
@@ -58,9 +58,9 @@ module _ (s : List ℕ) (ok : checkScript s .number ≡ 0) (zero-u : lag (script
   flat : lag n (setupWith n (wordAt s) .places) ≡ 0
   flat = ap (λ (x : Setup). lag n (x .places)) (sym (setup-as s)) ∙ zero-u
 
-  straight : (j : ℕ) → j < n → placeIn (wordAt s (3 + j)) ≡ n
+  straight : (j : ℕ) → j < n → placeIn (wordAt s (frontIn (wordAt s) + j)) ≡ n
   straight j h =
-      sym (array-at n (λ j. placeIn (wordAt s (3 + j))) j h (few s ok π))
+      sym (array-at n (λ j. placeIn (wordAt s (frontIn (wordAt s) + j))) j h (few s ok π))
       ∙ places-full n (setupWith n (wordAt s) .places) (skew-none n (setupWith n (wordAt s) .places) flat) j h
 
   ok′ : checkScript s′ .number ≡ 0

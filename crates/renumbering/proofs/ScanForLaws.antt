@@ -1,5 +1,5 @@
 -- The check of a renumbered script goes as that of the script: no word is refused, and the plays have as many rounds.
-use Prim.Native.Nat.{ℕ, zero, suc, _+_, _-_, _/_, _≤_, _<_}
+use Prim.Native.Nat.{ℕ, zero, suc, _+_, _-_, _*_, _/_, _≤_, _<_}
 use mathlib.Core.Path.{_≡_, refl, sym, ap, ap₂, _∙_, subst}
 use mathlib.Core.Bool.{true, false}
 use mathlib.Core.Logic.{_⊎_, inl, inr, ⊎-elim}
@@ -13,7 +13,6 @@ use Rattle.words.specs.Verdict.{verdict, accepted, single, andThen, outcome}
 use Rattle.words.specs.declared.Verdict.{Verdict}
 use Rattle.words.proofs.Truth.{which, cond-true, cond-false}
 use Rattle.words.proofs.VerdictLaws.{Passed, and-then-next, single-ok, tests-ok}
-use Rattle.setup.specs.Layout.{setupLength}
 use Rattle.setup.specs.Setup.{sizeIn, placeIn}
 use Rattle.setup.specs.Check.{checkWords, checkFront}
 use Rattle.setup.proofs.SetupCheckLaws.{WordsFit, head-ok, words-ok}
@@ -29,7 +28,7 @@ use Rattle.script.proofs.EffectLaws.{Linked, linked-next, play-kind, told-first
 use Rattle.renumbering.specs.Renumbering.{Renumbering, vectorFor, wordFor}
 use Rattle.renumbering.specs.Scripts.{eventWordFor, playWordFor, scriptFor}
 use Rattle.renumbering.proofs.ScriptWordLaws.{cast-vector, cast-ok, event-kind, taken-ok, event-taken}
-use Rattle.renumbering.proofs.ScriptForLaws.{fits, few, cast-within, length′, count′, word-cast, word-after, size′, head′, words′}
+use Rattle.renumbering.proofs.ScriptForLaws.{fits, few, cast-within, length′, count′, start, word-cast, word-after, size′, cast-at′, events-at′, head′, words′}
 
 module _ (s : List ℕ) (ok : checkScript s .number ≡ 0) (π : Renumbering (sizeIn (wordAt s 0))) where
   abbrev n : ℕ
@@ -48,12 +47,12 @@ module _ (s : List ℕ) (ok : checkScript s .number ≡ 0) (π : Renumbering (si
   abbrev Rest : ℕ → Scan → Type 0
   Rest at sc = Ahead s n (castOf s) count (roundsOf s) at sc
 
-  first : Rest (eventsAt n) unscanned
+  first : Rest (eventsAt s) unscanned
   unfolding roundsOf
   first = record { within = cast-within s ok π; taken = fits s ok π .words; last = refl }
 
-  first-linked : Linked s (eventsAt n) unscanned
-  first-linked = record { after = omega arith; told = sym (told-first s); rounds = sym (rounds-first s (eventsAt n) (omega arith)) }
+  first-linked : Linked s (eventsAt s) unscanned
+  first-linked = record { after = omega arith; told = sym (told-first s); rounds = sym (rounds-first s (eventsAt s) (omega arith)) }
 
   -- ---- one word
 
@@ -149,13 +148,13 @@ module _ (s : List ℕ) (ok : checkScript s .number ≡ 0) (π : Renumbering (si
     linked : Linked s at scan
     rest : Rest at scan
 
-  known : (m : ℕ) → eventsAt n + m ≤ count → Known (eventsAt n + m)
+  known : (m : ℕ) → eventsAt s + m ≤ count → Known (eventsAt s + m)
   known zero h =
-      let e : eventsAt n + 0 ≡ eventsAt n = omega arith in
+      let e : eventsAt s + 0 ≡ eventsAt s = omega arith in
       rw e (record { scan = unscanned; linked = first-linked; rest = first })
   known (suc m) h =
-      let at = eventsAt n + m in
-      let e : eventsAt n + suc m ≡ at + 1 = omega arith in
+      let at = eventsAt s + m in
+      let e : eventsAt s + suc m ≡ at + 1 = omega arith in
       let k = known m (omega arith) in
       rw e
       (record {
@@ -164,15 +163,15 @@ module _ (s : List ℕ) (ok : checkScript s .number ≡ 0) (π : Renumbering (si
         rest = ahead-next s n (castOf s) count (roundsOf s) at (k .scan) (omega arith) (k .rest) .1;
       })
 
-  known-at : (at : ℕ) → eventsAt n ≤ at → at ≤ count → Known at
+  known-at : (at : ℕ) → eventsAt s ≤ at → at ≤ count → Known at
   known-at at l h =
-      let e : eventsAt n + (at - eventsAt n) ≡ at = omega arith in
-      subst Known e (known (at - eventsAt n) (omega arith))
+      let e : eventsAt s + (at - eventsAt s) ≡ at = omega arith in
+      subst Known e (known (at - eventsAt s) (omega arith))
 
   sort-known : (at : ℕ) → at < count → Known at → Sort at
   sort-known at h k = sort at (k .scan) h (k .linked) (k .rest)
 
-  pub sort-at : (at : ℕ) → eventsAt n ≤ at → at < count → Sort at
+  pub sort-at : (at : ℕ) → eventsAt s ≤ at → at < count → Sort at
   sort-at at l h = sort-known at h (known-at at l (omega arith))
 
   -- no told word is missing at the end
@@ -202,16 +201,16 @@ module _ (s : List ℕ) (ok : checkScript s .number ≡ 0) (π : Renumbering (si
         ap (lastScan s′ words (at + 1)) same ∙ y,
       )
 
-  whole-scan : (scan s′ n cast′ (count - eventsAt n) (eventsAt n) unscanned .number ≡ 0)
-      × (lastScan s′ (count - eventsAt n) (eventsAt n) unscanned ≡ lastScan s (count - eventsAt n) (eventsAt n) unscanned)
+  whole-scan : (scan s′ n cast′ (count - eventsAt s) (eventsAt s) unscanned .number ≡ 0)
+      × (lastScan s′ (count - eventsAt s) (eventsAt s) unscanned ≡ lastScan s (count - eventsAt s) (eventsAt s) unscanned)
   whole-scan =
       let c = cast-within s ok π in
-      scan-for (count - eventsAt n) (eventsAt n) unscanned (omega arith) first-linked first
+      scan-for (count - eventsAt s) (eventsAt s) unscanned (omega arith) first-linked first
 
   pub rounds′ : roundsOf s′ ≡ roundsOf s
   unfolding roundsOf
   rounds′ =
-      ap₂ (λ (m c : ℕ). lastScan s′ (c - eventsAt m) (eventsAt m) unscanned .rounds) (size′ s ok π) (count′ s ok π)
+      ap₂ (λ (k c : ℕ). lastScan s′ (c - k) k unscanned .rounds) (events-at′ s ok π) (count′ s ok π)
       ∙ ap (λ (x : Scan). x .rounds) (whole-scan .1)
 
   cast-checked : checkCast s′ n ≡ accepted
@@ -219,32 +218,39 @@ module _ (s : List ℕ) (ok : checkScript s .number ≡ 0) (π : Renumbering (si
   cast-checked =
       let c = cast-within s ok π in
       let k = count′ s ok π in
-      tests-ok (single (ltb (castAt n) (length s′ / 4)) 14 (length s′ / 4) ∷ single (castOk n (wordAt s′ (castAt n))) 12 (castAt n) ∷ []) (
-        λ _ _. lt-ltb (castAt n) (length s′ / 4) (omega arith),
-        (λ _ _. ap (castOk n) (word-cast s ok π) ∙ cast-ok n π (few s ok π) (wordAt s (castAt n)) (fits s ok π .cast-ok), tt),
+      let e = cast-at′ s ok π in
+      tests-ok (single (ltb (castAt s′) (length s′ / 4)) 14 (length s′ / 4) ∷ single (castOk n (wordAt s′ (castAt s′))) 12 (castAt s′) ∷ []) (
+        λ _ _. lt-ltb (castAt s′) (length s′ / 4) (omega arith),
+        (
+          λ _ _.
+              ap (λ (i : ℕ). castOk n (wordAt s′ i)) e ∙ ap (castOk n) (word-cast s ok π)
+              ∙ cast-ok n π (few s ok π) (wordAt s (castAt s)) (fits s ok π .cast-ok),
+          tt,
+        ),
       )
 
   play-checked : checkPlay s′ n .number ≡ 0
   unfolding checkPlay
   play-checked =
       ap (λ (v : Verdict). v .number)
-      (ap (λ (v : Verdict). andThen v (scan s′ n (castIn (wordAt s′ (castAt n))) (length s′ / 4 - eventsAt n) (eventsAt n) unscanned)) cast-checked
+      (ap (λ (v : Verdict). andThen v (scan s′ n (castIn (wordAt s′ (castAt s′))) (length s′ / 4 - eventsAt s′) (eventsAt s′) unscanned)) cast-checked
       ∙ and-then-next accepted _ refl
-      ∙ ap₂ (λ (c m : ℕ). scan s′ n c (m - eventsAt n) (eventsAt n) unscanned)
-      (ap castIn (word-cast s ok π) ∙ cast-vector n π (few s ok π) (wordAt s (castAt n))) (count′ s ok π))
+      ∙ ap₂ (λ (c k : ℕ). scan s′ n c (length s′ / 4 - k) k unscanned)
+      (ap (λ (i : ℕ). castIn (wordAt s′ i)) (cast-at′ s ok π) ∙ ap castIn (word-cast s ok π) ∙ cast-vector n π (few s ok π) (wordAt s (castAt s))) (events-at′ s ok π)
+      ∙ ap (λ (m : ℕ). scan s′ n cast′ (m - eventsAt s) (eventsAt s) unscanned) (count′ s ok π))
       ∙ whole-scan .0
 
-  front-checked : ((j : ℕ) → j < n → placeIn (wordAt s (3 + j)) ≡ n) → checkFront s′ ≡ accepted
+  front-checked : ((j : ℕ) → j < n → placeIn (wordAt s (start s ok π + j)) ≡ n) → checkFront s′ ≡ accepted
   unfolding checkFront
   front-checked straight =
       let m = sizeIn (wordAt s′ 0) in
       ap (λ (v : Verdict). andThen v (checkWords s′ m))
       (head-ok s′ _ (head′ s ok π)
-      (ap₂ (λ (x y : ℕ). leb (setupLength x) y) (size′ s ok π) (length′ s ok π) ∙ le-leb _ _ (fits s ok π .front .room)))
+      (ap₂ (λ (x y : ℕ). leb (x * 4) y) (cast-at′ s ok π) (length′ s ok π) ∙ le-leb _ _ (fits s ok π .front .room)))
       ∙ and-then-next accepted _ refl
       ∙ words-ok s′ m (subst (WordsFit s′) (sym (size′ s ok π)) (words′ s ok π straight))
 
-  pub accepted′ : ((j : ℕ) → j < n → placeIn (wordAt s (3 + j)) ≡ n) → checkScript s′ .number ≡ 0
+  pub accepted′ : ((j : ℕ) → j < n → placeIn (wordAt s (start s ok π + j)) ≡ n) → checkScript s′ .number ≡ 0
   unfolding checkScript
   accepted′ straight =
       let l = length′ s ok π in

@@ -24,7 +24,7 @@ use Rattle.agreement.proofs.Aligned.{sent-is}
 use Rattle.renumbering.specs.Renumbering.{Renumbering, vectorFor, arrayFor, rowsFor, wordFor}
 use Rattle.renumbering.specs.States.{setupFor, readingFor, stateFor}
 use Rattle.renumbering.specs.Sessions.{Renumbered}
-use Rattle.renumbering.proofs.VectorForLaws.{vector-full, array-pack, rows-pack, vector-pack, zeros-for}
+use Rattle.renumbering.proofs.VectorForLaws.{vector-full, array-pack, rows-pack, vector-pack, zeros-for, no-scores-for}
 use Rattle.renumbering.proofs.WordForLaws.{entryFor, entry-for, cause-for, bus-for}
 use Rattle.renumbering.proofs.StepForLaws.{round-for}
 use Rattle.renumbering.proofs.ZeroLagLaws.{places-full}
@@ -158,7 +158,7 @@ module _ (S : Session) (ok : Accepted S) (zero-u : u S ≡ 0) (π : Renumbering 
         λ t. record {
           setup = S′ .setup;
           own = π .to (e t) + 1;
-          counters = record { view = f t; penalty = z t; reward = z t; returns = z t };
+          counters = record { view = f t; penalty = z t; reward = z t; score = no-scores-for n π few t; returns = z t };
           previous = record { heard = f t; rows = rows-pack n π few (λ j. full n) (λ j. full n) (λ j h. f) t };
           latest = f t;
           earlier = f t;

@@ -63,10 +63,7 @@ module _ (s : Setup) (π : Renumbering (s .n)) where
       least = fits .least;
       most = fits .most;
       q-most = fits .q-most;
-      p-least = fits .p-least;
-      p-most = fits .p-most;
-      r-least = fits .r-least;
-      r-most = fits .r-most;
+      limits = fits .limits;
       each = each′;
       roomy = roomy′;
       marks = λ j h. mark-ok j _ _ (marks-none′ j h);

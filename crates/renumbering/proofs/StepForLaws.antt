@@ -14,10 +14,10 @@ use Rattle.rules.specs.Alignment.{fromPrevious, alignedOf}
 use Rattle.vote.specs.Vote.{voteOf}
 use Rattle.rules.specs.Accusation.{differsAt}
 use Rattle.rules.specs.Syndrome.{votersOf, judgementOf}
-use Rattle.rules.specs.Account.{accounted, accountAt, accountedAt, countersOf}
+use Rattle.accounts.specs.Round.{accountedBy, accountAt, accountedAt, countersOf}
 use Rattle.rules.specs.declared.Reading.{Reading}
-use Rattle.rules.specs.declared.Account.{Account}
-use Rattle.rules.specs.declared.Counters.{Counters}
+use Rattle.accounts.specs.declared.Account.{Account}
+use Rattle.accounts.specs.declared.Counters.{Counters}
 use Rattle.rules.proofs.AlignmentLaws.{aligned-heard, aligned-row}
 use Rattle.rules.proofs.SyndromeLaws.{voter-bit, health-lt, syndrome-lt, health-bit, syndrome-bit}
 use Rattle.presence.specs.Step.{ownSyndrome, alignedFor, judgementFor, afterRound}
@@ -25,7 +25,7 @@ use Rattle.presence.specs.declared.State.{State}
 use Rattle.renumbering.specs.Renumbering.{Renumbering, vectorFor, arrayFor, rowsFor}
 use Rattle.renumbering.specs.States.{setupFor, readingFor, countersFor, stateFor}
 use Rattle.renumbering.proofs.PermutationLaws.{eqb-renumbered, any-renumbered, tally-renumbered}
-use Rattle.renumbering.proofs.VectorForLaws.{vector-bit, vector-by, vector-pack, array-entry, rows-entry, array-pack}
+use Rattle.renumbering.proofs.VectorForLaws.{vector-bit, vector-by, vector-pack, array-entry, rows-entry, array-pack, doubles-entry, doubles-pack}
 
 -- with u = 0 nothing comes from the previous read
 module _ (n : ℕ) (skew : Bool) (place : ℕ) (previous this : Reading) (straight : skew ≡ false) (j : ℕ) (h : j < n) where
@@ -94,6 +94,7 @@ module _ (s : Setup) (π : Renumbering (s .n)) (small : s .n ≤ 16) where
     present = vector-bit (s .n) π (c .view) j h i;
     penalty = array-entry (s .n) π small (c .penalty) j h i;
     reward = array-entry (s .n) π small (c .reward) j h i;
+    score = doubles-entry (s .n) π small (c .score) j h i;
     returns = array-entry (s .n) π small (c .returns) j h i;
   }
 
@@ -104,8 +105,8 @@ module _ (s : Setup) (π : Renumbering (s .n)) (small : s .n ≤ 16) where
       let e = array-entry (s .n) π small (s .criticality) j h in
       let b = vector-bit (s .n) π health j h in
       let a = account-for c j h in
-      ap (λ (k : ℕ). accounted (s .p) (s .r) (s .q) k (bit (vectorFor (s .n) π health) j) (accountAt (countersFor (s .n) π c) j)) e
-      ∙ ap₂ (λ (x : Bool) (y : Account). accounted (s .p) (s .r) (s .q) (getD (s .criticality) (π .from j) 0) x y) b a
+      ap (λ (k : ℕ). accountedBy (s .limits) (s .q) k (bit (vectorFor (s .n) π health) j) (accountAt (countersFor (s .n) π c) j)) e
+      ∙ ap₂ (λ (x : Bool) (y : Account). accountedBy (s .limits) (s .q) (getD (s .criticality) (π .from j) 0) x y) b a
 
   -- one number of every account
   counter-for : (f : Account → ℕ) (health : ℕ) (c : Counters)
@@ -120,6 +121,8 @@ module _ (s : Setup) (π : Renumbering (s .n)) (small : s .n ≤ 16) where
     view = seen i;
     penalty = counter-for (λ a. a .penalty) health c i;
     reward = counter-for (λ a. a .reward) health c i;
+    score =
+        doubles-pack (s .n) π small (λ j. accountedAt s health c j .score) _ (λ j h. ap (λ (a : Account). a .score) (accounted-for health c j h)) i;
     returns = counter-for (λ a. a .returns) health c i;
   }
     where

@@ -10,7 +10,10 @@ use Rattle.words.specs.Bits.{bit, pack, full}
 use Rattle.words.specs.Array.{array}
 use Rattle.words.proofs.BitLaws.{bit-pack, bit-ext, bit-high, bit-full, pack-ext, pack-lt, pack-full, pack-own}
 use Rattle.words.proofs.ArrayLaws.{array-at, array-ext, array-own, clear-of}
-use Rattle.renumbering.specs.Renumbering.{Renumbering, vectorFor, arrayFor, rowsFor}
+use lib.Ieee.{Float}
+use Rattle.doubles.specs.Array.{entry, zeros, doubles}
+use Rattle.doubles.proofs.DoubleArrayLaws.{doubles-at, doubles-ext, doubles-zeros, zeros-at as score-zero}
+use Rattle.renumbering.specs.Renumbering.{Renumbering, vectorFor, arrayFor, doublesFor, rowsFor}
 
 module _ (n : ℕ) (π : Renumbering n) where
   pub vector-bit : (v j : ℕ) → j < n → bit (vectorFor n π v) j ≡ bit v (π .from j)
@@ -67,3 +70,16 @@ module _ (n : ℕ) (π : Renumbering n) where
     zeros-for =
         sym (array-own n (replicate 16 0) small refl (clear-of n (replicate 16 0) (λ i h l. zeros-at i l)))
         ∙ array-ext n _ _ (λ j h. let b = π .from-below j h in zeros-at j (omega arith) ∙ sym (zeros-at (π .from j) (omega arith)))
+
+    -- the same of doubles
+    pub doubles-entry : (a : List Float) (j : ℕ) → j < n → entry (doublesFor n π a) j ≡ entry a (π .from j)
+    unfolding doublesFor
+    doubles-entry a j h = doubles-at n _ j h small
+
+    pub doubles-pack : (f f′ : ℕ → Float) → ((j : ℕ) → j < n → f′ j ≡ f (π .from j)) → doubles n f′ ≡ doublesFor n π (doubles n f)
+    unfolding doublesFor
+    doubles-pack f f′ e = doubles-ext n _ _ (λ j h. e j h ∙ sym (doubles-at n f (π .from j) (π .from-below j h) small))
+
+    pub no-scores-for : zeros ≡ doublesFor n π zeros
+    unfolding doublesFor
+    no-scores-for = sym (doubles-zeros n _ small (λ j h. let b = π .from-below j h in score-zero (π .from j) (omega arith)))

@@ -7,7 +7,7 @@ use Rattle.words.specs.Table.{updated, table}
 use Rattle.words.specs.Array.{array, bounded}
 use Rattle.words.specs.Verdict.{andThen, outcome, thenTests}
 use Rattle.words.specs.Runs.{runsOf, runWord}
-use Rattle.setup.specs.Setup.{setupOf, setupBytes, blankSetup}
+use Rattle.setup.specs.Setup.{fadesIn, limitsIn, limitList, setupOf, setupBytes, blankSetup}
 use Rattle.setup.specs.Check.{moduleFits, markFits, whole, headFits, headOk, limitOk, moduleOk, markOk, moduleTest, checkHead, checkWords, checkFront, setupPart, checkSetup, setupRoomy, roomVerdict, setupVerdict, readSetup}
 use Rattle.image.specs.Words.{ownNumberOk, ownOk, syndromeOk}
 use Rattle.image.specs.Rows.{rowFits, rowOk, rowsRoomy}
@@ -21,7 +21,11 @@ use Rattle.rules.specs.Alignment.{alignedOf}
 use Rattle.vote.specs.Vote.{decision, tally, voteOf, healthOf}
 use Rattle.rules.specs.Accusation.{differsAt, accusationOf, accusationsOf}
 use Rattle.rules.specs.Syndrome.{syndromeOf, votersOf, judgementOf, outgoingOf}
-use Rattle.rules.specs.Account.{charged, rewarded, awaited, accounted, accountAt, accountedAt, countersOf}
+use lib.Ieee.{fits, ofInt, toBits}
+use Rattle.doubles.specs.Double.{double}
+use Rattle.doubles.specs.Array.{doubles, clearDoubles}
+use Rattle.accounts.specs.Account.{charged, rewarded, awaited, accounted}
+use Rattle.accounts.specs.Round.{accountedBy, accountAt, accountedAt, countersOf}
 use Rattle.presence.specs.Opening.{fresh, blank, checkOpening, openOf}
 use Rattle.presence.specs.Step.{placeOf, markOf, ownSyndrome, alignedFor, judgementFor, outgoingFor, afterRound, refusedStep, acceptedStep, readStep, stepOf}
 use Rattle.script.specs.Words.{castOk, eventOk, playOk}
@@ -43,7 +47,7 @@ use Rattle.agreement.specs.Session.{bitIn, wordIn, readRound, state, health}
 use Rattle.presence.specs.declared.State.{State}
 use Rattle.script.specs.Effect.{toldAt, playAt}
 use Rattle.backplane.specs.Sheet.{scriptOf}
-use Rattle.renumbering.specs.Renumbering.{vectorFor, arrayFor, rowsFor, wordFor}
+use Rattle.renumbering.specs.Renumbering.{vectorFor, arrayFor, doublesFor, rowsFor, wordFor}
 use Rattle.renumbering.specs.Sessions.{sessionFor}
 use Rattle.renumbering.specs.Scripts.{castWordFor, eventWordFor, playWordFor, scriptFor}
 use Rattle.renumbering.specs.ZeroLag.{swapped, lostRun, markedWords, ZeroLagNeeded}
@@ -56,7 +60,7 @@ six : _≡_ {A = ℕ} 6 0 → ⊥
 six e = omega arith
 
 pub zero-lag-needed : ZeroLagNeeded
-unfolding wordAt bytesOf bit pack count any all lowest array bounded updated table andThen outcome thenTests runWord runsOf setupBytes setupOf blankSetup moduleFits markFits whole headFits headOk limitOk moduleOk markOk moduleTest checkHead checkWords checkFront setupPart checkSetup setupRoomy roomVerdict setupVerdict readSetup skewed busWord receptionOf isHeard heardRow causeIn entryOf readingOf causesOf alignedOf decision tally voteOf healthOf differsAt accusationOf accusationsOf syndromeOf votersOf judgementOf outgoingOf charged rewarded awaited accounted accountAt accountedAt countersOf rowFits counterOk ownNumberOk ownOk rowOk syndromeOk rowsRoomy countersRoomy checkTail roomy stateVerdict fresh blank checkOpening openOf placeOf markOf ownSyndrome alignedFor judgementFor outgoingFor afterRound refusedStep acceptedStep readStep stepOf castOk eventOk playOk playRefusal eventRefusal wordRefusal scanned finished scan checkCast checkPlay checkScript none concerns withEvent isPlay lieAfter eventsAfter gather start advanced lastScan roundsOf differ half heard halfIn breakerIn unheardIn within keptOver numeral vector lineWith linesOf refusedLine roundOf faultless arrived wordsRead bitsRead followersView countingView hearingOf openedStates opened sentWords stepAt steppedStates answeredHealth earlier played begun goesOn nextOf later printed linesTo outputOf bitIn wordIn readRound state health toldAt playAt vectorFor arrayFor rowsFor wordFor castWordFor eventWordFor playWordFor scriptFor sessionFor
+unfolding fits ofInt toBits double doubles clearDoubles wordAt bytesOf bit pack count any all lowest array bounded updated table andThen outcome thenTests runWord runsOf fadesIn limitsIn limitList setupBytes setupOf blankSetup moduleFits markFits whole headFits headOk limitOk moduleOk markOk moduleTest checkHead checkWords checkFront setupPart checkSetup setupRoomy roomVerdict setupVerdict readSetup skewed busWord receptionOf isHeard heardRow causeIn entryOf readingOf causesOf alignedOf decision tally voteOf healthOf differsAt accusationOf accusationsOf syndromeOf votersOf judgementOf outgoingOf charged rewarded awaited accounted accountedBy accountAt accountedAt countersOf rowFits counterOk ownNumberOk ownOk rowOk syndromeOk rowsRoomy countersRoomy checkTail roomy stateVerdict fresh blank checkOpening openOf placeOf markOf ownSyndrome alignedFor judgementFor outgoingFor afterRound refusedStep acceptedStep readStep stepOf castOk eventOk playOk playRefusal eventRefusal wordRefusal scanned finished scan checkCast checkPlay checkScript none concerns withEvent isPlay lieAfter eventsAfter gather start advanced lastScan roundsOf differ half heard halfIn breakerIn unheardIn within keptOver numeral vector lineWith linesOf refusedLine roundOf faultless arrived wordsRead bitsRead followersView countingView hearingOf openedStates opened sentWords stepAt steppedStates answeredHealth earlier played begun goesOn nextOf later printed linesTo outputOf bitIn wordIn readRound state health toldAt playAt vectorFor arrayFor doublesFor rowsFor wordFor castWordFor eventWordFor playWordFor scriptFor sessionFor
 zero-lag-needed = record {
   accepted = (refl, refl);
   lag = refl;

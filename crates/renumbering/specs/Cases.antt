@@ -5,7 +5,10 @@ use mathlib.Core.Path.{_≡_}
 use mathlib.Core.List.{List, [], _∷_, _++_}
 use native.Mathlib.Omega.{arith}
 use lib.ListN.{replicate}
+use lib.Ieee.{Float}
+use Rattle.doubles.specs.Double.{double}
 use Rattle.setup.specs.declared.Setup.{Setup}
+use Rattle.setup.specs.declared.Limits.the-variants.{Counts}
 use Rattle.presence.specs.declared.State.{State}
 use Rattle.backplane.specs.Output.{outputOf}
 use Rattle.backplane.specs.Sheet.{scriptOf, textOf}
@@ -37,16 +40,20 @@ wordsFor (w ∷ ws) = wordFor 4 turned w ∷ wordsFor ws
 abbrev pub four : ℕ → ℕ → ℕ → ℕ → List ℕ
 four a b c d = (a ∷ b ∷ c ∷ d ∷ []) ++ replicate 12 0
 
+-- the same of doubles
+abbrev pub fourDoubles : ℕ → ℕ → ℕ → ℕ → List Float
+fourDoubles a b c d = (double a ∷ double b ∷ double c ∷ double d ∷ []) ++ replicate 12 (double 0)
+
 -- a setup with this number's send mark, and these read places and criticalities
 abbrev pub setupWith : ℕ → List ℕ → List ℕ → Setup
-setupWith marks places criticality = record { n = 4; q = 5; p = 6; r = 7; marks = marks; places = places; criticality = criticality }
+setupWith marks places criticality = record { n = 4; q = 5; limits = Counts 6 7; marks = marks; places = places; criticality = criticality }
 
--- the state of module 3, which heard modules 1, 2 and 4
+-- the state of module 3, which heard modules 1, 2 and 4, with penalties and with scores
 abbrev pub before : State
 before = record {
   setup = setupWith 4 (four 4 1 2 3) (four 10 20 30 40);
   own = 3;
-  counters = record { view = 13; penalty = four 0 8 1 0; reward = four 0 0 2 0; returns = four 0 4 0 0 };
+  counters = record { view = 13; penalty = four 0 8 1 0; reward = four 0 0 2 0; score = fourDoubles 5 6 7 8; returns = four 0 4 0 0 };
   previous = record { heard = 11; rows = four 15 1 0 6 };
   latest = 3;
   earlier = 8;
@@ -57,7 +64,7 @@ abbrev pub after : State
 after = record {
   setup = setupWith 8 (four 3 4 1 2) (four 40 10 20 30);
   own = 4;
-  counters = record { view = 11; penalty = four 0 0 8 1; reward = four 0 0 0 2; returns = four 0 0 4 0 };
+  counters = record { view = 11; penalty = four 0 0 8 1; reward = four 0 0 0 2; score = fourDoubles 8 5 6 7; returns = four 0 0 4 0 };
   previous = record { heard = 7; rows = four 12 15 2 0 };
   latest = 6;
   earlier = 1;

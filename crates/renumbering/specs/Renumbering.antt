@@ -4,8 +4,10 @@ use Prim.Native.Nat.{ℕ, _+_, _*_, _/_, _^_, _<_}
 use mathlib.Core.Path.{_≡_}
 use mathlib.Core.List.{List}
 use lib.ListN.{getD}
+use lib.Ieee.{Float}
 use Rattle.words.specs.Bits.{bit, pack}
 use Rattle.words.specs.Array.{array}
+use Rattle.doubles.specs.Array.{entry, doubles}
 
 -- any permutation of the numbers below n, with its inverse: module j becomes module `to j`, and module j was module `from j`
 pub record Renumbering (n : ℕ) : Type 0 where
@@ -24,6 +26,10 @@ module _ (n : ℕ) (π : Renumbering n) where
   -- an array with a number for each module: entry `to j` is what entry j was
   unfoldable pub arrayFor : List ℕ → List ℕ
   arrayFor a = array n (λ j. getD a (π .from j) 0)
+
+  -- an array with a double for each module
+  unfoldable pub doublesFor : List Float → List Float
+  doublesFor a = doubles n (λ j. entry a (π .from j))
 
   -- an array with a row for each module: each row in its module's place, and renumbered itself
   unfoldable pub rowsFor : List ℕ → List ℕ

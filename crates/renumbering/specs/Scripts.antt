@@ -5,8 +5,7 @@ use mathlib.Core.List.{List, [], _∷_}
 use lib.ListN.{length}
 use Rattle.words.specs.Word.{wordAt, kindUnit, numberUnit}
 use Rattle.words.specs.Runs.{Run, one, runsOf}
-use Rattle.setup.specs.Layout.{modulesAt}
-use Rattle.setup.specs.Setup.{moduleWord, markIn, placeIn, criticalityIn}
+use Rattle.setup.specs.Setup.{moduleWord, markIn, placeIn, criticalityIn, frontIn}
 use Rattle.script.specs.Words.{castAt, eventsAt, kindOf, castIn, senderIn, receiversIn}
 use Rattle.script.specs.Effect.{toldAt, playAt}
 use Rattle.renumbering.specs.Renumbering.{Renumbering, vectorFor, wordFor}
@@ -30,13 +29,13 @@ module _ (n : ℕ) (π : Renumbering n) where
       let w = wordAt s at in
       cond (toldAt s at) (wordFor n π w) (cond (playAt s at) w (eventWordFor w))
 
-  -- the head and the two limits as they are, the module words in their new order, the cast, and what comes after it
+  -- the head and the limits as they are, the module words in their new order, the cast, and what comes after it
   abbrev pub scriptRuns : List ℕ → List Run
   scriptRuns s =
-      record { count = modulesAt; word = wordAt s }
-      ∷ record { count = n; word = λ j. moduleWordFor j (wordAt s (modulesAt + π .from j)) }
-      ∷ one (castWordFor (wordAt s (castAt n)))
-      ∷ record { count = length s / 4 - eventsAt n; word = λ m. playWordFor s (eventsAt n + m) }
+      record { count = frontIn (wordAt s); word = wordAt s }
+      ∷ record { count = n; word = λ j. moduleWordFor j (wordAt s (frontIn (wordAt s) + π .from j)) }
+      ∷ one (castWordFor (wordAt s (castAt s)))
+      ∷ record { count = length s / 4 - eventsAt s; word = λ m. playWordFor s (eventsAt s + m) }
       ∷ []
 
   -- the renumbered script of a script s of n modules

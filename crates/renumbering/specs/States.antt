@@ -2,18 +2,17 @@
 use Prim.Native.Nat.{ℕ, _+_, _-_}
 use Rattle.setup.specs.declared.Setup.{Setup}
 use Rattle.rules.specs.declared.Reading.{Reading}
-use Rattle.rules.specs.declared.Counters.{Counters}
+use Rattle.accounts.specs.declared.Counters.{Counters}
 use Rattle.presence.specs.declared.State.{State}
-use Rattle.renumbering.specs.Renumbering.{Renumbering, vectorFor, arrayFor, rowsFor}
+use Rattle.renumbering.specs.Renumbering.{Renumbering, vectorFor, arrayFor, doublesFor, rowsFor}
 
 module _ (n : ℕ) (π : Renumbering n) where
-  -- send marks, read places and criticalities move; N, Q, P and R stay
+  -- send marks, read places and criticalities move; N, Q and the limits stay
   abbrev pub setupFor : Setup → Setup
   setupFor s = record {
     n = s .n;
     q = s .q;
-    p = s .p;
-    r = s .r;
+    limits = s .limits;
     marks = vectorFor n π (s .marks);
     places = arrayFor n π (s .places);
     criticality = arrayFor n π (s .criticality);
@@ -23,12 +22,13 @@ module _ (n : ℕ) (π : Renumbering n) where
   abbrev pub readingFor : Reading → Reading
   readingFor r = record { heard = vectorFor n π (r .heard); rows = rowsFor n π (r .rows) }
 
-  -- the view, penalties, rewards and return counts
+  -- the view, penalties, rewards, scores and return counts
   abbrev pub countersFor : Counters → Counters
   countersFor c = record {
     view = vectorFor n π (c .view);
     penalty = arrayFor n π (c .penalty);
     reward = arrayFor n π (c .reward);
+    score = doublesFor n π (c .score);
     returns = arrayFor n π (c .returns);
   }
 

@@ -7,6 +7,7 @@ use mathlib.Core.List.{List, [], _∷_, _++_}
 use native.Mathlib.Omega.{arith}
 use lib.Dec.{eqb}
 use lib.ListN.{getD, replicate}
+use Rattle.setup.specs.declared.Limits.the-variants.{Counts}
 use Rattle.rules.specs.Hearing.{busWord}
 use Rattle.script.specs.Check.{checkScript}
 use Rattle.agreement.specs.Session.{Session, Accepted, size, u, answerAt, state}
@@ -34,7 +35,7 @@ swapped = record {
 -- the read place of both is 1, and nobody hears module 1 in round 1
 abbrev pub lostRun : Session
 lostRun = record {
-  setup = record { n = 2; q = 0; p = 1; r = 3; marks = 0; places = (1 ∷ 1 ∷ []) ++ replicate 14 0; criticality = (1 ∷ 1 ∷ []) ++ replicate 14 0 };
+  setup = record { n = 2; q = 0; limits = Counts 1 3; marks = 0; places = (1 ∷ 1 ∷ []) ++ replicate 14 0; criticality = (1 ∷ 1 ∷ []) ++ replicate 14 0 };
   cast = 0;
   controller = λ k i j. not (eqb k 1 && eqb j 0);
   word = λ k i j. busWord 3;

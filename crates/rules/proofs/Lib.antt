@@ -7,7 +7,3 @@ pub mod AccusationLaws
 pub mod CompareLaws
 pub mod SyndromeLaws
 pub mod StruckOff
-pub mod AccountLaws
-pub mod TakenBack
-pub mod RangeLaws
-pub mod CountedLaws

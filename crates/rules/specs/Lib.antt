@@ -5,6 +5,3 @@ pub mod Alignment
 pub mod Accusation
 pub mod Syndrome
 pub mod StruckOff
-pub mod Account
-pub mod TakenBack
-pub mod Range

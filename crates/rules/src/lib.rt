@@ -1,7 +1,7 @@
-// Rules 1 to 8 of a step, each by itself, on numbers, vectors and arrays: no state. Rule 4, the vote, is the crate `vote`.
+// Rules 1 to 7 of a step, each by itself, on numbers, vectors and arrays: no state. Rule 4, the vote, is the crate `vote`, rule 8 the crate
+// `accounts`.
 //
 // This file has what the rules hand to one another. Entries and bits of module j + 1 stand at j; those from n on are 0.
-pub mod accounts;
 mod accuse;
 pub mod align;
 pub mod hearing;
@@ -41,21 +41,4 @@ pub struct Judged {
     pub heard: u32,
     pub health: u32,
     pub syndrome: u32,
-}
-
-// The counters of one module, and whether it is in the view. `returns` counts the rounds towards its return.
-pub struct Account {
-    pub present: bool,
-    pub penalty: u32,
-    pub reward: u32,
-    pub returns: u32,
-}
-
-// The counters of all modules, and the view. It stands between the arrays since three of them in a row were copied by calls of memcpy, which
-// the library does not have.
-pub struct Counters {
-    pub penalty: [u32; 16],
-    pub reward: [u32; 16],
-    pub view: u32,
-    pub returns: [u32; 16],
 }

@@ -34,9 +34,9 @@ use Rattle.script.proofs.PlaceLaws.{Running, Placed, placed-round, plac
 pub record ScriptFits (s : List ℕ) : Type 0 where
   pub bytes : length s ≤ mostBytes
   pub front : FrontFits s
-  pub cast : castAt (sizeIn (wordAt s 0)) < length s / 4
-  pub cast-ok : castOk (sizeIn (wordAt s 0)) (wordAt s (castAt (sizeIn (wordAt s 0)))) ≡ true
-  pub words : scan s (sizeIn (wordAt s 0)) (castOf s) (length s / 4 - eventsAt (sizeIn (wordAt s 0))) (eventsAt (sizeIn (wordAt s 0))) unscanned .number ≡ 0
+  pub cast : castAt s < length s / 4
+  pub cast-ok : castOk (sizeIn (wordAt s 0)) (wordAt s (castAt s)) ≡ true
+  pub words : scan s (sizeIn (wordAt s 0)) (castOf s) (length s / 4 - eventsAt s) (eventsAt s) unscanned .number ≡ 0
 
 pub script-pass : (s : List ℕ) → checkScript s .number ≡ 0 → ScriptFits s
 unfolding checkScript checkPlay checkCast Passed numbered
@@ -46,12 +46,12 @@ script-pass s e =
     let (b, g) = and-then-pass (checkFront s) (checkPlay s n) f in
     let (c, h) = and-then-pass (checkCast s n) _ g in
     let (k, (w, _)) =
-    tests-pass (single (ltb (castAt n) (length s / 4)) 14 (length s / 4) ∷ single (castOk n (wordAt s (castAt n))) 12 (castAt n) ∷ []) refl c
+    tests-pass (single (ltb (castAt s) (length s / 4)) 14 (length s / 4) ∷ single (castOk n (wordAt s (castAt s))) 12 (castAt s) ∷ []) refl c
     in
     record {
       bytes = leb-true (length s) mostBytes (single-pass (leb (length s) mostBytes) 16 0 (omega arith) a);
       front = front-pass s b;
-      cast = ltb-true (castAt n) (length s / 4) (k 0 (omega arith));
+      cast = ltb-true (castAt s) (length s / 4) (k 0 (omega arith));
       cast-ok = w 0 (omega arith);
       words = h;
     }
@@ -61,7 +61,7 @@ module _ (s : List ℕ) (ok : checkScript s .number ≡ 0) where
   n = sizeIn (wordAt s 0)
 
   -- all that comes after the cast
-  behind-cast : Ahead s n (castOf s) (length s / 4) (roundsOf s) (eventsAt n) unscanned
+  behind-cast : Ahead s n (castOf s) (length s / 4) (roundsOf s) (eventsAt s) unscanned
   unfolding roundsOf
   behind-cast =
       let f = script-pass s ok in
@@ -81,8 +81,8 @@ module _ (s : List ℕ) (ok : checkScript s .number ≡ 0) where
       rw (sym (next-round s c refl f)) (placed-round s (castOf s) (roundsOf s) k c p f))
       (which (eqb (c .left) 0))
 
-  first-linked : Linked s (eventsAt n) unscanned
-  first-linked = record { after = omega arith; told = sym (told-first s); rounds = sym (rounds-first s (eventsAt n) (omega arith)) }
+  first-linked : Linked s (eventsAt s) unscanned
+  first-linked = record { after = omega arith; told = sym (told-first s); rounds = sym (rounds-first s (eventsAt s) (omega arith)) }
 
   placed : (k : ℕ) → At k (cursorAt s k)
   unfolding cursorAt start
@@ -109,7 +109,7 @@ module _ (s : List ℕ) (ok : checkScript s .number ≡ 0) where
       let h = p .ahead .within in
       ahead-total s n (castOf s) (length s / 4) (roundsOf s) (length s / 4 - cursorAt s k .at) (cursorAt s k .at) (p .scan) (omega arith) (p .ahead) .0
 
-  within : eventsAt n ≤ length s / 4
+  within : eventsAt s ≤ length s / 4
   within = behind-cast .within
 
   -- a round of the script
@@ -130,7 +130,7 @@ module _ (s : List ℕ) (ok : checkScript s .number ≡ 0) where
   rounds-are : roundsBefore s (length s / 4) ≡ roundsOf s
   rounds-are =
       let h = within in
-      all-rounds (length s / 4 - (eventsAt n)) (eventsAt n) unscanned (omega arith) first-linked behind-cast
+      all-rounds (length s / 4 - eventsAt s) (eventsAt s) unscanned (omega arith) first-linked behind-cast
 
 pub only-cast : OnlyCast
 only-cast s ok k = placed s ok k .by-cast
@@ -140,8 +140,8 @@ plays-all s ok =
     let n = sizeIn (wordAt s 0) in
     let h = within s ok in
     record {
-      least = ahead-total s n (castOf s) (length s / 4) (roundsOf s) (length s / 4 - (eventsAt n)) (eventsAt n) unscanned (omega arith) (behind-cast s ok) .1;
-      most = ahead-most s n (castOf s) (length s / 4) (roundsOf s) (length s / 4 - (eventsAt n)) (eventsAt n) unscanned (omega arith) (behind-cast s ok) (omega arith);
+      least = ahead-total s n (castOf s) (length s / 4) (roundsOf s) (length s / 4 - eventsAt s) (eventsAt s) unscanned (omega arith) (behind-cast s ok) .1;
+      most = ahead-most s n (castOf s) (length s / 4) (roundsOf s) (length s / 4 - eventsAt s) (eventsAt s) unscanned (omega arith) (behind-cast s ok) (omega arith);
       playing = λ k l. running s ok k l .playing;
       over = λ k l.
           let m = so-far s ok k in

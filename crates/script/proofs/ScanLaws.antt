@@ -17,7 +17,7 @@ use Rattle.setup.specs.Check.{checkFront}
 use Rattle.words.proofs.VerdictLaws.{between-is, and-then-next, and-then-stays, and-then-stops, and-then-goes, single-ok, single-refused}
 use Rattle.words.proofs.SearchLaws.{begins-refused, begins-well, ends-well}
 use Rattle.script.specs.declared.Scan.{Scan}
-use Rattle.script.specs.Words.{castAt, eventsAt, mostBytes, mostOfPlay, mostRounds, kindOf, castIn, castOk, senderIn, receiversIn, roundsIn, eventOk, playOk}
+use Rattle.script.specs.Words.{castAt, mostBytes, mostOfPlay, mostRounds, kindOf, castIn, castOk, senderIn, receiversIn, roundsIn, eventOk, playOk}
 use Rattle.script.specs.Check.{playRefusal, eventRefusal, wordRefusal, scanned, finished, scan, unscanned, checkCast, checkPlay, checkScript}
 
 -- ---- what a test that passed says
@@ -109,14 +109,14 @@ module _ (s : List ℕ) (n cast : ℕ) where
 
 -- ---- the cast, which the code has found at its place
 
-module _ {at : ℕ} (s : List ℕ) (n : ℕ) (a : at ≡ castAt n) where
+module _ {at : ℕ} (s : List ℕ) (n : ℕ) (a : at ≡ castAt s) where
   abbrev there : Bool
-  there = ltb (castAt n) (length s / 4)
+  there = ltb (castAt s) (length s / 4)
 
   pub no-cast : {v : Verdict} → length s / 4 ≤ at → v ≡ verdict 14 (length s / 4) → v ≡ checkPlay s n
   unfolding checkPlay checkCast
   no-cast {v} h q =
-      let t : not there ≡ true = ap not (le-ltb (castAt n) (length s / 4) (rw a at h)) in
+      let t : not there ≡ true = ap not (le-ltb (castAt s) (length s / 4) (rw a at h)) in
       q ∙ and-then-stops _ (begins-refused {b = there} 14 (length s / 4) _ refl (omega arith) t refl refl) (λ z. fourteen z)
     where
       fourteen : _≡_ {A = ℕ} 14 0 → ⊥
@@ -124,9 +124,9 @@ module _ {at : ℕ} (s : List ℕ) (n : ℕ) (a : at ≡ castAt n) where
 
   module _ {w : ℕ} {b : Bool} (h : at < length s / 4) (e : w ≡ wordAt s at) (o : b ≡ castOk n w) where
     found : not there ≡ false
-    found = ap not (lt-ltb (castAt n) (length s / 4) (rw a at h))
+    found = ap not (lt-ltb (castAt s) (length s / 4) (rw a at h))
 
-    asked : b ≡ castOk n (wordAt s (castAt n))
+    asked : b ≡ castOk n (wordAt s (castAt s))
     asked = o ∙ ap (castOk n) (e ∙ ap (wordAt s) a)
 
     pub wrong-cast : {v : Verdict} → not b ≡ true → v ≡ verdict 12 at → v ≡ checkPlay s n
@@ -134,16 +134,16 @@ module _ {at : ℕ} (s : List ℕ) (n : ℕ) (a : at ≡ castAt n) where
     wrong-cast {v} f q =
         q
         ∙ and-then-stops _
-        (begins-refused 12 (castAt n) _ asked (omega arith) f a refl ∙ begins-well {b = there} 14 (length s / 4) _ refl found) (λ z. twelve z)
+        (begins-refused 12 (castAt s) _ asked (omega arith) f a refl ∙ begins-well {b = there} 14 (length s / 4) _ refl found) (λ z. twelve z)
       where
         twelve : _≡_ {A = ℕ} 12 0 → ⊥
         twelve z = omega arith
 
-    pub right-cast : {v : Verdict} {from : ℕ} → not b ≡ false → from ≡ eventsAt n → v ≡ scan s n (castIn w) (length s / 4 - from) from unscanned → v ≡ checkPlay s n
+    pub right-cast : {v : Verdict} → not b ≡ false → v ≡ scan s n (castIn w) (length s / 4 - (at + 1)) (at + 1) unscanned → v ≡ checkPlay s n
     unfolding checkPlay checkCast
-    right-cast {v} f g q =
-        and-then-goes _ (ends-well refl ∙ begins-well 12 (castAt n) _ asked f ∙ begins-well {b = there} 14 (length s / 4) _ refl found) refl
-        (rw (e, a, g) at q)
+    right-cast {v} f q =
+        and-then-goes _ (ends-well refl ∙ begins-well 12 (castAt s) _ asked f ∙ begins-well {b = there} 14 (length s / 4) _ refl found) refl
+        (rw (e, a) at q)
 
 -- ---- the length, then the setup at the front, then the rest
 

@@ -1,6 +1,6 @@
--- Run scripts and their verdicts: cases of numbers 1 to 3 and 12 to 15 of document 01's table of answers, and of their order. Then run scripts and
--- what their events do in each round. Computed in proofs/Cases.antt.
-use Prim.Native.Nat.{ℕ, _-_}
+-- Run scripts and their verdicts: cases of numbers 1 to 5 and 12 to 15 of document 01's table of answers, of 22 of document 02, E9, and of their
+-- order. Then run scripts and what their events do in each round. Computed in proofs/Cases.antt.
+use Prim.Native.Nat.{ℕ, _+_, _-_, _/_, _%_, _^_}
 use mathlib.Core.Path.{_≡_}
 use mathlib.Core.Bool.{Bool, true, not, _&&_, _||_}
 use mathlib.Core.List.{List, [], _∷_, _++_}
@@ -18,13 +18,48 @@ pub record Case : Type 0 where
   pub number : ℕ
   pub index : ℕ
 
+-- the sheet's module words, then these words
+abbrev pub modulesWith : List ℕ → List ℕ
+modulesWith words = 0x4088_0001 ∷ 0x4108_0001 ∷ 0x4188_0001 ∷ 0x4208_0001 ∷ words
+
 -- the sheet's setup, then these words
 abbrev pub sheetWith : List ℕ → List ℕ
-sheetWith words = 0x1000_0004 ∷ 0x2000_0001 ∷ 0x3000_0003 ∷ 0x4088_0001 ∷ 0x4108_0001 ∷ 0x4188_0001 ∷ 0x4208_0001 ∷ words
+sheetWith words = 0x1000_0004 ∷ 0x2000_0001 ∷ 0x3000_0003 ∷ modulesWith words
 
 -- a script of the sheet's setup and these words; with this verdict
 abbrev pub run : List ℕ → ℕ → ℕ → Case
 run words number index = record { words = sheetWith words; number = number; index = index }
+
+-- the words before those of the modules of a setup that fades: the head, the kind 0 word, the factor and the limit by their bits; then these words
+abbrev pub fadingFront : ℕ → ℕ → ℕ → List ℕ → List ℕ
+fadingFront form factor limit words =
+    0x1000_0004 ∷ form ∷ factor / 2 ^ 32 ∷ factor % 2 ^ 32 ∷ limit / 2 ^ 32 ∷ limit % 2 ^ 32 ∷ words
+
+-- the bits of some doubles: 0.5, 1.0, 3.0 and 1,000,000.0
+abbrev pub half : ℕ
+half = 0x3FE0_0000_0000_0000
+
+abbrev pub one : ℕ
+one = 0x3FF0_0000_0000_0000
+
+abbrev pub three : ℕ
+three = 0x4008_0000_0000_0000
+
+abbrev pub million : ℕ
+million = 0x412E_8480_0000_0000
+
+-- the sheet's modules in a setup with factor 0.5 and limit 3.0, then these words
+abbrev pub fadingWith : List ℕ → List ℕ
+fadingWith words = fadingFront 0 half three (modulesWith words)
+
+-- a script of this setup and these words; with this verdict
+abbrev pub fading : List ℕ → ℕ → ℕ → Case
+fading words number index = record { words = fadingWith words; number = number; index = index }
+
+-- a script of a setup with this kind 0 word, factor and limit, a cast and a play; with this verdict
+abbrev pub limits : ℕ → ℕ → ℕ → ℕ → ℕ → Case
+limits form factor limit number index =
+    record { words = fadingFront form factor limit (modulesWith (0x6000_0000 ∷ 0x9000_0001 ∷ [])); number = number; index = index }
 
 -- the bytes of a script of these words
 abbrev pub scriptOf : List ℕ → List ℕ
@@ -51,6 +86,31 @@ cases =
     ∷ record { words = 0x1F42_4104 ∷ []; number = 2; index = 0 } ∷ record { words = 0x1000_0024 ∷ []; number = 2; index = 0 }
     ∷ record { words = 0x1000_0084 ∷ []; number = 2; index = 0 } ∷ record { words = 0x1F42_4004 ∷ []; number = 3; index = 0 }
     ∷ record { words = 0x1000_0004 ∷ 0x2000_0001 ∷ 0x3000_0003 ∷ []; number = 3; index = 0 }
+    -- a setup that fades is accepted, and the cast is looked for after its N + 6 words: no cast, no cast first, a lie by the cast and by another
+    ∷ fading (0x6000_0000 ∷ 0x7100_000F ∷ 0x9000_0002 ∷ []) 0 0 ∷ fading [] 14 10 ∷ fading (0x9000_0001 ∷ []) 12 10
+    ∷ fading (0x6000_0002 ∷ 0x8100_000F ∷ 0x5000_0000 ∷ 0x9000_0001 ∷ []) 0 0
+    ∷ fading (0x6000_0004 ∷ 0x8100_000F ∷ 0x5000_0000 ∷ 0x9000_0001 ∷ []) 13 11
+    -- 3: fewer than N + 6 words where the second is of kind 0: one fewer, also with a spare bit in it and with a limit of 0.0; N + 3 words; two words
+    ∷ record { words = fadingFront 0 half three (0x4088_0001 ∷ 0x4108_0001 ∷ 0x4188_0001 ∷ []); number = 3; index = 0 }
+    ∷ record { words = fadingFront 1 half three (0x4088_0001 ∷ 0x4108_0001 ∷ 0x4188_0001 ∷ []); number = 3; index = 0 }
+    ∷ record { words = fadingFront 0 half 0 (0x4088_0001 ∷ 0x4108_0001 ∷ 0x4188_0001 ∷ []); number = 3; index = 0 }
+    ∷ record { words = fadingFront 0 half three (0x4088_0001 ∷ []); number = 3; index = 0 }
+    ∷ record { words = 0x1000_0004 ∷ 0 ∷ []; number = 3; index = 0 }
+    -- factors of 0.0 and 1.0 are accepted, and limits of the least double above 0.0 and of 1,000,000.0
+    ∷ limits 0 0 three 0 0 ∷ limits 0 one three 0 0 ∷ limits 0 half 1 0 0 ∷ limits 0 half million 0 0
+    -- 22 at 1: spare bits in the kind 0 word, the lowest and the highest, also where factor and limit are wrong
+    ∷ limits 1 half three 22 1 ∷ limits 0x0800_0000 half three 22 1 ∷ limits 1 (one + 1) 0 22 1
+    -- 22 at 2: a factor of minus zero, minus 0.5, the next double above 1.0, infinite, no number, also where the limit is wrong
+    ∷ limits 0 (2 ^ 63) three 22 2 ∷ limits 0 (2 ^ 63 + half) three 22 2 ∷ limits 0 (one + 1) three 22 2
+    ∷ limits 0 0x7FF0_0000_0000_0000 three 22 2 ∷ limits 0 0x7FF8_0000_0000_0000 three 22 2 ∷ limits 0 (one + 1) 0 22 2
+    -- 22 at 4: a limit of 0.0, minus zero, minus 3.0, the next double above 1,000,000.0, infinite, no number
+    ∷ limits 0 half 0 22 4 ∷ limits 0 half (2 ^ 63) 22 4 ∷ limits 0 half (2 ^ 63 + three) 22 4 ∷ limits 0 half (million + 1) 22 4
+    ∷ limits 0 half 0x7FF0_0000_0000_0000 22 4 ∷ limits 0 half 0x7FF8_0000_0000_0000 22 4
+    -- 5 after 22: no module word at 6, with limits that are right and with a limit of 0.0
+    ∷ record { words = fadingFront 0 half three (0x6000_0000 ∷ 0x9000_0001 ∷ 0x9000_0001 ∷ 0x9000_0001 ∷ []); number = 5; index = 6 }
+    ∷ record { words = fadingFront 0 half 0 (0x6000_0000 ∷ 0x9000_0001 ∷ 0x9000_0001 ∷ 0x9000_0001 ∷ []); number = 22; index = 4 }
+    -- 4 at 1: a second word that is neither of kind 2 nor of kind 0, with the N + 3 words of a setup that counts
+    ∷ record { words = 0x1000_0004 ∷ 0x3000_0001 ∷ 0x3000_0003 ∷ modulesWith []; number = 4; index = 1 }
     -- 14: no cast; no play; an event never played; a told word missing
     ∷ run [] 14 7 ∷ run (0x6000_0000 ∷ []) 14 8 ∷ run (0x6000_0000 ∷ 0x9000_0001 ∷ 0x7100_000F ∷ []) 14 10
     ∷ run (0x6000_0002 ∷ 0x8100_000F ∷ []) 14 9
@@ -116,7 +176,7 @@ heeded (p ∷ ps) =
     let s = scriptOf (p .words) in
     eqb (checkScript s .number) 0 && eqb (roundsOf s) (p .rounds) && become s (p .becomes) && heeded ps
 
--- scripts with events; 2 is the sender of each
+-- scripts with events; 2 is the sender of each, and in the last also 4
 abbrev pub plays : List Play
 plays =
     -- a loss before a play of 3 rounds counts in the first of them alone, and for its own sender
@@ -132,7 +192,14 @@ plays =
     -- a told word that looks like a play, a loss by module 1 or a lie is none
     ∷ play (0x8100_000F ∷ 0x9000_0005 ∷ 0x9000_0002 ∷ []) 2 (tells 1 2 1 0x9000_0005 ∷ sent 2 2 1 ∷ [])
     ∷ play (0x8100_000F ∷ 0x7080_000F ∷ 0x9000_0001 ∷ []) 1 (tells 1 2 1 0x7080_000F ∷ sent 1 1 1 ∷ [])
-    ∷ play (0x8100_000F ∷ 0x8100_000F ∷ 0x9000_0001 ∷ []) 1 (tells 1 2 1 0x8100_000F ∷ []) ∷ []
+    ∷ play (0x8100_000F ∷ 0x8100_000F ∷ 0x9000_0001 ∷ []) 1 (tells 1 2 1 0x8100_000F ∷ [])
+    -- the events of a script whose setup fades
+    ∷ record {
+      words = fadingWith (0x6000_0002 ∷ 0x8100_0001 ∷ 0x5000_0001 ∷ 0x7200_0001 ∷ 0x9000_0002 ∷ []);
+      rounds = 2;
+      becomes = tells 1 2 1 0x5000_0001 ∷ lost 1 4 1 ∷ sent 1 2 2 ∷ sent 2 2 1 ∷ [];
+    }
+    ∷ []
 
 -- what is claimed: every script has its verdict, and every word its fate
 pub record CasesRight : Type 0 where

@@ -1,4 +1,4 @@
--- Which run scripts are accepted, and the number and index by which the others are refused: 16, then 1 to 6, then 12, 13 and 15 word by word, 14 last.
+-- Which run scripts are accepted, and the number and index by which the others are refused: 16, then 1 to 6 and 22, then 12, 13 and 15 word by word, 14 last.
 -- (document 01, "Answers and their order")
 use Prim.Native.Nat.{ℕ, zero, suc, _+_, _-_, _/_}
 use mathlib.Core.Bool.{Bool, true, false, cond, not, _&&_, _||_}
@@ -58,11 +58,11 @@ unscanned = record { told = false; pending = false; rounds = 0 }
 unfoldable pub checkCast : List ℕ → ℕ → Verdict
 checkCast s n =
     let count = length s / 4 in
-    firstRefusal (single (ltb (castAt n) count) 14 count ∷ single (castOk n (wordAt s (castAt n))) 12 (castAt n) ∷ [])
+    firstRefusal (single (ltb (castAt s) count) 14 count ∷ single (castOk n (wordAt s (castAt s))) 12 (castAt s) ∷ [])
 
 -- the cast, then the words after it
 unfoldable pub checkPlay : List ℕ → ℕ → Verdict
-checkPlay s n = andThen (checkCast s n) (scan s n (castIn (wordAt s (castAt n))) (length s / 4 - eventsAt n) (eventsAt n) unscanned)
+checkPlay s n = andThen (checkCast s n) (scan s n (castIn (wordAt s (castAt s))) (length s / 4 - eventsAt s) (eventsAt s) unscanned)
 
 -- the verdict on a run script: its length, the setup at its front, the rest
 unfoldable pub checkScript : List ℕ → Verdict

@@ -5,7 +5,6 @@ use mathlib.Core.List.{List}
 use lib.Dec.{eqb}
 use lib.ListN.{length}
 use Rattle.words.specs.Word.{wordAt}
-use Rattle.setup.specs.Setup.{sizeIn}
 use Rattle.script.specs.Words.{eventsAt, kindOf, roundsIn}
 use Rattle.script.specs.Events.{none, withEvent}
 use Rattle.script.specs.declared.Events.{Events}
@@ -36,8 +35,8 @@ gather s (suc words) at lie e =
 -- ---- from round to round
 
 -- before round 1: the words after the cast come next
-unfoldable pub start : ℕ → Cursor
-start n = record { at = eventsAt n; left = 0; over = false; events = none }
+unfoldable pub start : List ℕ → Cursor
+start s = record { at = eventsAt s; left = 0; over = false; events = none }
 
 -- The next round: another one of this play, without events, or the first one of the next play.
 unfoldable pub advanced : List ℕ → Cursor → Cursor
@@ -47,5 +46,5 @@ advanced s c =
 
 -- the place of round k; k = 0 is before round 1
 unfoldable pub cursorAt : List ℕ → ℕ → Cursor
-cursorAt s zero = start (sizeIn (wordAt s 0))
+cursorAt s zero = start s
 cursorAt s (suc k) = advanced s (cursorAt s k)

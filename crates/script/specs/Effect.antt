@@ -9,7 +9,6 @@ use lib.Dec.{eqb, leb}
 use lib.ListN.{getD, length}
 use Rattle.words.specs.Word.{wordAt}
 use Rattle.words.specs.Bits.{bit}
-use Rattle.setup.specs.Setup.{sizeIn}
 use Rattle.script.specs.Words.{eventsAt, kindOf, senderIn, receiversIn, roundsIn}
 use Rattle.script.specs.Check.{checkScript}
 use Rattle.script.specs.Events.{withEvent}
@@ -31,7 +30,7 @@ toldIn s k i j = getD (cursorAt s k .events .told) (i * 16 + j) 0
 
 -- the first word after the cast
 abbrev pub afterCast : List ℕ → ℕ
-afterCast s = eventsAt (sizeIn (wordAt s 0))
+afterCast s = eventsAt s
 
 -- word w is a told word: the one before it is a lie after the cast, and no told word itself
 unfoldable pub toldAt : List ℕ → ℕ → Bool

@@ -6,7 +6,6 @@ use mathlib.Core.Bool.{true, false}
 use mathlib.Core.List.{List}
 use lib.ListN.{length}
 use Rattle.words.specs.Word.{wordAt}
-use Rattle.setup.specs.Setup.{sizeIn}
 use Rattle.script.specs.Words.{eventsAt, mostRounds}
 use Rattle.script.specs.Check.{scanned, unscanned, checkScript}
 use Rattle.script.specs.Cursor.{cursorAt}
@@ -20,7 +19,7 @@ lastScan s (suc left) at sc = lastScan s left (at + 1) (scanned sc (wordAt s at)
 -- the rounds of all plays
 unfoldable pub roundsOf : List ℕ → ℕ
 roundsOf s =
-    let from = eventsAt (sizeIn (wordAt s 0)) in
+    let from = eventsAt s in
     lastScan s (length s / 4 - from) from unscanned .rounds
 
 -- from 1 to 100,000 rounds; the script is not over in any of them, and over after them

@@ -7,7 +7,6 @@ use mathlib.Core.List.{List}
 use lib.ListN.{getD}
 use Rattle.words.specs.Word.{wordAt}
 use Rattle.words.specs.Bits.{bit}
-use Rattle.setup.specs.Setup.{sizeIn}
 use Rattle.script.specs.Words.{castAt, castIn}
 use Rattle.script.specs.Check.{checkScript}
 use Rattle.script.specs.Cursor.{cursorAt}
@@ -19,7 +18,7 @@ ToldBy cast e = (x : ℕ) → x < 256 → getD (e .fate) x 0 ≡ 8 → bit cast 
 
 -- the cast of a script
 abbrev pub castOf : List ℕ → ℕ
-castOf s = castIn (wordAt s (castAt (sizeIn (wordAt s 0))))
+castOf s = castIn (wordAt s (castAt s))
 
 -- of every round of an accepted script
 abbrev pub OnlyCast : Type 0

@@ -1,18 +1,20 @@
 -- The words of a run script after its setup: one 6, then 7, 8, 9. (document 01, "What runs")
 use Prim.Native.Nat.{ℕ, _+_, _/_, _%_, _^_}
 use mathlib.Core.Bool.{Bool, _&&_}
+use mathlib.Core.List.{List}
 use lib.Dec.{eqb, ltb}
-use Rattle.words.specs.Word.{field, kindUnit, numberUnit}
+use Rattle.words.specs.Word.{wordAt, field, kindUnit, numberUnit}
 use Rattle.words.specs.Verdict.{between}
 use Rattle.setup.specs.Layout.{setupWords}
+use Rattle.setup.specs.Setup.{sizeIn, frontIn}
 
--- where the cast stands, after the setup of n modules
-abbrev pub castAt : ℕ → ℕ
-castAt n = setupWords n
+-- where the cast of the script s stands, after its setup
+abbrev pub castAt : List ℕ → ℕ
+castAt s = setupWords (frontIn (wordAt s)) (sizeIn (wordAt s 0))
 
 -- the first word after the cast
-abbrev pub eventsAt : ℕ → ℕ
-eventsAt n = castAt n + 1
+abbrev pub eventsAt : List ℕ → ℕ
+eventsAt s = castAt s + 1
 
 -- how many bytes a script has at most
 abbrev pub mostBytes : ℕ

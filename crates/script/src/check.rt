@@ -1,10 +1,9 @@
-// The check of a run script in lent bytes: 16, then 1 to 6, then 12, 13 and 15 word by word, 14 last.
+// The check of a run script in lent bytes: 16, then 1 to 6 and 22, then 12, 13 and 15 word by word, 14 last.
 use crate::Scan;
 use crate::layout::MOST_BYTES;
 use crate::layout::MOST_OF_PLAY;
 use crate::layout::MOST_ROUNDS;
 use crate::layout::cast_at;
-use crate::layout::events_at;
 use setup::check::check_front;
 use setup::check::size_at;
 use words::Verdict;
@@ -18,7 +17,7 @@ use words::word::NUMBER;
 use words::word::field;
 use words::word::word_at;
 ghost use mathlib.Core.Path.{_≡_};
-ghost use Prim.Native.Nat.{_-_, _/_, _≤_};
+ghost use Prim.Native.Nat.{_-_, _/_, _%_, _≤_};
 ghost use lib.ListN.{length};
 ghost use Rattle.words.specs.Verdict.{single, outcome};
 ghost use Rattle.script.specs.Words.{mostBytes, mostRounds, castOk, eventOk, playOk};
@@ -166,11 +165,11 @@ fn check_tail(s: &[u8], n: usize, cast: u32, from: usize) -> Verdict
 
 // From the cast on.
 fn check_play(s: &[u8], n: usize) -> Verdict
-    requires { ⌜ (n ≤ 16) × (length (now s) ≤ mostBytes) ⌝ }
+    requires { ⌜ (n ≤ 16) × (length (now s) ≤ mostBytes) × (length (now s) % 4 ≡ 0) × (4 ≤ length (now s)) ⌝ }
     ensures { λ r. ⌜ r ≡ checkPlay (now (s .entry)) n ⌝ }
 {
     let count = s.len() / 4;
-    let place = cast_at(n);
+    let place = cast_at(s);
     if count <= place {
         return refusal(14, count as u32);
     }
@@ -178,10 +177,10 @@ fn check_play(s: &[u8], n: usize) -> Verdict
     if !cast_ok(n, w) {
         return refusal(12, place as u32);
     }
-    check_tail(s, n, w % KIND, events_at(n))
+    check_tail(s, n, w % KIND, place + 1)
 }
 
-// Numbers 16, 1 to 6, 12 to 15 of a run script.
+// Numbers 16, 1 to 6 and 22, 12 to 15 of a run script.
 pub fn check(s: &[u8]) -> Verdict
     ensures { λ r. ⌜ r ≡ checkScript (now (s .entry)) ⌝ }
 {

@@ -7,6 +7,9 @@ mod play;
 // How many rounds a script has at most.
 pub use layout::MOST_ROUNDS;
 
+// Where its cast stands.
+pub use layout::cast_at;
+
 // How far a run script has been checked: whether the next word is a told word, whether an event waits for a play, and the rounds so far.
 pub struct Scan {
     pub told: bool,

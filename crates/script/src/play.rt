@@ -5,7 +5,7 @@ use crate::layout::events_at;
 use words::word::KIND;
 use words::word::word_at;
 ghost use mathlib.Core.Path.{_≡_};
-ghost use Prim.Native.Nat.{_-_, _/_, _≤_};
+ghost use Prim.Native.Nat.{_-_, _/_, _%_, _≤_};
 ghost use lib.ListN.{length};
 ghost use Rattle.script.specs.Events.{none};
 ghost use Rattle.script.specs.Cursor.{isPlay, lieAfter, eventsAfter, gather, start, advanced};
@@ -79,12 +79,12 @@ fn next_play(s: &[u8], from: usize) -> Cursor
 }
 
 impl Cursor {
-    // Before round 1 of a script for n modules.
-    pub fn start(n: usize) -> Cursor
-        requires { ⌜ n ≤ 16 ⌝ }
-        ensures { λ r. ⌜ r ≡ start n ⌝ }
+    // Before round 1 of a script.
+    pub fn start(s: &[u8]) -> Cursor
+        requires { ⌜ (length (now s) % 4 ≡ 0) × (4 ≤ length (now s)) ⌝ }
+        ensures { λ r. ⌜ r ≡ start (now (s .entry)) ⌝ }
     {
-        let at = events_at(n);
+        let at = events_at(s);
         let events = Events::none();
         Cursor {
             at,

@@ -1,4 +1,5 @@
 pub mod WordFields
+pub mod BoundLaws
 pub mod SetupCheckLaws
 pub mod SetupWords
 pub mod SetupLaws

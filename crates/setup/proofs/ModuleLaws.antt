@@ -134,16 +134,16 @@ module _ (n j w : ℕ) (hn : n ≤ 16) (hj : j < n) where
 -- ---- the pass over the words
 
 -- what is found of a word
-pub word-by : {w place : ℕ} {b : Bool} (n j : ℕ) (s : List ℕ) → n ≤ 16 → j < n → w < 2 ^ 32 → w ≡ wordAt s (3 + j) → place ≡ markedPlace j w
-    → b ≡ fieldsFit n j place (criticalityIn w) → b ≡ moduleRight n j (wordAt s (3 + j))
-word-by {w} n j s hn hj hw e p f =
+pub word-by : {w place : ℕ} {b : Bool} (front n j : ℕ) (s : List ℕ) → n ≤ 16 → j < n → w < 2 ^ 32 → w ≡ wordAt s (front + j) → place ≡ markedPlace j w
+    → b ≡ fieldsFit n j place (criticalityIn w) → b ≡ moduleRight n j (wordAt s (front + j))
+word-by {w} front n j s hn hj hw e p f =
     f ∙ ap (λ (x : ℕ). fieldsFit n j x (criticalityIn w)) p ∙ fields-right n j w hn hj hw ∙ ap (moduleRight n j) e
 
 -- where all words are right, some read place is not n exactly where some number of read place and mark is not
-pub skew-by : {good skew : Bool} {j : ℕ} (n : ℕ) (s : List ℕ) → n ≤ 16 → j ≡ n → good ≡ all j (λ k. moduleRight n k (wordAt s (3 + k)))
-    → skew ≡ any j (λ k. not (eqb (markedPlace k (wordAt s (3 + k))) n)) → good ≡ true
-    → skew ≡ any n (λ k. not (eqb (placeIn (wordAt s (3 + k))) n))
-skew-by n s hn e g k t =
+pub skew-by : {good skew : Bool} {j : ℕ} (front n : ℕ) (s : List ℕ) → n ≤ 16 → j ≡ n → good ≡ all j (λ k. moduleRight n k (wordAt s (front + k)))
+    → skew ≡ any j (λ k. not (eqb (markedPlace k (wordAt s (front + k))) n)) → good ≡ true
+    → skew ≡ any n (λ k. not (eqb (placeIn (wordAt s (front + k))) n))
+skew-by front n s hn e g k t =
     (rw e at k)
     ∙ any-ext n _ _
-    (λ i h. ap not (place-right n i (wordAt s (3 + i)) hn h (all-at n (λ k. moduleRight n k (wordAt s (3 + k))) (sym (all-end _ e g) ∙ t) i h)))
+    (λ i h. ap not (place-right n i (wordAt s (front + i)) hn h (all-at n (λ k. moduleRight n k (wordAt s (front + k))) (sym (all-end _ e g) ∙ t) i h)))

@@ -1,20 +1,22 @@
 -- What is answered of a setup, by what the checks inside have answered.
 use mathlib.Core.Path.{_≡_, refl, ap, ap₂, _∙_, sym}
-use mathlib.Core.Bool.{Bool, true, false, cond, not}
+use mathlib.Core.Bool.{Bool, true, false}
 use mathlib.Core.List.{List}
-use Prim.Native.Nat.{ℕ, _+_, _*_}
+use Prim.Native.Nat.{ℕ}
 use native.Mathlib.Omega.{arith}
 use lib.ListN.{length, take}
 use lib.Dec.{eqb}
-use borrow.Author.Tests.{eq-eqb, ne-eqb, not-true, not-false}
+use borrow.Author.Tests.{eq-eqb, ne-eqb}
 use Rattle.words.specs.Word.{wordAt}
-use Rattle.words.specs.Verdict.{verdict, accepted, isAccepted, single, andThen, outcome, thenTests}
+use Rattle.words.specs.Verdict.{verdict, accepted, isAccepted, single, andThen, outcome, thenTests, firstRefusal}
 use Rattle.words.specs.declared.Verdict.{Verdict}
 use Rattle.words.proofs.Truth.{cond-true, cond-false}
-use Rattle.words.proofs.VerdictLaws.{and-then-next, and-then-stays, and-then-assoc, and-then-stops, and-then-goes, single-ok, single-refused}
-use Rattle.setup.specs.Layout.{setupLength}
-use Rattle.setup.specs.Setup.{sizeIn, setupOf, setupBytes, blankSetup}
-use Rattle.setup.specs.Check.{whole, headOk, checkHead, checkWords, checkSetup, checkFront, setupPart, roomVerdict, setupVerdict, readSetup, writeVerdict, writtenSetup}
+use Rattle.words.proofs.VerdictLaws.{and-then-next, and-then-assoc, and-then-stops, and-then-goes, single-ok, single-refused}
+use Rattle.words.proofs.SearchLaws.{two-after}
+use Rattle.setup.specs.Layout.{frontWords, setupLength}
+use Rattle.setup.specs.Limits.{fades}
+use Rattle.setup.specs.Setup.{sizeIn, fadesIn, frontIn, frontOf, setupOf, setupBytes, blankSetup}
+use Rattle.setup.specs.Check.{whole, headOk, limitTests, moduleTests, lengthIn, checkHead, checkWords, checkSetup, checkFront, setupPart, roomVerdict, setupVerdict, readSetup, writeVerdict, writtenSetup}
 use Rattle.setup.specs.declared.Setup.{Setup}
 use Rattle.setup.specs.declared.SetupRead.{SetupRead}
 use Rattle.setup.proofs.SetupCheckLaws.{HeadFits, BytesFit, FrontFits, head-pass, setup-pass, front-pass}
@@ -54,6 +56,24 @@ module _ {v : Verdict} (s : List ℕ) (e : v ≡ checkHead s true) where
       let h : accepted ≡ checkHead s fits = and-then-goes _ e z (sym (single-ok fits 3 0 t)) ∙ sym (head-then s fits) in
       and-then-goes next h refl a
 
+-- ---- by whether the setup fades, and by the number of words that follows from it
+
+module _ {fading : Bool} {front : ℕ} (s : List ℕ) (form : fading ≡ fadesIn (wordAt s)) (at : front ≡ frontWords fading) where
+  pub length-by : {n k : ℕ} → n ≡ sizeIn (wordAt s 0) → k ≡ setupLength front n → k ≡ lengthIn s
+  length-by h k = k ∙ ap₂ setupLength (at ∙ ap frontWords form) h
+
+  pub words-by : {v₀ v₁ v₂ : Verdict} (n : ℕ) → v₀ ≡ firstRefusal (limitTests fading (wordAt s))
+      → v₁ ≡ andThen v₀ (outcome (moduleTests (wordAt s) front n 5)) → v₂ ≡ andThen v₁ (outcome (moduleTests (wordAt s) front n 6)) → v₂ ≡ checkWords s n
+  unfolding checkWords
+  words-by {v₀} {v₁} n a b c =
+      let f : front ≡ frontIn (wordAt s) = at ∙ ap frontWords form in
+      two-after (limitTests (fadesIn (wordAt s)) (wordAt s)) _ _ (a ∙ ap (λ (x : Bool). firstRefusal (limitTests x (wordAt s))) form)
+      (b ∙ ap (λ (k : ℕ). andThen v₀ (outcome (moduleTests (wordAt s) k n 5))) f) (c ∙ ap (λ (k : ℕ). andThen v₁ (outcome (moduleTests (wordAt s) k n 6))) f)
+
+pub struct-length : {fading : Bool} {front k : ℕ} (s : Setup) → fading ≡ fades (s .limits) → front ≡ frontWords fading → k ≡ setupLength front (s .n)
+    → k ≡ setupLength (frontOf s) (s .n)
+struct-length s form at k = k ∙ ap (λ (x : ℕ). setupLength x (s .n)) (at ∙ ap frontWords form)
+
 -- ---- v is the answer of the whole check, setup what is read
 
 pub bytes-fit : {v : Verdict} (s : List ℕ) → v ≡ checkSetup s → v .number ≡ 0 → BytesFit s
@@ -83,13 +103,12 @@ module _ {v : Verdict} (s : List ℕ) (e : v ≡ checkFront s) where
   pub part-refused : (v .number ≡ 0 → ⊥) → take 0 s ≡ setupPart s
   unfolding setupPart
   part-refused f =
-      ap (λ (k : ℕ). take k s) (sym (cond-false (setupLength (sizeIn (wordAt s 0))) 0 (ap isAccepted (sym e) ∙ ne-eqb (v .number) 0 f)))
+      ap (λ (k : ℕ). take k s) (sym (cond-false (lengthIn s) 0 (ap isAccepted (sym e) ∙ ne-eqb (v .number) 0 f)))
 
-  pub part-accepted : {n k : ℕ} → n ≡ sizeIn (wordAt s 0) → k ≡ setupLength n → v .number ≡ 0 → take k s ≡ setupPart s
+  pub part-accepted : {k : ℕ} → k ≡ lengthIn s → v .number ≡ 0 → take k s ≡ setupPart s
   unfolding setupPart
-  part-accepted {n} {k} h q z =
-      ap (λ (x : ℕ). take x s)
-      (q ∙ ap setupLength h ∙ sym (cond-true (setupLength (sizeIn (wordAt s 0))) 0 (ap isAccepted (sym e) ∙ eq-eqb (v .number) 0 z)))
+  part-accepted h z =
+      ap (λ (x : ℕ). take x s) (h ∙ sym (cond-true (lengthIn s) 0 (ap isAccepted (sym e) ∙ eq-eqb (v .number) 0 z)))
 
 -- ---- v says whether the words of a struct have room for it
 
@@ -127,23 +146,23 @@ module _ {v : Verdict} (s : Setup) (out : List ℕ) (e : v ≡ setupVerdict s) w
       let h : v ≡ writeVerdict s out = and-then-stops _ e f in
       (h, stays h f)
 
-  pub write-short : {r : Verdict} → r ≡ verdict 9 0 → v .number ≡ 0 → (length out ≡ setupLength (s .n) → ⊥)
+  pub write-short : {r : Verdict} → r ≡ verdict 9 0 → v .number ≡ 0 → (length out ≡ setupLength (frontOf s) (s .n) → ⊥)
       → (r ≡ writeVerdict s out) × (out ≡ writtenSetup s out)
   unfolding writeVerdict
   write-short {r} q z f =
       let h : r ≡ writeVerdict s out =
-      and-then-goes _ e z (q ∙ sym (single-refused (eqb (length out) (setupLength (s .n))) 9 0 (ne-eqb _ _ f)))
+      and-then-goes _ e z (q ∙ sym (single-refused (eqb (length out) (setupLength (frontOf s) (s .n))) 9 0 (ne-eqb _ _ f)))
       in
       (h, stays h (λ y. nine (ap (λ (x : Verdict). x .number) (sym q) ∙ y)))
     where
       nine : _≡_ {A = ℕ} 9 0 → ⊥
       nine y = omega arith
 
-  pub write-done : {r : Verdict} {o : List ℕ} → r ≡ accepted → o ≡ setupBytes s → v .number ≡ 0 → length out ≡ setupLength (s .n)
+  pub write-done : {r : Verdict} {o : List ℕ} → r ≡ accepted → o ≡ setupBytes s → v .number ≡ 0 → length out ≡ setupLength (frontOf s) (s .n)
       → (r ≡ writeVerdict s out) × (o ≡ writtenSetup s out)
   unfolding writeVerdict writtenSetup
   write-done {r} {o} q b z l =
       let h : r ≡ writeVerdict s out =
-      and-then-goes _ e z (q ∙ sym (single-ok (eqb (length out) (setupLength (s .n))) 9 0 (eq-eqb _ _ l)))
+      and-then-goes _ e z (q ∙ sym (single-ok (eqb (length out) (setupLength (frontOf s) (s .n))) 9 0 (eq-eqb _ _ l)))
       in
       (h, b ∙ sym (cond-true (setupBytes s) out (ap isAccepted (sym h ∙ q))))

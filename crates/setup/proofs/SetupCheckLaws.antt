@@ -1,23 +1,21 @@
 -- What holds of bytes that pass the check of a setup.
-use mathlib.Core.Path.{_≡_, refl, ap, _∙_}
-use mathlib.Core.Bool.{Bool, true, not}
-use mathlib.Core.List.{List}
+use mathlib.Core.Path.{_≡_, refl, ap, sym, _∙_}
+use mathlib.Core.Bool.{Bool, true, not, _&&_}
+use mathlib.Core.List.{List, [], _∷_}
 use Prim.Native.Nat.{ℕ, _+_, _%_, _<_, _≤_}
 use native.Mathlib.Omega.{arith}
 use lib.ListN.{length}
 use lib.Dec.{eqb, leb}
 use borrow.Author.Tests.{eqb-true, eqb-false, eq-eqb, ne-eqb, leb-true, not-true}
 use Rattle.words.specs.Word.{wordAt}
-use Rattle.words.specs.Count.{all}
-use Rattle.words.specs.Verdict.{accepted, isAccepted, andThen, allRight}
+use Rattle.words.specs.Verdict.{Test, accepted, isAccepted, andThen, allRight}
 use Rattle.words.specs.declared.Verdict.{Verdict}
 use Rattle.words.proofs.Truth.{and-l, and-r, and-true}
-use Rattle.words.proofs.VerdictLaws.{Passed, numbered, and-then-next, and-then-pass, tests-pass, tests-ok, tests-accept}
-use Rattle.setup.specs.Layout.{setupLength}
-use Rattle.setup.specs.Limits.{mostPenaltyLimit, mostRewardLimit}
-use Rattle.setup.specs.Setup.{sizeIn}
-use Rattle.setup.specs.Check.{whole, headOk, limitOk, moduleOk, markOk, moduleTest, headTests, wordTests, checkHead, checkWords, checkSetup, checkFront}
+use Rattle.words.proofs.VerdictLaws.{Passed, numbered, and-then-next, and-then-pass, all-passed, passed-all, tests-pass, tests-ok, tests-accept, right-join, numbers-join}
+use Rattle.setup.specs.Setup.{sizeIn, fadesIn, frontIn}
+use Rattle.setup.specs.Check.{whole, headOk, moduleOk, markOk, limitTests, moduleTest, moduleTests, headTests, wordTests, lengthIn, checkHead, checkWords, checkSetup, checkFront}
 use Rattle.setup.proofs.WordFields.{head-made}
+use Rattle.setup.proofs.BoundLaws.{limit-numbers}
 
 -- ---- numbers 1 to 3
 
@@ -55,27 +53,37 @@ pub head-ok : (s : List ℕ) (fits : Bool) → HeadFits s → fits ≡ true → 
 unfolding checkHead Passed
 head-ok s fits h f = tests-ok (headTests s fits) (λ _ _. whole-of s (h .whole) (h .room), (λ _ _. h .head, (λ _ _. f, tt)))
 
--- ---- numbers 4 to 6
+-- ---- numbers 4 to 6 and 22
 
 pub record WordsFit (s : List ℕ) (n : ℕ) : Type 0 where
-  pub p : limitOk 2 mostPenaltyLimit (wordAt s 1) ≡ true
-  pub r : limitOk 3 mostRewardLimit (wordAt s 2) ≡ true
-  pub each : (j : ℕ) → j < n → moduleOk n j (wordAt s (3 + j)) ≡ true
-  pub marks : (j : ℕ) → j < n → markOk j (wordAt s (3 + j)) ≡ true
+  pub limits : allRight (limitTests (fadesIn (wordAt s)) (wordAt s)) ≡ true
+  pub each : (j : ℕ) → j < n → moduleOk n j (wordAt s (frontIn (wordAt s) + j)) ≡ true
+  pub marks : (j : ℕ) → j < n → markOk j (wordAt s (frontIn (wordAt s) + j)) ≡ true
+
+-- the tests of the module words, by 5 and by 6
+abbrev pub bothTests : List ℕ → ℕ → List Test
+bothTests s n = moduleTests (wordAt s) (frontIn (wordAt s)) n 5 ∷ moduleTests (wordAt s) (frontIn (wordAt s)) n 6 ∷ []
 
 pub word-numbers : (s : List ℕ) (n : ℕ) → numbered (wordTests s n) ≡ true
 unfolding numbered
-word-numbers s n = refl
+word-numbers s n = numbers-join (limitTests (fadesIn (wordAt s)) (wordAt s)) (bothTests s n) (limit-numbers (fadesIn (wordAt s)) (wordAt s)) refl
 
 pub words-pass : (s : List ℕ) (n : ℕ) → checkWords s n .number ≡ 0 → WordsFit s n
 unfolding checkWords moduleTest Passed
 words-pass s n e =
-    let (p, (r, (each, (marks, _)))) = tests-pass (wordTests s n) (word-numbers s n) e in
-    record { p = p 0 (omega arith); r = r 0 (omega arith); each = each; marks = marks }
+    let ts = limitTests (fadesIn (wordAt s)) (wordAt s) in
+    let t : allRight ts && allRight (bothTests s n) ≡ true =
+    sym (right-join ts (bothTests s n)) ∙ passed-all (wordTests s n) (tests-pass (wordTests s n) (word-numbers s n) e)
+    in
+    let (each, (marks, _)) = all-passed (bothTests s n) (and-r (allRight ts) _ t) in
+    record { limits = and-l (allRight ts) _ t; each = each; marks = marks }
 
 pub words-ok : (s : List ℕ) (n : ℕ) → WordsFit s n → checkWords s n ≡ accepted
 unfolding checkWords moduleTest Passed
-words-ok s n f = tests-ok (wordTests s n) (λ _ _. f .p, (λ _ _. f .r, (f .each, (f .marks, tt))))
+words-ok s n f =
+    let ts = limitTests (fadesIn (wordAt s)) (wordAt s) in
+    let t : allRight (bothTests s n) ≡ true = passed-all (bothTests s n) (f .each, (f .marks, tt)) in
+    tests-ok (wordTests s n) (all-passed (wordTests s n) (right-join ts (bothTests s n) ∙ and-true (allRight ts) _ (f .limits) t))
 
 -- they accept where all words are right
 pub words-accept : (s : List ℕ) (n : ℕ) → isAccepted (checkWords s n) ≡ allRight (wordTests s n)
@@ -86,16 +94,16 @@ words-accept s n = tests-accept (wordTests s n) (word-numbers s n)
 
 pub record BytesFit (s : List ℕ) : Type 0 where
   pub front : HeadFits s
-  pub size : length s ≡ setupLength (sizeIn (wordAt s 0))
+  pub size : length s ≡ lengthIn s
   pub words : WordsFit s (sizeIn (wordAt s 0))
 
 pub setup-pass : (s : List ℕ) → checkSetup s .number ≡ 0 → BytesFit s
 unfolding checkSetup
 setup-pass s e =
     let n = sizeIn (wordAt s 0) in
-    let (a, b) = and-then-pass (checkHead s (eqb (length s) (setupLength n))) (checkWords s n) e in
-    let (h, f) = head-pass s (eqb (length s) (setupLength n)) a in
-    record { front = h; size = eqb-true (length s) (setupLength n) f; words = words-pass s n b }
+    let (a, b) = and-then-pass (checkHead s (eqb (length s) (lengthIn s))) (checkWords s n) e in
+    let (h, f) = head-pass s (eqb (length s) (lengthIn s)) a in
+    record { front = h; size = eqb-true (length s) (lengthIn s) f; words = words-pass s n b }
 
 pub setup-ok : (s : List ℕ) → BytesFit s → checkSetup s ≡ accepted
 unfolding checkSetup
@@ -107,13 +115,13 @@ setup-ok s f =
 
 pub record FrontFits (s : List ℕ) : Type 0 where
   pub front : HeadFits s
-  pub room : setupLength (sizeIn (wordAt s 0)) ≤ length s
+  pub room : lengthIn s ≤ length s
   pub words : WordsFit s (sizeIn (wordAt s 0))
 
 pub front-pass : (s : List ℕ) → checkFront s .number ≡ 0 → FrontFits s
 unfolding checkFront
 front-pass s e =
     let n = sizeIn (wordAt s 0) in
-    let (a, b) = and-then-pass (checkHead s (leb (setupLength n) (length s))) (checkWords s n) e in
-    let (h, f) = head-pass s (leb (setupLength n) (length s)) a in
-    record { front = h; room = leb-true (setupLength n) (length s) f; words = words-pass s n b }
+    let (a, b) = and-then-pass (checkHead s (leb (lengthIn s) (length s))) (checkWords s n) e in
+    let (h, f) = head-pass s (leb (lengthIn s) (length s)) a in
+    record { front = h; room = leb-true (lengthIn s) (length s) f; words = words-pass s n b }

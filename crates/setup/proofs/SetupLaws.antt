@@ -1,24 +1,23 @@
 -- What an accepted setup is, field by field.
-use mathlib.Core.Path.{_≡_, refl, ap, _∙_}
-use mathlib.Core.Bool.{true}
+use mathlib.Core.Path.{_≡_, refl, ap, subst, _∙_}
+use mathlib.Core.Bool.{Bool, true}
 use Prim.Native.Nat.{ℕ, _+_, _*_, _/_, _^_, _<_, _≤_}
-use native.Mathlib.Omega.{arith}
 use lib.ListN.{getD}
 use lib.Dec.{eqb, leb}
 use borrow.Author.Tests.{leb-true, le-leb, eq-eqb}
 use Rattle.words.specs.Word.{wordAt, numberUnit}
 use Rattle.words.specs.Bits.{bit}
-use Rattle.words.specs.Verdict.{accepted, andThen}
+use Rattle.words.specs.Verdict.{accepted, andThen, allRight}
 use Rattle.words.specs.declared.Verdict.{Verdict}
 use Rattle.words.proofs.Truth.{and-l, and-r, and-true}
 use Rattle.words.proofs.VerdictLaws.{between-is, between-of, and-then-next, and-then-pass}
-use Rattle.setup.specs.Limits.{mostReturnLimit, mostPenaltyLimit, mostRewardLimit, mostCriticality}
-use Rattle.setup.specs.Setup.{limitWord, setupBytes}
-use Rattle.setup.specs.Check.{limitOk, moduleFits, markFits, moduleOk, markOk, setupRoomy, checkWords, roomVerdict, setupVerdict}
+use Rattle.setup.specs.Limits.{mostReturnLimit, mostCriticality}
+use Rattle.setup.specs.Setup.{frontIn, setupBytes}
+use Rattle.setup.specs.Check.{moduleFits, markFits, moduleOk, markOk, setupRoomy, limitTests, checkWords, roomVerdict, setupVerdict}
 use Rattle.setup.specs.declared.Setup.{Setup}
-use Rattle.setup.proofs.WordFields.{limit-right}
+use Rattle.setup.proofs.BoundLaws.{LimitsFit, fit-room, limits-right, right-fit}
 use Rattle.setup.proofs.SetupCheckLaws.{WordsFit, words-pass, words-ok}
-use Rattle.setup.proofs.SetupWords.{Room, room-pass, room-ok, stands, fields-back}
+use Rattle.setup.proofs.SetupWords.{Room, room-pass, room-ok, stands, written-fades, fields-back}
 
 -- one module of an accepted setup
 pub record ModuleFits (n place criticality : ℕ) : Type 0 where
@@ -30,10 +29,7 @@ pub record SetupFits (s : Setup) : Type 0 where
   pub least : 2 ≤ s .n
   pub most : s .n ≤ 16
   pub q-most : s .q ≤ mostReturnLimit
-  pub p-least : 1 ≤ s .p
-  pub p-most : s .p ≤ mostPenaltyLimit
-  pub r-least : 1 ≤ s .r
-  pub r-most : s .r ≤ mostRewardLimit
+  pub limits : LimitsFit (s .limits)
   pub each : (j : ℕ) → j < s .n → ModuleFits (s .n) (getD (s .places) j 0) (getD (s .criticality) j 0)
   pub roomy : setupRoomy s ≡ true
   pub marks : (j : ℕ) → j < s .n → markFits j (bit (s .marks) j) (getD (s .places) j 0) ≡ true
@@ -51,12 +47,6 @@ module-of n place criticality f =
 
 -- ---- an accepted setup
 
-limit-is : (kind most v w : ℕ) → w ≡ limitWord kind v → limitOk kind most w ≡ true → (1 ≤ v) × (v ≤ most)
-unfolding limitOk
-limit-is kind most v w e t =
-    let b = between-is (limitWord kind 1) (limitWord kind most) w t in
-    (omega arith, omega arith)
-
 pub verdict-room : (s : Setup) → setupVerdict s .number ≡ 0 → roomVerdict s .number ≡ 0
 unfolding setupVerdict
 verdict-room s e = and-then-pass (roomVerdict s) (checkWords (setupBytes s) (s .n)) e .0
@@ -69,25 +59,21 @@ verdict-fits s e =
     let w = words-pass (setupBytes s) (s .n) b in
     let t = stands s in
     let k = fields-back s m in
-    let p = limit-is 2 mostPenaltyLimit (s .p) _ (t .p) (w .p) in
-    let r = limit-is 3 mostRewardLimit (s .r) _ (t .r) (w .r) in
+    let right = subst (λ (b : Bool). allRight (limitTests b (wordAt (setupBytes s))) ≡ true) (written-fades s) (w .limits) in
     record {
       least = m .least;
       most = m .most;
       q-most = m .q;
-      p-least = p .0;
-      p-most = p .1;
-      r-least = r .0;
-      r-most = r .1;
+      limits = right-fit (wordAt (setupBytes s)) (s .limits) (m .limits) (t .limits) right;
       each = λ j h.
           module-is (s .n) _ _
-          (rw (k .place j h, k .criticality j h) at (and-r (eqb (wordAt (setupBytes s) (3 + j) / numberUnit) (4 * 2 ^ 5 + (j + 1))) _ (w .each j h)));
+          (rw (k .place j h, k .criticality j h) at (and-r (eqb (wordAt (setupBytes s) (frontIn (wordAt (setupBytes s)) + j) / numberUnit) (4 * 2 ^ 5 + (j + 1))) _ (w .each j h)));
       roomy = m .roomy;
       marks = λ j h. rw (k .mark j h, k .place j h) at (w .marks j h);
     }
 
 pub fits-room : (s : Setup) → SetupFits s → Room s
-fits-room s f = record { q = f .q-most; least = f .least; most = f .most; p = omega (arith, f .p-most); r = omega (arith, f .r-most); roomy = f .roomy }
+fits-room s f = record { q = f .q-most; least = f .least; most = f .most; limits = fit-room (s .limits) (f .limits); roomy = f .roomy }
 
 -- its words pass
 pub fits-words : (s : Setup) → SetupFits s → WordsFit (setupBytes s) (s .n)
@@ -96,10 +82,9 @@ fits-words s f =
     let t = stands s in
     let k = fields-back s (fits-room s f) in
     record {
-      p = rw (t .p) (limit-right 2 mostPenaltyLimit (s .p) (f .p-least) (f .p-most));
-      r = rw (t .r) (limit-right 3 mostRewardLimit (s .r) (f .r-least) (f .r-most));
+      limits = rw (written-fades s) (limits-right (wordAt (setupBytes s)) (s .limits) (f .limits) (t .limits));
       each = λ j h.
-          and-true (eqb (wordAt (setupBytes s) (3 + j) / numberUnit) (4 * 2 ^ 5 + (j + 1))) _ (eq-eqb _ _ (k .number j h))
+          and-true (eqb (wordAt (setupBytes s) (frontIn (wordAt (setupBytes s)) + j) / numberUnit) (4 * 2 ^ 5 + (j + 1))) _ (eq-eqb _ _ (k .number j h))
           (rw (k .place j h, k .criticality j h) (module-of (s .n) _ _ (f .each j h)));
       marks = λ j h. rw (k .mark j h, k .place j h) (f .marks j h);
     }

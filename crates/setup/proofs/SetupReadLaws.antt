@@ -1,6 +1,6 @@
 -- One pass over the words of a setup: a turn of the loop over the module words, and the setup that the pass has read.
-use mathlib.Core.Path.{_≡_, refl, ap, ap₂, _∙_}
-use mathlib.Core.Bool.{Bool, true, false, _&&_}
+use mathlib.Core.Path.{_≡_, ap, ap₂, sym, _∙_}
+use mathlib.Core.Bool.{Bool, true, _&&_}
 use mathlib.Core.List.{List}
 use Prim.Native.Nat.{ℕ, _+_, _*_, _^_}
 use lib.ListN.{set}
@@ -12,49 +12,46 @@ use Rattle.words.specs.Verdict.{allRight}
 use Rattle.words.proofs.BitLaws.{pack-step}
 use Rattle.words.proofs.ArrayLaws.{array-step}
 use Rattle.words.proofs.CountLaws.{all-both}
-use Rattle.setup.specs.Limits.{mostPenaltyLimit, mostRewardLimit}
-use Rattle.setup.specs.Setup.{returnLimitIn, sizeIn, limitIn, markIn, placeIn, criticalityIn, setupOf}
-use Rattle.setup.specs.Check.{limitOk, moduleOk, markOk, moduleTest, wordTests}
-use Rattle.setup.specs.Modules.{limitsRight, moduleRight}
+use Rattle.words.proofs.VerdictLaws.{and-end, right-join}
+use Rattle.setup.specs.Layout.{frontWords}
+use Rattle.setup.specs.Setup.{returnLimitIn, sizeIn, markIn, placeIn, criticalityIn, fadesIn, frontIn, limitsIn, setupOf}
+use Rattle.setup.specs.Check.{moduleOk, markOk, limitTests, moduleTest, wordTests}
+use Rattle.setup.specs.Modules.{moduleRight}
+use Rattle.setup.specs.declared.Limits.{Limits}
 
--- the marks, places and criticalities of the first j modules
-abbrev pub ModulesRead : List ℕ → ℕ → ℕ → List ℕ → List ℕ → Type 0
-ModulesRead s j marks places criticality =
-    (marks ≡ pack j (λ k. markIn (wordAt s (3 + k)))) × (places ≡ array j (λ k. placeIn (wordAt s (3 + k))))
-    × (criticality ≡ array j (λ k. criticalityIn (wordAt s (3 + k))))
+-- the marks, places and criticalities of the first j modules, whose words stand after the first `front`
+abbrev pub ModulesRead : List ℕ → ℕ → ℕ → ℕ → List ℕ → List ℕ → Type 0
+ModulesRead s front j marks places criticality =
+    (marks ≡ pack j (λ k. markIn (wordAt s (front + k)))) × (places ≡ array j (λ k. placeIn (wordAt s (front + k))))
+    × (criticality ≡ array j (λ k. criticalityIn (wordAt s (front + k))))
 
-pub modules-step : {marks m place w : ℕ} {mark : Bool} {places criticality : List ℕ} (s : List ℕ) (j : ℕ)
-    → ModulesRead s j marks places criticality → w ≡ wordAt s (3 + j) → mark ≡ markIn w → m ≡ marks + b2n mark * 2 ^ j → place ≡ placeIn w
-    → ModulesRead s (j + 1) m (set places j place) (set criticality j (criticalityIn w))
-modules-step s j i e mark m place = (
-  pack-step j (λ k. markIn (wordAt s (3 + k))) (i .0) (mark ∙ ap markIn e) m,
-  array-step j (λ k. placeIn (wordAt s (3 + k))) (i .1) (place ∙ ap placeIn e),
-  array-step j (λ k. criticalityIn (wordAt s (3 + k))) (i .2) (ap criticalityIn e),
+pub modules-step : {marks m place w : ℕ} {mark : Bool} {places criticality : List ℕ} (s : List ℕ) (front j : ℕ)
+    → ModulesRead s front j marks places criticality → w ≡ wordAt s (front + j) → mark ≡ markIn w → m ≡ marks + b2n mark * 2 ^ j → place ≡ placeIn w
+    → ModulesRead s front (j + 1) m (set places j place) (set criticality j (criticalityIn w))
+modules-step s front j i e mark m place = (
+  pack-step j (λ k. markIn (wordAt s (front + k))) (i .0) (mark ∙ ap markIn e) m,
+  array-step j (λ k. placeIn (wordAt s (front + k))) (i .1) (place ∙ ap placeIn e),
+  array-step j (λ k. criticalityIn (wordAt s (front + k))) (i .2) (ap criticalityIn e),
 )
 
-pub setup-by : {w q p r marks j n : ℕ} {places criticality : List ℕ} (s : List ℕ) → j ≡ n → n ≡ sizeIn (wordAt s 0)
-    → w ≡ wordAt s 0 → q ≡ returnLimitIn w → p ≡ wordAt s 1 → r ≡ wordAt s 2 → ModulesRead s j marks places criticality
-    → record { n = n; q = q; p = limitIn p; r = limitIn r; marks = marks; places = places; criticality = criticality } ≡ setupOf s
-unfolding setupOf
-setup-by s e h w q p r i = rw (i .0, i .1, i .2, e, h, q, w, p, r)
+-- whether the setup fades is known, and with it where its module words stand
+module _ {fades : Bool} {front : ℕ} (s : List ℕ) (form : fades ≡ fadesIn (wordAt s)) (at : front ≡ frontWords fades) where
+  pub setup-by : {w q marks j n : ℕ} {limits : Limits} {places criticality : List ℕ} → j ≡ n → n ≡ sizeIn (wordAt s 0) → w ≡ wordAt s 0
+      → q ≡ returnLimitIn w → limits ≡ limitsIn fades (wordAt s) → ModulesRead s front j marks places criticality
+      → record { n = n; q = q; limits = limits; marks = marks; places = places; criticality = criticality } ≡ setupOf s
+  unfolding setupOf
+  setup-by e h w q l i = rw (i .0, i .1, i .2, e, h, q, w, l, at, form)
 
--- what the pass has found, as the tests in their order
-pub words-good : {p r good : Bool} (s : List ℕ) (n : ℕ) → p ≡ limitOk 2 mostPenaltyLimit (wordAt s 1) → r ≡ limitOk 3 mostRewardLimit (wordAt s 2)
-    → good ≡ all n (λ j. moduleOk n j (wordAt s (3 + j)) && markOk j (wordAt s (3 + j))) → (p && r) && good ≡ allRight (wordTests s n)
-unfolding allRight all moduleTest
-words-good {p} {r} {good} s n ep er eg =
-    ap₂ _&&_ (ap₂ _&&_ ep er) (eg ∙ all-both n (λ j. moduleOk n j (wordAt s (3 + j))) (λ j. markOk j (wordAt s (3 + j))))
-    ∙ regroup (limitOk 2 mostPenaltyLimit (wordAt s 1)) (limitOk 3 mostRewardLimit (wordAt s 2))
-    (all n (λ j. moduleOk n j (wordAt s (3 + j)))) (all n (λ j. markOk j (wordAt s (3 + j))))
-  where
-    regroup : (a b c d : Bool) → (a && b) && (c && d) ≡ a && (b && (c && (d && true)))
-    regroup false b c d = refl
-    regroup true false c d = refl
-    regroup true true false d = refl
-    regroup true true true false = refl
-    regroup true true true true = refl
-
--- the same, of the limits and of the modules by themselves
-pub parts-good : {limits good : Bool} (s : List ℕ) (n : ℕ) → limits ≡ limitsRight s → good ≡ all n (λ j. moduleRight n j (wordAt s (3 + j)))
-    → limits && good ≡ allRight (wordTests s n)
-parts-good {limits} {good} s n e g = ap (λ (x : Bool). x && good) e ∙ words-good s n refl refl g
+  -- what the pass has found, as the tests in their order
+  pub words-good : {right good : Bool} (n : ℕ) → right ≡ allRight (limitTests fades (wordAt s)) → good ≡ all n (λ j. moduleRight n j (wordAt s (front + j)))
+      → right && good ≡ allRight (wordTests s n)
+  unfolding allRight moduleTest
+  words-good {right} {good} n r g =
+      let f : front ≡ frontIn (wordAt s) = at ∙ ap frontWords form in
+      let each : ℕ → Bool = λ k. all n (λ j. moduleOk n j (wordAt s (k + j))) in
+      let marks : ℕ → Bool = λ k. all n (λ j. markOk j (wordAt s (k + j))) in
+      let g′ : good ≡ each front && (marks front && true) =
+      g ∙ all-both n (λ j. moduleOk n j (wordAt s (front + j))) (λ j. markOk j (wordAt s (front + j))) ∙ ap (λ (b : Bool). each front && b) (sym (and-end (marks front)))
+      in
+      ap₂ _&&_ (r ∙ ap (λ (b : Bool). allRight (limitTests b (wordAt s))) form) (g′ ∙ ap (λ (k : ℕ). each k && (marks k && true)) f)
+      ∙ sym (right-join (limitTests (fadesIn (wordAt s)) (wordAt s)) _)

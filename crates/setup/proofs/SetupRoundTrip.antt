@@ -1,6 +1,6 @@
 -- What is read is what was written, and what is written is what was read.
-use mathlib.Core.Path.{_≡_, refl, ap, _∙_, sym, subst}
-use mathlib.Core.Bool.{true}
+use mathlib.Core.Path.{_≡_, refl, ap, ap₂, _∙_, sym, subst}
+use mathlib.Core.Bool.{Bool, true}
 use mathlib.Core.List.{List}
 use Prim.Native.Nat.{ℕ, _+_, _*_, _/_, _^_, _<_}
 use native.Mathlib.Omega.{arith}
@@ -15,17 +15,19 @@ use Rattle.words.specs.Verdict.{accepted}
 use Rattle.words.proofs.Truth.{and-l, and-r}
 use Rattle.words.proofs.BitLaws.{bit-pack, pack-lt, pack-ext, pack-own}
 use Rattle.words.proofs.ArrayLaws.{array-at, array-clear, array-ext, array-length, array-own, bounded-clear}
+use Rattle.words.proofs.WordLaws.{word-lt}
 use Rattle.words.proofs.ByteLaws.{bytes-own, bytes-ext}
 use Rattle.words.proofs.RunLaws.{Follows, follow-runs}
 use Rattle.setup.specs.declared.Setup.{Setup}
-use Rattle.setup.specs.Layout.{setupLength}
-use Rattle.setup.specs.Limits.{mostPenaltyLimit, mostRewardLimit}
-use Rattle.setup.specs.Setup.{headWord, returnLimitIn, sizeIn, limitWord, limitIn, moduleWord, markIn, placeIn, criticalityIn, setupOf, setupRuns, setupBytes}
+use Rattle.setup.specs.Layout.{limitWords, frontWords, setupLength}
+use Rattle.setup.specs.Limits.{fades}
+use Rattle.setup.specs.Setup.{headWord, returnLimitIn, sizeIn, moduleWord, markIn, placeIn, criticalityIn, fadesIn, frontIn, frontOf, setupOf, setupRuns, setupBytes}
 use Rattle.setup.specs.Check.{moduleFits, markFits, moduleOk, markOk, checkSetup, setupVerdict, readSetup}
 use Rattle.setup.specs.RoundTrip.{ShapedSetup, SetupRoundTrip}
-use Rattle.setup.proofs.WordFields.{head-made, head-right, limit-made, module-made}
+use Rattle.setup.proofs.WordFields.{head-made, head-right, module-made}
+use Rattle.setup.proofs.BoundLaws.{LimitsStand, read-fades, limits-read, limits-written}
 use Rattle.setup.proofs.SetupCheckLaws.{BytesFit, setup-pass, setup-ok, WordsFit}
-use Rattle.setup.proofs.SetupWords.{room-head, roomy-of, marks-small, places-bounded, criticality-bounded, written-length, stands, fields-back}
+use Rattle.setup.proofs.SetupWords.{room-head, roomy-of, marks-small, places-bounded, criticality-bounded, written-length, stands, written-fades, fields-back}
 use Rattle.setup.proofs.SetupLaws.{SetupFits, module-is, verdict-fits, fits-verdict, fits-room, fits-words}
 use Rattle.setup.proofs.SetupAnswerLaws.{read-accepted}
 
@@ -36,7 +38,7 @@ module _ (s : List ℕ) (e : checkSetup s .number ≡ 0) where
   size = sizeIn (wordAt s 0)
 
   abbrev moduleAt : ℕ → ℕ
-  moduleAt j = wordAt s (3 + j)
+  moduleAt j = wordAt s (frontIn (wordAt s) + j)
 
   fit : BytesFit s
   fit = setup-pass s e
@@ -72,16 +74,11 @@ module _ (s : List ℕ) (e : checkSetup s .number ≡ 0) where
   pub read-fits : SetupFits (setupOf s)
   unfolding setupOf
   read-fits =
-      let p = limit-made 2 mostPenaltyLimit (wordAt s 1) (omega arith) (fit .words .p) in
-      let r = limit-made 3 mostRewardLimit (wordAt s 2) (omega arith) (fit .words .r) in
       record {
         least = fit .front .least;
         most = fit .front .most;
         q-most = head-made (wordAt s 0) (fit .front .head) .0 .limit;
-        p-least = p .least;
-        p-most = p .most;
-        r-least = r .least;
-        r-most = r .most;
+        limits = limits-read (fadesIn (wordAt s)) (wordAt s) (fit .words .limits);
         each = λ j h. rw (place-read j h, criticality-read j h) (module-is size (placeIn (moduleAt j)) (criticalityIn (moduleAt j)) (fields-right j h));
         roomy =
             roomy-of (setupOf s) (pack-lt size _) (array-clear size _) (array-clear size _)
@@ -102,25 +99,32 @@ module _ (s : List ℕ) (e : checkSetup s .number ≡ 0) where
   unfolding setupOf
   module-same j h = rw (mark-read j h, place-read j h, criticality-read j h) (module-made j (moduleAt j) (number-right j h))
 
+  form : fades (setupOf s .limits) ≡ fadesIn (wordAt s)
+  unfolding setupOf
+  form = read-fades (fadesIn (wordAt s)) (wordAt s)
+
+  limits-stand : ((i : ℕ) → wordAt s i < 2 ^ 32) → LimitsStand (wordAt s) (setupOf s .limits)
+  unfolding setupOf
+  limits-stand b i h =
+      limits-written (fadesIn (wordAt s)) (wordAt s) b (fit .words .limits) i (subst (λ (x : Bool). i < limitWords x) form h)
+
   -- the setup that is read is written as the same bytes
   pub written-read : ((i : ℕ) → getD s i 0 < 256) → setupBytes (setupOf s) ≡ s
   unfolding setupOf setupBytes Follows total
   written-read b =
       let h : headWord (returnLimitIn (wordAt s 0)) size ≡ wordAt s 0 = head-made (wordAt s 0) (fit .front .head) .1 in
-      let p : limitWord 2 (limitIn (wordAt s 1)) ≡ wordAt s 1 = limit-made 2 mostPenaltyLimit (wordAt s 1) (omega arith) (fit .words .p) .word in
-      let r : limitWord 3 (limitIn (wordAt s 2)) ≡ wordAt s 2 = limit-made 3 mostRewardLimit (wordAt s 2) (omega arith) (fit .words .r) .word in
-      let l : length s ≡ total (setupRuns (setupOf s)) * 4 = fit .size ∙ count in
+      let l : length s ≡ total (setupRuns (setupOf s)) * 4 = fit .size ∙ ap (λ (x : Bool). setupLength (frontWords x) size) (sym form) ∙ count in
       follow-runs (wordAt s) 0 (setupRuns (setupOf s))
-      (λ j k. first 0 j k (sym h), (λ j k. first 1 j k (sym p), (λ j k. first 2 j k (sym r), (λ j k. sym (module-same j k), tt))))
+      (λ j k. first j k (sym h), (limits-stand (word-lt s b), (λ j k. ap (λ (x : Bool). wordAt s (frontWords x + j)) form ∙ sym (module-same j k), tt)))
       ∙ bytes-ext (total (setupRuns (setupOf s))) _ (wordAt s) (λ j k. ap (wordAt s) (omega arith))
       ∙ bytes-own s (total (setupRuns (setupOf s))) b l
     where
-      first : {w : ℕ} (at j : ℕ) → j < 1 → wordAt s at ≡ w → wordAt s (at + j) ≡ w
-      first at j k e =
-          let z : at + j ≡ at = omega arith in
+      first : {w : ℕ} (j : ℕ) → j < 1 → wordAt s 0 ≡ w → wordAt s (0 + j) ≡ w
+      first j k e =
+          let z : 0 + j ≡ 0 = omega arith in
           ap (wordAt s) z ∙ e
 
-      count : setupLength size ≡ total (setupRuns (setupOf s)) * 4
+      count : setupLength (frontOf (setupOf s)) size ≡ total (setupRuns (setupOf s)) * 4
       count = omega arith
 
 -- ---- a setup that is accepted
@@ -143,7 +147,7 @@ module _ (s : Setup) (e : setupVerdict s .number ≡ 0) where
               least = omega arith;
               most = omega arith;
             };
-        size = l ∙ ap setupLength (sym z);
+        size = l ∙ ap₂ setupLength (ap frontWords (sym (written-fades s))) (sym z);
         words = subst (λ (k : ℕ). WordsFit (setupBytes s) k) (sym z) (fits-words s f);
       }
 
@@ -151,19 +155,19 @@ module _ (s : Setup) (e : setupVerdict s .number ≡ 0) where
   unfolding setupOf
   setup-back shaped =
       let k = fields-back s (fits-room s fits) in
-      let m : pack (s .n) (λ j. markIn (wordAt (setupBytes s) (3 + j))) ≡ s .marks =
+      let m : pack (s .n) (λ j. markIn (wordAt (setupBytes s) (frontIn (wordAt (setupBytes s)) + j))) ≡ s .marks =
       pack-ext (s .n) _ (bit (s .marks)) (k .mark) ∙ pack-own (s .n) (s .marks) (marks-small s (fits .roomy))
       in
-      let a : array (s .n) (λ j. placeIn (wordAt (setupBytes s) (3 + j))) ≡ s .places =
+      let a : array (s .n) (λ j. placeIn (wordAt (setupBytes s) (frontIn (wordAt (setupBytes s)) + j))) ≡ s .places =
       array-ext (s .n) _ (λ j. getD (s .places) j 0) (k .place)
       ∙ array-own (s .n) (s .places) (fits .most) (shaped .places) (bounded-clear (s .n) 31 (s .places) (places-bounded s (fits .roomy)))
       in
-      let c : array (s .n) (λ j. criticalityIn (wordAt (setupBytes s) (3 + j))) ≡ s .criticality =
+      let c : array (s .n) (λ j. criticalityIn (wordAt (setupBytes s) (frontIn (wordAt (setupBytes s)) + j))) ≡ s .criticality =
       array-ext (s .n) _ (λ j. getD (s .criticality) j 0) (k .criticality)
       ∙ array-own (s .n) (s .criticality) (fits .most) (shaped .criticality)
       (bounded-clear (s .n) 131071 (s .criticality) (criticality-bounded s (fits .roomy)))
       in
-      rw (k .size, k .q, k .p, k .r, m, a, c)
+      rw (k .size, k .q, k .limits, m, a, c)
 
   -- a setup that is written is read back
   pub read-back : ShapedSetup s → readSetup (setupBytes s) ≡ record { number = 0; index = 0; setup = s }

@@ -1,15 +1,16 @@
 -- A word of a setup is made of its fields, and its fields are those that it was made of.
-use mathlib.Core.Path.{_≡_, refl, _∙_}
-use mathlib.Core.Bool.{Bool, true, false}
+use mathlib.Core.Path.{_≡_, refl, ap, _∙_}
+use mathlib.Core.Bool.{Bool, true, false, _&&_}
 use Prim.Native.Nat.{ℕ, _+_, _*_, _/_, _%_, _^_, _<_, _≤_}
 use native.Mathlib.Omega.{arith}
-use lib.Dec.{eqb, leb}
-use borrow.Author.Tests.{eqb-true, eq-eqb, leb-true, le-leb}
+use lib.Dec.{eqb, leb, ltb}
+use borrow.Author.Tests.{eqb-true, eq-eqb, leb-true, le-leb, ltb-true, lt-ltb}
 use Rattle.words.specs.Word.{kindUnit}
 use Rattle.words.specs.Bits.{bit, b2n}
-use Rattle.words.proofs.Truth.{and-l, and-r, and-true}
+use Rattle.words.specs.Verdict.{between}
+use Rattle.words.proofs.Truth.{and-l, and-r, and-true, iff-eq}
 use Rattle.words.proofs.BitLaws.{b2n-bit, b2n-le}
-use Rattle.setup.specs.Limits.{mostReturnLimit}
+use Rattle.setup.specs.Limits.{mostReturnLimit, leastModules, mostModules}
 use Rattle.setup.specs.Setup.{headWord, returnUnit, returnLimitIn, sizeIn, limitWord, limitIn, moduleWord, markIn, placeIn, criticalityIn}
 use Rattle.setup.specs.Check.{headFits, headOk, limitOk}
 use Rattle.words.proofs.VerdictLaws.{between-is, between-of}
@@ -33,6 +34,26 @@ unfolding headFits
 head-of q n f = and-true (leb q mostReturnLimit) _ (le-leb q mostReturnLimit (f .limit)) (between-of 2 16 n (f .least) (f .most))
 
 -- a head is made of its Q and its N
+-- kind and Q of a head by one comparison: d is how far the word is above the first of its kind
+head-limit : (w d : ℕ) → d < 2 ^ 32 → (d + kindUnit) % 2 ^ 32 ≡ w → ltb d (1000001 * 256) ≡ eqb (w / kindUnit) 1 && leb (returnLimitIn w) mostReturnLimit
+head-limit w d h e =
+    iff-eq _ _
+    (λ t. let l = ltb-true d (1000001 * 256) t in and-true _ _ (eq-eqb (w / kindUnit) 1 (omega arith)) (le-leb (returnLimitIn w) mostReturnLimit (omega arith)))
+    (λ t.
+    let k = eqb-true (w / kindUnit) 1 (and-l (eqb (w / kindUnit) 1) _ t) in
+    let q = leb-true (returnLimitIn w) mostReturnLimit (and-r (eqb (w / kindUnit) 1) _ t) in
+    lt-ltb d (1000001 * 256) (omega arith))
+
+joined : (a b c : Bool) → (a && b) && c ≡ a && (b && c)
+joined true b c = refl
+joined false b c = refl
+
+pub head-one : (w d : ℕ) → d < 2 ^ 32 → (d + kindUnit) % 2 ^ 32 ≡ w → ltb d (1000001 * 256) && between leastModules mostModules (w % returnUnit) ≡ headOk w
+unfolding headOk headFits
+head-one w d h e =
+    ap (λ (b : Bool). b && between leastModules mostModules (w % returnUnit)) (head-limit w d h e)
+    ∙ joined (eqb (w / kindUnit) 1) (leb (returnLimitIn w) mostReturnLimit) _
+
 pub head-made : (w : ℕ) → headOk w ≡ true → HeadMade (returnLimitIn w) (sizeIn w) × (headWord (returnLimitIn w) (sizeIn w) ≡ w)
 unfolding headOk
 head-made w e =

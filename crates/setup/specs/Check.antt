@@ -1,17 +1,20 @@
--- Which setups are accepted, and the number and index by which the others are refused: numbers 1 to 6.
--- (document 01, "Answers and their order"; the limits stand in the table of "What runs")
+-- Which setups are accepted, and the number and index by which the others are refused: numbers 1 to 6, and 22 in the place of 4 where a setup
+-- fades. (document 01, "Answers and their order"; the limits stand in the table of "What runs"; document 02, E9)
 use Prim.Native.Nat.{ℕ, _+_, _*_, _-_, _/_, _%_, _^_}
-use mathlib.Core.Bool.{Bool, cond, not, _&&_, _||_}
-use mathlib.Core.List.{List, [], _∷_}
+use mathlib.Core.Bool.{Bool, true, false, cond, not, _&&_, _||_}
+use mathlib.Core.List.{List, [], _∷_, _++_}
 use lib.ListN.{length, take}
 use lib.Dec.{eqb, leb, ltb}
 use Rattle.words.specs.Word.{wordAt, kindUnit, numberUnit}
 use Rattle.words.specs.Array.{bounded}
 use Rattle.words.specs.Verdict.{isAccepted, between, Test, single, each, andThen, outcome, firstRefusal}
 use Rattle.words.specs.declared.Verdict.{Verdict}
-use Rattle.setup.specs.Layout.{headAt, penaltyLimitAt, rewardLimitAt, modulesAt, setupLength}
-use Rattle.setup.specs.Limits.{leastModules, mostModules, mostReturnLimit, mostPenaltyLimit, mostRewardLimit, mostCriticality}
-use Rattle.setup.specs.Setup.{returnUnit, returnLimitIn, sizeIn, limitWord, placeUnit, markIn, placeIn, criticalityIn, setupOf, setupBytes, blankSetup}
+use Rattle.doubles.specs.Double.{doubleIn, isDouble}
+use Rattle.setup.specs.Layout.{headAt, formAt, penaltyLimitAt, rewardLimitAt, factorAt, scoreLimitAt, setupLength}
+use Rattle.setup.specs.Limits.{leastModules, mostModules, mostReturnLimit, mostPenaltyLimit, mostRewardLimit, mostCriticality, factorFits, limitFits}
+use Rattle.setup.specs.Setup.{returnUnit, returnLimitIn, sizeIn, limitWord, placeUnit, markIn, placeIn, criticalityIn, fadesIn, frontIn, frontOf, setupOf, setupBytes, blankSetup}
+use Rattle.setup.specs.declared.Limits.{Limits}
+use Rattle.setup.specs.declared.Limits.the-variants.{Counts, Fading}
 use Rattle.setup.specs.declared.Setup.{Setup}
 use Rattle.setup.specs.declared.SetupRead.{SetupRead}
 
@@ -58,39 +61,50 @@ headTests s fits = single (whole s) 1 headAt ∷ single (headOk (wordAt s headAt
 unfoldable pub checkHead : List ℕ → Bool → Verdict
 checkHead s fits = firstRefusal (headTests s fits)
 
--- number 5 or 6 of the word of module j + 1
-unfoldable pub moduleTest : List ℕ → ℕ → ℕ → ℕ → Bool
-moduleTest s n number j = cond (eqb number 5) (moduleOk n j (wordAt s (modulesAt + j))) (markOk j (wordAt s (modulesAt + j)))
+-- number 4 of the two limits of a setup that counts; number 22 of one that fades: spare bits in the kind 0 word, the factor, the limit, a wrong
+-- double at its high half
+abbrev pub limitTests : Bool → (ℕ → ℕ) → List Test
+limitTests true w =
+    single (eqb (w formAt) 0) 22 formAt
+    ∷ single (factorFits (doubleIn w factorAt)) 22 factorAt
+    ∷ single (limitFits (doubleIn w scoreLimitAt)) 22 scoreLimitAt
+    ∷ []
+limitTests false w =
+    single (limitOk 2 mostPenaltyLimit (w penaltyLimitAt)) 4 penaltyLimitAt
+    ∷ single (limitOk 3 mostRewardLimit (w rewardLimitAt)) 4 rewardLimitAt
+    ∷ []
+
+-- number 5 or 6 of the word of module j + 1, which stands after the `front` words before the first
+unfoldable pub moduleTest : (ℕ → ℕ) → ℕ → ℕ → ℕ → ℕ → Bool
+moduleTest w front n number j = cond (eqb number 5) (moduleOk n j (w (front + j))) (markOk j (w (front + j)))
 
 -- one of them of all n modules
-abbrev pub moduleTests : List ℕ → ℕ → ℕ → Test
-moduleTests s n number = each n (moduleTest s n number) number modulesAt
+abbrev pub moduleTests : (ℕ → ℕ) → ℕ → ℕ → ℕ → Test
+moduleTests w front n number = each n (moduleTest w front n number) number front
 
--- numbers 4 to 6, each at its word: the two limits, then the n module words, first by 5 and then by 6
+-- numbers 4 or 22, 5 and 6, each at its word: the limits, then the n module words, first by 5 and then by 6
 abbrev pub wordTests : List ℕ → ℕ → List Test
 wordTests s n =
-    single (limitOk 2 mostPenaltyLimit (wordAt s penaltyLimitAt)) 4 penaltyLimitAt
-    ∷ single (limitOk 3 mostRewardLimit (wordAt s rewardLimitAt)) 4 rewardLimitAt
-    ∷ moduleTests s n 5 ∷ moduleTests s n 6 ∷ []
+    limitTests (fadesIn (wordAt s)) (wordAt s) ++ (moduleTests (wordAt s) (frontIn (wordAt s)) n 5 ∷ moduleTests (wordAt s) (frontIn (wordAt s)) n 6 ∷ [])
 
 unfoldable pub checkWords : List ℕ → ℕ → Verdict
 checkWords s n = firstRefusal (wordTests s n)
 
--- a setup by itself: N + 3 words
+-- the length in bytes that the head and the kind of the second word ask for
+abbrev pub lengthIn : List ℕ → ℕ
+lengthIn s = setupLength (frontIn (wordAt s)) (sizeIn (wordAt s headAt))
+
+-- a setup by itself: N + 3 words, or N + 6 where it fades
 unfoldable pub checkSetup : List ℕ → Verdict
-checkSetup s =
-    let n = sizeIn (wordAt s headAt) in
-    andThen (checkHead s (eqb (length s) (setupLength n))) (checkWords s n)
+checkSetup s = andThen (checkHead s (eqb (length s) (lengthIn s))) (checkWords s (sizeIn (wordAt s headAt)))
 
 -- the setup at the front of a run script, which may go on after it
 unfoldable pub checkFront : List ℕ → Verdict
-checkFront s =
-    let n = sizeIn (wordAt s headAt) in
-    andThen (checkHead s (leb (setupLength n) (length s))) (checkWords s n)
+checkFront s = andThen (checkHead s (leb (lengthIn s) (length s))) (checkWords s (sizeIn (wordAt s headAt)))
 
 -- the part of a run script that is its setup; nothing where that is refused
 unfoldable pub setupPart : List ℕ → List ℕ
-setupPart s = take (cond (isAccepted (checkFront s)) (setupLength (sizeIn (wordAt s headAt))) 0) s
+setupPart s = take (cond (isAccepted (checkFront s)) (lengthIn s) 0) s
 
 -- ---- a setup that is already a struct
 
@@ -98,25 +112,25 @@ setupPart s = take (cond (isAccepted (checkFront s)) (setupLength (sizeIn (wordA
 unfoldable pub setupRoomy : Setup → Bool
 setupRoomy s = ltb (s .marks) (2 ^ s .n) && bounded (s .n) (2 ^ 5 - 1) (s .places) && bounded (s .n) (placeUnit - 1) (s .criticality)
 
--- what its words would not show: Q or N out of range, a limit too wide for its word, and 5 with index 0 for the module words
+-- its limits have room in their words: P and R are not too wide for them, factor and limit are doubles, as those of code always are
+abbrev pub limitRoom : Limits → List Test
+limitRoom (Counts p r) = single (ltb p kindUnit) 4 penaltyLimitAt ∷ single (ltb r kindUnit) 4 rewardLimitAt ∷ []
+limitRoom (Fading factor limit) = single (isDouble factor) 22 factorAt ∷ single (isDouble limit) 22 scoreLimitAt ∷ []
+
+-- what its words would not show: Q or N out of range, a limit without room, and 5 with index 0 for the module words
 abbrev pub roomTests : Setup → List Test
-roomTests s =
-    single (headFits (s .q) (s .n)) 2 headAt
-    ∷ single (ltb (s .p) kindUnit) 4 penaltyLimitAt
-    ∷ single (ltb (s .r) kindUnit) 4 rewardLimitAt
-    ∷ single (setupRoomy s) 5 0
-    ∷ []
+roomTests s = single (headFits (s .q) (s .n)) 2 headAt ∷ (limitRoom (s .limits) ++ (single (setupRoomy s) 5 0 ∷ []))
 
 unfoldable pub roomVerdict : Setup → Verdict
 roomVerdict s = firstRefusal (roomTests s)
 
--- the verdict on such a setup, number 2, 4, 5 or 6, or 0: whether its words have room for it, then that on its words
+-- the verdict on such a setup, number 2, 4, 22, 5 or 6, or 0: whether its words have room for it, then that on its words
 unfoldable pub setupVerdict : Setup → Verdict
 setupVerdict s = andThen (roomVerdict s) (checkWords (setupBytes s) (s .n))
 
 -- ---- reading and writing
 
--- reading: 1 to 6; what is held where a setup is refused is blank
+-- reading: 1 to 6 and 22; what is held where a setup is refused is blank
 unfoldable pub readSetup : List ℕ → SetupRead
 readSetup s =
     let v = checkSetup s in
@@ -124,7 +138,7 @@ readSetup s =
 
 -- writing: a setup outside the limits is refused first, then 9 for an output of another length
 unfoldable pub writeVerdict : Setup → List ℕ → Verdict
-writeVerdict s out = andThen (setupVerdict s) (outcome (single (eqb (length out) (setupLength (s .n))) 9 0))
+writeVerdict s out = andThen (setupVerdict s) (outcome (single (eqb (length out) (setupLength (frontOf s) (s .n))) 9 0))
 
 -- the output at exit: a refusal leaves it as it was
 unfoldable pub writtenSetup : Setup → List ℕ → List ℕ

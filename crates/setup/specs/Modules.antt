@@ -1,22 +1,16 @@
--- A helper of the contracts of `limits_right` (src/check.rt) and of the functions of src/modules.rt, which this project's crates alone call: no
--- contract of a function that outsiders call rests on it.
+-- A helper of the contracts of the functions of src/modules.rt, which this project's crates alone call: no contract of a function that outsiders
+-- call rests on it.
 -- A module word by its distance from the lowest word of its kind and number.
 use Prim.Native.Nat.{ℕ, _+_, _/_, _^_}
 use mathlib.Core.Bool.{Bool, _&&_, _||_}
-use mathlib.Core.List.{List}
 use lib.Dec.{leb, ltb}
-use Rattle.words.specs.Word.{wordAt, gapOf}
+use Rattle.words.specs.Word.{gapOf}
 use Rattle.words.specs.Verdict.{between}
-use Rattle.setup.specs.Layout.{penaltyLimitAt, rewardLimitAt}
-use Rattle.setup.specs.Limits.{mostPenaltyLimit, mostRewardLimit, mostCriticality}
+use Rattle.setup.specs.Limits.{mostCriticality}
 use Rattle.setup.specs.Setup.{placeUnit}
-use Rattle.setup.specs.Check.{limitOk, moduleOk, markOk}
+use Rattle.setup.specs.Check.{moduleOk, markOk}
 
 -- ---- what is asked of the words
-
--- the words of both limits are right, by number 4
-abbrev pub limitsRight : List ℕ → Bool
-limitsRight s = limitOk 2 mostPenaltyLimit (wordAt s penaltyLimitAt) && limitOk 3 mostRewardLimit (wordAt s rewardLimitAt)
 
 -- the word of module j + 1 is right, by numbers 5 and 6
 abbrev pub moduleRight : ℕ → ℕ → ℕ → Bool

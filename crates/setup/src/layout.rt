@@ -1,14 +1,20 @@
 // Where the words of a setup stand, the units of the head and of a module word, and the limits of the fields.
 ghost use mathlib.Core.Path.{_≡_};
-ghost use Prim.Native.Nat.{_<_};
+ghost use Prim.Native.Nat.{_≤_, _<_};
 ghost use Rattle.setup.specs.Layout.{setupWords, setupLength};
 
-// The penalty limit P, the reward limit R, and the first module word.
+// The word whose kind says whether a setup fades.
+pub const FORM_AT: usize = 1;
+
+// Where it counts: the penalty limit P and the reward limit R.
 pub const PENALTY_LIMIT_AT: usize = 1;
 
 pub const REWARD_LIMIT_AT: usize = 2;
 
-pub const MODULES_AT: usize = 3;
+// Where it fades: the factor and the limit, two words each.
+pub const FACTOR_AT: usize = 2;
+
+pub const SCORE_LIMIT_AT: usize = 4;
 
 // 2^22 and 2^17: the send mark and the read place of a module word stand there, and the criticality below them.
 pub const MARK: u32 = 4194304;
@@ -31,18 +37,18 @@ pub const MOST_REWARD_LIMIT: u32 = 8000000;
 
 pub const MOST_CRITICALITY: u32 = 100000;
 
-// How many words a setup of n modules has.
-pub fn setup_words(n: usize) -> usize
-    requires { ⌜ n < 32 ⌝ }
-    ensures { λ r. ⌜ r ≡ setupWords n ⌝ }
+// How many words a setup of n modules has, with `front` words before those of the modules.
+pub fn setup_words(front: usize, n: usize) -> usize
+    requires { ⌜ (front ≤ 6) × (n < 32) ⌝ }
+    ensures { λ r. ⌜ r ≡ setupWords front n ⌝ }
 {
-    MODULES_AT + n
+    front + n
 }
 
 // Its length in bytes.
-pub fn setup_length(n: usize) -> usize
-    requires { ⌜ n < 32 ⌝ }
-    ensures { λ r. ⌜ r ≡ setupLength n ⌝ }
+pub fn setup_length(front: usize, n: usize) -> usize
+    requires { ⌜ (front ≤ 6) × (n < 32) ⌝ }
+    ensures { λ r. ⌜ r ≡ setupLength front n ⌝ }
 {
-    setup_words(n) * 4
+    setup_words(front, n) * 4
 }

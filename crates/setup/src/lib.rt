@@ -1,12 +1,17 @@
-// A setup: N, the limits of the counters, and for each module its send mark, read place and criticality.
+// A setup: N, by which limits account is kept, and for each module its send mark, read place and criticality.
+
+// How account is kept: by counts, with the penalty limit P and the reward limit R, or by fading scores, with their factor and their limit.
+pub enum Limits {
+    Counts(u32, u32),
+    Fading(f64, f64),
+}
 
 // The entries of module j + 1 stand at j; bit j of `marks` is its send mark. Entries from n on are 0.
 pub struct Setup {
     pub n: usize,
-    // The return limit Q, the penalty limit P and the reward limit R.
+    // The return limit Q.
     pub q: u32,
-    pub p: u32,
-    pub r: u32,
+    pub limits: Limits,
     pub marks: u32,
     pub places: [u32; 16],
     pub criticality: [u32; 16],
@@ -31,6 +36,7 @@ pub struct ModulesPart {
     pub skew: bool,
 }
 
+pub mod bounds;
 pub mod check;
 pub mod fields;
 pub mod layout;
@@ -39,3 +45,5 @@ pub mod part;
 pub mod read;
 mod word;
 pub mod write;
+
+pub use word::head_ok;

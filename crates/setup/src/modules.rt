@@ -1,6 +1,5 @@
 // The module words in one pass without a branch: their criticalities, and what the words say together.
 use crate::ModulesPart;
-use crate::layout::MODULES_AT;
 use crate::layout::MOST_CRITICALITY;
 use crate::layout::PLACE;
 use std::num::wrapping_sub_u32;
@@ -14,7 +13,7 @@ ghost use lib.Dec.{eqb};
 ghost use Rattle.words.specs.Word.{wordAt};
 ghost use Rattle.words.specs.Array.{array};
 ghost use Rattle.words.specs.Count.{all, any};
-ghost use Rattle.setup.specs.Layout.{modulesAt, setupLength};
+ghost use Rattle.setup.specs.Layout.{setupLength};
 ghost use Rattle.setup.specs.Setup.{placeIn, criticalityIn};
 ghost use Rattle.setup.specs.Modules.{moduleRight, markedPlace, placeMarkFits, fieldsFit};
 
@@ -43,16 +42,16 @@ fn fields_fit(n: usize, j: usize, place: u32, criticality: u32) -> bool
 }
 
 // The criticalities of the modules, which are put into an array of zeros, and what the words say together.
-pub fn load_modules(s: &[u8], n: usize, criticality: &mut [u32; 16]) -> ModulesPart
-    requires { ⌜ (n ≤ 16) × (setupLength n ≤ length (now s)) × (now criticality ≡ array 0 (λ _. 0)) ⌝ }
-    ensures { λ r. ⌜ (r .good ≡ all n (λ j. moduleRight n j (wordAt (now (s .entry)) (modulesAt + j))))
-        × (now (criticality .exit) ≡ array n (λ j. criticalityIn (wordAt (now (s .entry)) (modulesAt + j))))
-        × (r .good ≡ true → r .skew ≡ any n (λ j. not (eqb (placeIn (wordAt (now (s .entry)) (modulesAt + j))) n))) ⌝ }
+pub fn load_modules(s: &[u8], front: usize, n: usize, criticality: &mut [u32; 16]) -> ModulesPart
+    requires { ⌜ (front ≤ 6) × (n ≤ 16) × (setupLength front n ≤ length (now s)) × (now criticality ≡ array 0 (λ _. 0)) ⌝ }
+    ensures { λ r. ⌜ (r .good ≡ all n (λ j. moduleRight n j (wordAt (now (s .entry)) (front + j))))
+        × (now (criticality .exit) ≡ array n (λ j. criticalityIn (wordAt (now (s .entry)) (front + j))))
+        × (r .good ≡ true → r .skew ≡ any n (λ j. not (eqb (placeIn (wordAt (now (s .entry)) (front + j))) n))) ⌝ }
 {
     let mut good = true;
     let mut skew = false;
     for j in 0..n {
-        let w = word_at(s, MODULES_AT + j);
+        let w = word_at(s, front + j);
         let place = marked_place(j, w);
         let c = w % PLACE;
         good = good & fields_fit(n, j, place, c);

@@ -1,21 +1,19 @@
 // Reading a setup from lent bytes.
+use crate::Limits;
 use crate::Setup;
 use crate::SetupPart;
 use crate::SetupRead;
+use crate::bounds::fades_at;
+use crate::bounds::front_words;
+use crate::bounds::limits_at;
+use crate::bounds::limits_right;
 use crate::check::check;
 use crate::check::size_at;
-use crate::layout::MODULES_AT;
-use crate::layout::MOST_PENALTY_LIMIT;
-use crate::layout::MOST_REWARD_LIMIT;
-use crate::layout::PENALTY_LIMIT_AT;
 use crate::layout::PLACE;
-use crate::layout::REWARD_LIMIT_AT;
-use crate::word::limit_ok;
 use crate::word::mark_ok;
 use crate::word::module_ok;
 use words::bits::bit_at;
 use words::bits::with_bit;
-use words::word::KIND;
 use words::word::field;
 use words::word::word_at;
 ghost use mathlib.Core.Path.{_≡_};
@@ -23,8 +21,8 @@ ghost use Prim.Native.Nat.{_≤_};
 ghost use lib.ListN.{length};
 ghost use Rattle.words.specs.Word.{wordAt};
 ghost use Rattle.words.specs.Verdict.{allRight};
-ghost use Rattle.setup.specs.Layout.{setupLength};
-ghost use Rattle.setup.specs.Setup.{sizeIn, setupOf, blankSetup};
+ghost use Rattle.setup.specs.Layout.{frontWords, setupLength};
+ghost use Rattle.setup.specs.Setup.{sizeIn, fadesIn, setupOf, blankSetup};
 ghost use Rattle.setup.specs.Check.{wordTests, readSetup};
 
 // What is answered where no setup was accepted: all zeros.
@@ -36,8 +34,7 @@ pub fn blank() -> Setup
     Setup {
         n: 0,
         q: 0,
-        p: 0,
-        r: 0,
+        limits: Limits::Counts(0, 0),
         marks: 0,
         places,
         criticality,
@@ -45,32 +42,31 @@ pub fn blank() -> Setup
 }
 
 // The setup that the words of n modules hold, and whether those after the head are right, in one pass.
-pub fn load_setup(s: &[u8], n: usize) -> SetupPart
-    requires { ⌜ (n ≤ 16) × (setupLength n ≤ length (now s)) × (n ≡ sizeIn (wordAt (now s) 0)) ⌝ }
+pub fn load_setup(s: &[u8], fades: bool, n: usize) -> SetupPart
+    requires { ⌜ (n ≤ 16) × (setupLength (frontWords fades) n ≤ length (now s)) × (n ≡ sizeIn (wordAt (now s) 0)) × (fades ≡ fadesIn (wordAt (now s))) ⌝ }
     ensures { λ r. ⌜ (r .good ≡ allRight (wordTests (now (s .entry)) n)) × (r .setup ≡ setupOf (now (s .entry))) ⌝ }
 {
     let head = word_at(s, 0);
-    let p = word_at(s, PENALTY_LIMIT_AT);
-    let r = word_at(s, REWARD_LIMIT_AT);
-    let limits = limit_ok(2, MOST_PENALTY_LIMIT, p) & limit_ok(3, MOST_REWARD_LIMIT, r);
+    let front = front_words(fades);
+    let right = limits_right(s, fades);
+    let limits = limits_at(s, fades);
     let mut good = true;
     let mut marks: u32 = 0;
     let mut places = [0u32; 16];
     let mut criticality = [0u32; 16];
     for j in 0..n {
-        let w = word_at(s, MODULES_AT + j);
+        let w = word_at(s, front + j);
         good = good & (module_ok(n, j, w) & mark_ok(j, w));
         marks = with_bit(marks, j, bit_at(w, 22));
         places[j] = field(w, 17, 5);
         criticality[j] = w % PLACE;
     }
     SetupPart {
-        good: limits & good,
+        good: right & good,
         setup: Setup {
             n,
             q: field(head, 8, 20),
-            p: p % KIND,
-            r: r % KIND,
+            limits,
             marks,
             places,
             criticality,
@@ -78,7 +74,7 @@ pub fn load_setup(s: &[u8], n: usize) -> SetupPart
     }
 }
 
-// Numbers 1 to 6, and the setup where none of them refuses it.
+// Numbers 1 to 6 and 22, and the setup where none of them refuses it.
 pub fn read(s: &[u8]) -> SetupRead
     ensures { λ r. ⌜ r ≡ readSetup (now (s .entry)) ⌝ }
 {
@@ -91,7 +87,7 @@ pub fn read(s: &[u8]) -> SetupRead
             setup,
         };
     }
-    let part = load_setup(s, size_at(s));
+    let part = load_setup(s, fades_at(s), size_at(s));
     let setup = part.setup;
     SetupRead {
         number: v.number,

@@ -5,6 +5,7 @@ use crate::layout::MOST_MODULES;
 use crate::layout::MOST_RETURN_LIMIT;
 use crate::layout::PLACE;
 use crate::layout::RETURN;
+use std::num::wrapping_sub_u32;
 use words::bits::bit_at;
 use words::word::KIND;
 use words::word::NUMBER;
@@ -35,11 +36,13 @@ pub fn head_fits(q: u32, n: usize) -> bool
     (q <= MOST_RETURN_LIMIT) & ((LEAST_MODULES <= n) & (n <= MOST_MODULES))
 }
 
-// Kind 1, Q and N in range, no bit set between them.
+// Kind 1, Q and N in range, no bit set between them. Kind and Q by one comparison.
 pub fn head_ok(w: u32) -> bool
     ensures { λ r. ⌜ r ≡ headOk w ⌝ }
 {
-    (w / KIND == 1) & head_fits(field(w, 8, 20), (w % RETURN) as usize)
+    let n = (w % RETURN) as usize;
+    (wrapping_sub_u32(w, KIND) < (MOST_RETURN_LIMIT + 1) * RETURN)
+        & ((LEAST_MODULES <= n) & (n <= MOST_MODULES))
 }
 
 // The kind, a limit from 1 to the most.

@@ -1,12 +1,12 @@
 // Writing a setup as words.
 use crate::Setup;
+use crate::bounds::fades;
+use crate::bounds::front_words;
+use crate::bounds::put_limits;
 use crate::fields::verdict;
 use crate::layout::MARK;
-use crate::layout::MODULES_AT;
-use crate::layout::PENALTY_LIMIT_AT;
 use crate::layout::PLACE;
 use crate::layout::RETURN;
-use crate::layout::REWARD_LIMIT_AT;
 use crate::layout::setup_length;
 use words::Verdict;
 use words::bits::bit_at;
@@ -21,8 +21,8 @@ ghost use Prim.Native.Nat.{_^_, _≤_, _<_};
 ghost use lib.ListN.{length, getD};
 ghost use Rattle.words.specs.Bits.{bit};
 ghost use Rattle.words.specs.Runs.{putRun};
-ghost use Rattle.setup.specs.Layout.{modulesAt, setupLength};
-ghost use Rattle.setup.specs.Setup.{headWord, moduleWord, setupBytes};
+ghost use Rattle.setup.specs.Layout.{setupLength};
+ghost use Rattle.setup.specs.Setup.{headWord, moduleWord, frontOf, setupBytes};
 ghost use Rattle.setup.specs.Check.{roomVerdict, writeVerdict, writtenSetup};
 
 // The head.
@@ -43,28 +43,30 @@ fn module_word(j: usize, mark: bool, place: u32, criticality: u32) -> u32
 
 // Writes the module words.
 fn write_modules(setup: Setup, out: &mut [u8])
-    requires { ⌜ (roomVerdict setup .number ≡ 0) × (length (now out) ≡ setupLength (setup .n)) ⌝ }
-    ensures { λ _. ⌜ now (out .exit) ≡ putRun (now (out .entry)) modulesAt (setup .n)
+    requires { ⌜ (roomVerdict setup .number ≡ 0) × (length (now out) ≡ setupLength (frontOf setup) (setup .n)) ⌝ }
+    ensures { λ _. ⌜ now (out .exit) ≡ putRun (now (out .entry)) (frontOf setup) (setup .n)
         (λ j. moduleWord j (bit (setup .marks) j) (getD (setup .places) j 0) (getD (setup .criticality) j 0)) ⌝ }
 {
     let n = setup.n;
+    let limits = setup.limits;
+    let front = front_words(fades(limits));
     let marks = setup.marks;
     let places = setup.places;
     let criticality = setup.criticality;
     for j in 0..n {
         let w = module_word(j, bit_at(marks, j), places[j], criticality[j]);
-        put_word(out, MODULES_AT + j, w);
+        put_word(out, front + j, w);
     }
 }
 
 // Writes all words of a setup that they have room for.
 pub fn write_words(setup: Setup, out: &mut [u8])
-    requires { ⌜ (roomVerdict setup .number ≡ 0) × (length (now out) ≡ setupLength (setup .n)) ⌝ }
+    requires { ⌜ (roomVerdict setup .number ≡ 0) × (length (now out) ≡ setupLength (frontOf setup) (setup .n)) ⌝ }
     ensures { λ _. ⌜ now (out .exit) ≡ setupBytes setup ⌝ }
 {
+    let limits = setup.limits;
     put_word(out, 0, head_word(setup.q, setup.n));
-    put_word(out, PENALTY_LIMIT_AT, 2 * KIND + setup.p);
-    put_word(out, REWARD_LIMIT_AT, 3 * KIND + setup.r);
+    put_limits(limits, out);
     write_modules(setup, out);
 }
 
@@ -76,7 +78,8 @@ pub fn write(setup: Setup, out: &mut [u8]) -> Verdict
     if v.number != 0 {
         return v;
     }
-    if out.len() != setup_length(setup.n) {
+    let limits = setup.limits;
+    if out.len() != setup_length(front_words(fades(limits)), setup.n) {
         return refusal(9, 0);
     }
     write_words(setup, out);

@@ -5,14 +5,14 @@ use mathlib.Core.Bool.{Bool, true, false, not, _&&_}
 use mathlib.Core.List.{List, [], _∷_}
 use mathlib.Core.Logic.{⊎-elim}
 use native.Mathlib.Omega.{arith}
-use native.Mathlib.Nat.{add-mul-mod-self-right, mod-eq-of-lt, div-one, add-mul, mul-assoc, mul-comm, add-assoc}
+use native.Mathlib.Nat.{div-one}
 use lib.ListN.{getD}
 use lib.Dec.{eqb, ltb}
-use lib.Pow.{shr-shr, pow-add}
+use lib.Pow.{shr-shr}
 use borrow.Author.Tests.{ltb-true, ltb-false}
 use Rattle.words.specs.Bits.{bit, b2n, pack}
 use Rattle.words.proofs.Truth.{which, and-r}
-use Rattle.words.proofs.BitLaws.{pack-lt, pack-step, bit-high}
+use Rattle.words.proofs.BitLaws.{pack-low, pack-step, bit-high}
 use Rattle.words.proofs.CountLaws.{count-le, count-mono}
 use Rattle.vote.specs.Vote.{healthOf}
 use Rattle.vote.specs.VoteTable.{voteTable}
@@ -25,30 +25,6 @@ use Rattle.vote.proofs.LaneLaws.{ones-fit, votes-fit, own-counted, heal
 bit-shift : (v a k : ℕ) → bit (v / 2 ^ a) k ≡ bit v (a + k)
 unfolding bit
 bit-shift v a k = ap (λ (x : ℕ). eqb (x % 2) 1) (shr-shr v a k)
-
-pub pack-add : (a b : ℕ) (f : ℕ → Bool) → pack a f + pack b (λ k. f (a + k)) * 2 ^ a ≡ pack (a + b) f
-unfolding pack
-pack-add a zero f =
-    let e : a ≡ a + 0 = omega arith in
-    let z : pack a f + 0 * 2 ^ a ≡ pack a f = omega arith in
-    z ∙ ap (λ (x : ℕ). pack x f) e
-pack-add a (suc b) f =
-    let e : suc (a + b) ≡ a + suc b = omega arith in
-    let p : 2 ^ (a + b) ≡ 2 ^ a * 2 ^ b = pow-add 2 a b in
-    let x = pack b (λ k. f (a + k)) in
-    let y = b2n (f (a + b)) in
-    let r : pack a f + (x + y * 2 ^ b) * 2 ^ a ≡ pack a f + x * 2 ^ a + y * (2 ^ a * 2 ^ b) =
-    ap (λ (u : ℕ). pack a f + u) (add-mul x (y * 2 ^ b) (2 ^ a))
-    ∙ sym (add-assoc (pack a f) (x * 2 ^ a) (y * 2 ^ b * 2 ^ a))
-    ∙ ap (λ (u : ℕ). pack a f + x * 2 ^ a + u) (mul-assoc y (2 ^ b) (2 ^ a) ∙ ap (λ (u : ℕ). y * u) (mul-comm (2 ^ b) (2 ^ a)))
-    in
-    r ∙ ap₂ (λ (u v : ℕ). u + y * v) (pack-add a b f) (sym p) ∙ ap (λ (u : ℕ). pack u f) e
-
-pub pack-low : (n d : ℕ) (f : ℕ → Bool) → pack (n + d) f % 2 ^ n ≡ pack n f
-pack-low n d f =
-    ap (λ (x : ℕ). x % 2 ^ n) (sym (pack-add n d f))
-    ∙ add-mul-mod-self-right (pack n f) (pack d (λ k. f (n + k))) (2 ^ n)
-    ∙ mod-eq-of-lt (pack-lt n f)
 
 -- ---- counts shifted down
 

@@ -1,16 +1,15 @@
 -- What a search for the first wrong word found, and what a test of one word answered, as the answer of tests in their order.
 use mathlib.Core.Path.{_≡_, refl, ap, ap₂, _∙_, sym}
-use mathlib.Core.Bool.{Bool, true, false, cond, not}
-use mathlib.Core.List.{List, [], _∷_}
+use mathlib.Core.Bool.{Bool, true, false, not}
+use mathlib.Core.List.{List, [], _∷_, _++_}
 use Prim.Native.Nat.{ℕ, _+_, _-_, _<_}
 use native.Mathlib.Omega.{arith}
-use lib.Dec.{eqb}
 use borrow.Author.Tests.{eq-eqb, ne-eqb, not-true, not-false}
 use Rattle.words.specs.Count.{lowest}
 use Rattle.words.specs.Verdict.{verdict, accepted, Test, single, andThen, outcome, thenTests, firstRefusal}
 use Rattle.words.specs.declared.Verdict.{Verdict}
 use Rattle.words.proofs.Truth.{cond-true, cond-false}
-use Rattle.words.proofs.VerdictLaws.{and-then-next, and-then-stays}
+use Rattle.words.proofs.VerdictLaws.{and-then-next, and-then-stays, then-join}
 
 -- a search through words whose count has a name
 pub search-count : {m n r : ℕ} (p : ℕ → Bool) → m ≡ n → r ≡ lowest m p → r ≡ lowest n p
@@ -58,8 +57,9 @@ pub ends-well : {r : Verdict} → r ≡ accepted → r ≡ firstRefusal []
 unfolding thenTests
 ends-well a = a
 
--- two tests, each after the answer before it
-pub two-tests : {v₀ v₁ v₂ : Verdict} (a b : Test) → v₀ ≡ accepted → v₁ ≡ andThen v₀ (outcome a) → v₂ ≡ andThen v₁ (outcome b)
-    → v₂ ≡ firstRefusal (a ∷ b ∷ [])
+-- two tests after others, each after the answer before it
+pub two-after : {v₀ v₁ v₂ : Verdict} (ts : List Test) (a b : Test) → v₀ ≡ firstRefusal ts → v₁ ≡ andThen v₀ (outcome a) → v₂ ≡ andThen v₁ (outcome b)
+    → v₂ ≡ firstRefusal (ts ++ (a ∷ b ∷ []))
 unfolding thenTests
-two-tests a b e₀ e₁ e₂ = rw (e₂, e₁, e₀)
+two-after ts a b e₀ e₁ e₂ =
+    e₂ ∙ ap (λ (v : Verdict). andThen v (outcome b)) (e₁ ∙ ap (λ (v : Verdict). andThen v (outcome a)) e₀) ∙ sym (then-join accepted ts (a ∷ b ∷ []))

@@ -122,11 +122,16 @@ single-refused ok number place f =
 pub tests-accept : (ts : List Test) → numbered ts ≡ true → isAccepted (firstRefusal ts) ≡ allRight ts
 tests-accept ts h = then-accepts accepted ts h
 
-all-passed : (ts : List Test) → allRight ts ≡ true → Passed ts
+pub all-passed : (ts : List Test) → allRight ts ≡ true → Passed ts
 unfolding allRight Passed
 all-passed [] e = tt
 all-passed (t ∷ ts) e =
     (all-at (t .count) (t .ok) (and-l (all (t .count) (t .ok)) _ e), all-passed ts (and-r (all (t .count) (t .ok)) _ e))
+
+pub passed-all : (ts : List Test) → Passed ts → allRight ts ≡ true
+unfolding allRight Passed
+passed-all [] p = refl
+passed-all (t ∷ ts) (p, q) = and-true (all (t .count) (t .ok)) _ (all-intro (t .count) (t .ok) p) (passed-all ts q)
 
 -- number 0 means that every word is right
 pub tests-pass : (ts : List Test) → numbered ts ≡ true → firstRefusal ts .number ≡ 0 → Passed ts
@@ -155,10 +160,31 @@ then-tests v t (u ∷ ts) =
     ∙ ap (andThen v)
     (sym (ap (λ (x : Verdict). thenTests x (u ∷ ts)) (accepted-then (outcome t)) ∙ then-tests (outcome t) u ts))
 
-then-join : (v : Verdict) (ts us : List Test) → thenTests v (ts ++ us) ≡ thenTests (thenTests v ts) us
+pub then-join : (v : Verdict) (ts us : List Test) → thenTests v (ts ++ us) ≡ thenTests (thenTests v ts) us
 unfolding thenTests
 then-join v [] us = refl
 then-join v (t ∷ ts) us = then-join (andThen v (outcome t)) ts us
 
 pub tests-join : (ts : List Test) (u : Test) (us : List Test) → firstRefusal (ts ++ (u ∷ us)) ≡ andThen (firstRefusal ts) (firstRefusal (u ∷ us))
 tests-join ts u us = then-join accepted ts (u ∷ us) ∙ then-tests (firstRefusal ts) u us
+
+-- v answers the first tests: it is the answer of all where it refuses, else that of the others is
+module _ {v : Verdict} (ts : List Test) (u : Test) (us : List Test) (e : v ≡ firstRefusal ts) where
+  pub join-stops : (v .number ≡ 0 → ⊥) → v ≡ firstRefusal (ts ++ (u ∷ us))
+  join-stops f = and-then-stops (firstRefusal (u ∷ us)) e f ∙ sym (tests-join ts u us)
+
+  pub join-goes : {r : Verdict} → v .number ≡ 0 → r ≡ firstRefusal (u ∷ us) → r ≡ firstRefusal (ts ++ (u ∷ us))
+  join-goes z h = and-then-goes (firstRefusal (u ∷ us)) e z h ∙ sym (tests-join ts u us)
+
+-- what holds of tests and then of others
+pub right-join : (ts us : List Test) → allRight (ts ++ us) ≡ allRight ts && allRight us
+unfolding allRight
+right-join [] us = refl
+right-join (t ∷ ts) us =
+    ap (λ (b : Bool). all (t .count) (t .ok) && b) (right-join ts us) ∙ sym (and-assoc (all (t .count) (t .ok)) (allRight ts) (allRight us))
+
+pub numbers-join : (ts us : List Test) → numbered ts ≡ true → numbered us ≡ true → numbered (ts ++ us) ≡ true
+unfolding numbered
+numbers-join [] us p q = q
+numbers-join (t ∷ ts) us p q =
+    and-true (not (eqb (t .number) 0)) _ (and-l (not (eqb (t .number) 0)) _ p) (numbers-join ts us (and-r (not (eqb (t .number) 0)) _ p) q)

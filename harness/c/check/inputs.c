@@ -8,21 +8,40 @@
 #include "check/words.h"
 #include "plain.h"
 
-void make_setup(uint8_t *setup, uint32_t n, uint32_t p, uint32_t r,
-                uint32_t criticality)
+/* All l = N, no marks. */
+static void put_modules(enum form form, uint8_t *setup, uint32_t n,
+                        uint32_t criticality)
 {
     uint32_t j;
 
+    for (j = 1; j <= n; j++)
+        put(setup, module_at(form, j), module_word(j, 0, n, criticality));
+}
+
+void make_setup(uint8_t *setup, uint32_t n, uint32_t p, uint32_t r,
+                uint32_t criticality)
+{
     put(setup, 0, head_word(n, 0));
     put(setup, 1, 0x20000000 | p);
     put(setup, 2, 0x30000000 | r);
-    for (j = 1; j <= n; j++)
-        put(setup, 2 + j, module_word(j, 0, n, criticality));
+    put_modules(COUNTS, setup, n, criticality);
 }
 
-void usual_setup(uint8_t *setup, uint32_t n)
+void make_fading_setup(uint8_t *setup, uint32_t n, double factor, double limit)
 {
-    make_setup(setup, n, 5, 3, 1);
+    put(setup, 0, head_word(n, 0));
+    put(setup, 1, 0);
+    put_double(setup, 2, factor);
+    put_double(setup, 4, limit);
+    put_modules(FADING, setup, n, 1);
+}
+
+void usual_setup(enum form form, uint8_t *setup, uint32_t n)
+{
+    if (form == FADING)
+        make_fading_setup(setup, n, 0.5, 3.0);
+    else
+        make_setup(setup, n, 5, 3, 1);
 }
 
 static uint32_t random_return_limit(void)
@@ -40,12 +59,11 @@ static uint32_t random_return_limit(void)
     }
 }
 
-void random_setup(uint8_t *setup, uint32_t n, uint32_t u, uint32_t p,
-                  uint32_t r)
+/* Any Q and any modules. */
+static void random_rest(enum form form, uint8_t *setup, uint32_t n, uint32_t u)
 {
     uint32_t j, l, mark, criticality, some = 0;
 
-    make_setup(setup, n, p, r, 1);
     put(setup, 0, head_word(n, random_return_limit()));
     for (j = 1; j <= n; j++) {
         l = u == 0 ? n : below(n + 1);
@@ -55,16 +73,86 @@ void random_setup(uint8_t *setup, uint32_t n, uint32_t u, uint32_t p,
             some = 1;
         mark = j > 1 && l < j ? below(2) : 0;
         criticality = below(4) == 0 ? 1 + below(100000) : 1 + below(3);
-        put(setup, 2 + j, module_word(j, mark, l, criticality));
+        put(setup, module_at(form, j), module_word(j, mark, l, criticality));
     }
 }
 
-void any_setup(uint8_t *setup, uint32_t n, uint32_t u)
+void random_setup(uint8_t *setup, uint32_t n, uint32_t u, uint32_t p,
+                  uint32_t r)
 {
-    uint32_t r = 1 + below(8000000);
-    uint32_t p = 1 + below(1000000);
+    make_setup(setup, n, p, r, 1);
+    random_rest(COUNTS, setup, n, u);
+}
 
-    random_setup(setup, n, u, p, r);
+void random_fading_setup(uint8_t *setup, uint32_t n, uint32_t u, double factor,
+                         double limit)
+{
+    make_fading_setup(setup, n, factor, limit);
+    random_rest(FADING, setup, n, u);
+}
+
+void low_setup(enum form form, uint8_t *setup, uint32_t n, uint32_t u)
+{
+    double factor = random_factor();
+    uint32_t p = 1 + below(12), r = 2 + below(6);
+
+    if (form == FADING)
+        random_fading_setup(setup, n, u, factor, 0.5 * p);
+    else
+        random_setup(setup, n, u, p, r);
+}
+
+void any_setup(enum form form, uint8_t *setup, uint32_t n, uint32_t u)
+{
+    double factor = random_factor(), limit = random_limit();
+    uint32_t p = 1 + below(1000000), r = 1 + below(8000000);
+
+    if (form == FADING)
+        random_fading_setup(setup, n, u, factor, limit);
+    else
+        random_setup(setup, n, u, p, r);
+}
+
+/* From 0.0 on, below 1.0. */
+static double random_part(void)
+{
+    return random32() / 4294967296.0;
+}
+
+double random_factor(void)
+{
+    switch (below(8)) {
+    case 0:
+        return 0.0;
+    case 1:
+        return 1.0;
+    case 2:
+        return 0.5;
+    case 3:
+        return of_bits(bits_of(1.0) - 1); /* the next below 1.0 */
+    case 4:
+        return of_bits(1); /* the least above 0.0 */
+    default:
+        return random_part();
+    }
+}
+
+double random_limit(void)
+{
+    switch (below(8)) {
+    case 0:
+        return 1000000.0;
+    case 1:
+        return of_bits(1);
+    case 2:
+        return 1 + below(4);
+    case 3:
+        return 1 + below(1000000);
+    case 4:
+        return of_bits(1 + random32()); /* far below 1.0 */
+    default:
+        return of_bits(bits_of(4.0 * random_part()) | 1); /* never 0.0 */
+    }
 }
 
 /* A word heard, all ones or with other bits. */
@@ -109,31 +197,44 @@ uint32_t random_read(uint8_t *read, uint32_t n, uint32_t faults)
     return controller;
 }
 
-void fresh_image(uint8_t *image, const uint8_t *setup, uint32_t n,
-                 uint32_t own)
+/* Penalties and rewards, or scores. */
+static void fresh_counters(enum form form, uint8_t *image, uint32_t n)
 {
     uint32_t j;
 
-    memcpy(image, setup, PRESENCE_SETUP_BYTES(n));
-    put(image, own_at(n), own_word(own, ones(n)));
-    for (j = 1; j <= n; j++) {
-        put(image, previous_at(n, j), previous_word(j, 1, ones(n)));
-        put(image, penalty_at(n, j), penalty_word(j, 0));
-        put(image, reward_at(n, j), reward_word(j, 0));
-        put(image, returns_at(n, j), returns_word(j, 0));
-    }
-    put(image, latest_at(n), 0xC0000000 | ones(n));
-    put(image, before_at(n), 0xC0000000 | ones(n));
+    for (j = 1; j <= n; j++)
+        if (form == FADING) {
+            put_double(image, score_at(n, j), 0.0);
+        } else {
+            put(image, penalty_at(n, j), penalty_word(j, 0));
+            put(image, reward_at(n, j), reward_word(j, 0));
+        }
 }
 
-void lived_image(uint8_t *image, const uint8_t *setup, uint32_t n, uint32_t own,
-                 uint32_t rounds)
+void fresh_image(enum form form, uint8_t *image, const uint8_t *setup,
+                 uint32_t n, uint32_t own)
+{
+    uint32_t j;
+
+    memcpy(image, setup, setup_bytes(form, n));
+    put(image, own_at(form, n), own_word(own, ones(n)));
+    for (j = 1; j <= n; j++) {
+        put(image, previous_at(form, n, j), previous_word(j, 1, ones(n)));
+        put(image, returns_at(form, n, j), returns_word(j, 0));
+    }
+    put(image, latest_at(form, n), 0xC0000000 | ones(n));
+    put(image, before_at(form, n), 0xC0000000 | ones(n));
+    fresh_counters(form, image, n);
+}
+
+void lived_image(enum form form, uint8_t *image, const uint8_t *setup,
+                 uint32_t n, uint32_t own, uint32_t rounds)
 {
     uint8_t read[PRESENCE_MAX_READ_BYTES], next[IMAGE_MAX];
-    size_t len = PRESENCE_IMAGE_BYTES(n);
+    size_t len = image_bytes(form, n);
     uint32_t controller;
 
-    plain_open(setup, PRESENCE_SETUP_BYTES(n), own, image, len);
+    plain_open(setup, setup_bytes(form, n), own, image, len);
     while (rounds-- > 0) {
         controller = random_read(read, n, below(9));
         plain_step(image, len, read, 4 * n, controller, next, len);

@@ -4,20 +4,36 @@
 
 #include <stdint.h>
 
-/* Setup with all l = N, no marks, Q = 0. */
+#include "check/words.h"
+
+/* Setup with counts, all l = N, no marks, Q = 0. */
 void make_setup(uint8_t *setup, uint32_t n, uint32_t p, uint32_t r,
                 uint32_t criticality);
 
-/* The same with P = 5, R = 3, criticality 1. */
-void usual_setup(uint8_t *setup, uint32_t n);
+/* The same with fading, and criticality 1. */
+void make_fading_setup(uint8_t *setup, uint32_t n, double factor,
+                       double limit);
+
+/* The same with P = 5, R = 3, criticality 1; with fading factor 0.5, limit
+   3.0. */
+void usual_setup(enum form form, uint8_t *setup, uint32_t n);
 
 /* Any accepted setup with these limits; with u = 0 all l are N.  Q is 0 in a
    quarter of them, else mostly low. */
 void random_setup(uint8_t *setup, uint32_t n, uint32_t u, uint32_t p,
                   uint32_t r);
+void random_fading_setup(uint8_t *setup, uint32_t n, uint32_t u, double factor,
+                         double limit);
+
+/* The same with low limits, so that modules leave the view. */
+void low_setup(enum form form, uint8_t *setup, uint32_t n, uint32_t u);
 
 /* The same with any accepted limits. */
-void any_setup(uint8_t *setup, uint32_t n, uint32_t u);
+void any_setup(enum form form, uint8_t *setup, uint32_t n, uint32_t u);
+
+/* A factor from 0.0 to 1.0, both often, and a limit up to 1,000,000.0. */
+double random_factor(void);
+double random_limit(void);
 
 /*
  * A read with losses and stray words; returns the controller bits.  Faults 0:
@@ -25,12 +41,12 @@ void any_setup(uint8_t *setup, uint32_t n, uint32_t u);
  */
 uint32_t random_read(uint8_t *read, uint32_t n, uint32_t faults);
 
-/* A fresh image, as document 01 describes it. */
-void fresh_image(uint8_t *image, const uint8_t *setup, uint32_t n,
-                 uint32_t own);
+/* A fresh image, as documents 01 and 02 describe it. */
+void fresh_image(enum form form, uint8_t *image, const uint8_t *setup,
+                 uint32_t n, uint32_t own);
 
 /* An image after some rounds by plain.c, with many different words. */
-void lived_image(uint8_t *image, const uint8_t *setup, uint32_t n, uint32_t own,
-                 uint32_t rounds);
+void lived_image(enum form form, uint8_t *image, const uint8_t *setup,
+                 uint32_t n, uint32_t own, uint32_t rounds);
 
 #endif

@@ -29,6 +29,7 @@ static void (*const groups[])(void) = {
     group_steps_refused,
     group_starred,
     group_returns,
+    group_fading,
     group_renumbered,
     group_lives,
     group_nothing_kept,

@@ -5,7 +5,8 @@
 #include "presence.h"
 
 #define MAX_N PRESENCE_MAX_MODULES
-#define IMAGE_MAX PRESENCE_MAX_IMAGE_BYTES
+#define SETUP_MAX PRESENCE_MAX_FADING_SETUP_BYTES /* of either form */
+#define IMAGE_MAX PRESENCE_MAX_FADING_IMAGE_BYTES
 #define COUNT(array) (sizeof (array) / sizeof (array)[0])
 
 #endif

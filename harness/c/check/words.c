@@ -1,6 +1,10 @@
 /* words.c - words of setups and images, and where they stand. */
 #include "check/words.h"
 
+#include <string.h>
+
+#include "presence.h"
+
 uint32_t get(const uint8_t *bytes, uint32_t index)
 {
     const uint8_t *b = bytes + 4 * index;
@@ -19,29 +23,74 @@ void put(uint8_t *bytes, uint32_t index, uint32_t word)
     b[3] = (uint8_t)word;
 }
 
+double get_double(const uint8_t *bytes, uint32_t index)
+{
+    return of_bits((uint64_t)get(bytes, index) << 32 | get(bytes, index + 1));
+}
+
+void put_double(uint8_t *bytes, uint32_t index, double value)
+{
+    uint64_t bits = bits_of(value);
+
+    put(bytes, index, (uint32_t)(bits >> 32));
+    put(bytes, index + 1, (uint32_t)bits);
+}
+
+uint64_t bits_of(double value)
+{
+    uint64_t bits;
+
+    memcpy(&bits, &value, sizeof bits);
+    return bits;
+}
+
+double of_bits(uint64_t bits)
+{
+    double value;
+
+    memcpy(&value, &bits, sizeof value);
+    return value;
+}
+
 uint32_t ones(uint32_t n)
 {
     return (1u << n) - 1;
 }
 
-uint32_t own_at(uint32_t n)
+/* A fading setup has three words more before the modules' words. */
+static uint32_t later(enum form form)
 {
-    return n + 3;
+    return form == FADING ? 3 : 0;
 }
 
-uint32_t previous_at(uint32_t n, uint32_t j)
+uint32_t module_at(enum form form, uint32_t j)
 {
-    return n + 3 + j;
+    return 2 + j + later(form);
 }
 
-uint32_t latest_at(uint32_t n)
+uint32_t own_at(enum form form, uint32_t n)
 {
-    return 2 * n + 4;
+    return n + 3 + later(form);
 }
 
-uint32_t before_at(uint32_t n)
+uint32_t previous_at(enum form form, uint32_t n, uint32_t j)
 {
-    return 2 * n + 5;
+    return n + 3 + j + later(form);
+}
+
+uint32_t latest_at(enum form form, uint32_t n)
+{
+    return 2 * n + 4 + later(form);
+}
+
+uint32_t before_at(enum form form, uint32_t n)
+{
+    return 2 * n + 5 + later(form);
+}
+
+uint32_t returns_at(enum form form, uint32_t n, uint32_t j)
+{
+    return 4 * n + 5 + j + later(form);
 }
 
 uint32_t penalty_at(uint32_t n, uint32_t j)
@@ -54,14 +103,27 @@ uint32_t reward_at(uint32_t n, uint32_t j)
     return 3 * n + 5 + j;
 }
 
-uint32_t returns_at(uint32_t n, uint32_t j)
+uint32_t score_at(uint32_t n, uint32_t j)
 {
-    return 4 * n + 5 + j;
+    return 2 * n + 7 + 2 * j;
 }
 
-uint32_t image_words(uint32_t n)
+size_t setup_bytes(enum form form, uint32_t n)
 {
-    return 5 * n + 6;
+    return form == FADING ? PRESENCE_FADING_SETUP_BYTES(n)
+                          : PRESENCE_SETUP_BYTES(n);
+}
+
+size_t image_bytes(enum form form, uint32_t n)
+{
+    return form == FADING ? PRESENCE_FADING_IMAGE_BYTES(n)
+                          : PRESENCE_IMAGE_BYTES(n);
+}
+
+uint32_t view_of(enum form form, const uint8_t *image, uint32_t n)
+{
+    return form == FADING ? PRESENCE_FADING_VIEW(image, n)
+                          : PRESENCE_VIEW(image, n);
 }
 
 uint32_t head_word(uint32_t n, uint32_t q)

@@ -5,26 +5,49 @@
 #ifndef CHECK_WORDS_H
 #define CHECK_WORDS_H
 
+#include <stddef.h>
 #include <stdint.h>
+
+/* The forms of a setup and its images. */
+enum form { COUNTS, FADING };
 
 /* The word at an index from 0. */
 uint32_t get(const uint8_t *bytes, uint32_t index);
 void put(uint8_t *bytes, uint32_t index, uint32_t word);
 
+/* The double whose high half is the word at an index. */
+double get_double(const uint8_t *bytes, uint32_t index);
+void put_double(uint8_t *bytes, uint32_t index, double value);
+
+/* The bits of a double, and the double of bits. */
+uint64_t bits_of(double value);
+double of_bits(uint64_t bits);
+
 /* The vector of all N modules. */
 uint32_t ones(uint32_t n);
 
+/* Index of module j's word in a setup. */
+uint32_t module_at(enum form form, uint32_t j);
+
 /* Index of a word of an image of N modules; of module j where there are N. */
-uint32_t own_at(uint32_t n);
-uint32_t previous_at(uint32_t n, uint32_t j);
-uint32_t latest_at(uint32_t n);
-uint32_t before_at(uint32_t n);
+uint32_t own_at(enum form form, uint32_t n);
+uint32_t previous_at(enum form form, uint32_t n, uint32_t j);
+uint32_t latest_at(enum form form, uint32_t n);
+uint32_t before_at(enum form form, uint32_t n);
+uint32_t returns_at(enum form form, uint32_t n, uint32_t j);
+
+/* Of counts. */
 uint32_t penalty_at(uint32_t n, uint32_t j);
 uint32_t reward_at(uint32_t n, uint32_t j);
-uint32_t returns_at(uint32_t n, uint32_t j);
 
-/* How many words an image has. */
-uint32_t image_words(uint32_t n);
+/* Of fading: the score's high half. */
+uint32_t score_at(uint32_t n, uint32_t j);
+
+/* The length of a setup and of an image. */
+size_t setup_bytes(enum form form, uint32_t n);
+size_t image_bytes(enum form form, uint32_t n);
+
+uint32_t view_of(enum form form, const uint8_t *image, uint32_t n);
 
 /* Words by what they hold; l is the read place, q the return limit. */
 uint32_t head_word(uint32_t n, uint32_t q);

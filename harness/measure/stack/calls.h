@@ -6,7 +6,7 @@
 
 /* Has room for a length that is a word too long. */
 struct block {
-    uint8_t bytes[PRESENCE_MAX_IMAGE_BYTES + 4];
+    uint8_t bytes[PRESENCE_MAX_FADING_IMAGE_BYTES + 4];
     size_t len;
 };
 
@@ -21,7 +21,8 @@ struct inputs {
 struct call {
     const char *name;
     uint32_t (*make)(void); /* with the inputs below; returns the number */
-    uint32_t numbers;       /* bit i is 1 if the header names number i for it */
+    uint32_t numbers;       /* bit i is 1 if the header names number i for it;
+                               with fading 22 stands in the place of 4 */
 };
 
 extern struct inputs in;

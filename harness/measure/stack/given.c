@@ -27,10 +27,10 @@ int give_opened(char **argument)
     if (!rounds_from(&r, argument))
         return 0;
     give_lock();
-    given.setup.len = PRESENCE_SETUP_BYTES(r.n);
+    given.setup.len = r.setup_len;
     memcpy(given.setup.bytes, r.setup, given.setup.len);
     given.own = r.own;
-    given.image.len = given.out.len = PRESENCE_IMAGE_BYTES(r.n);
+    given.image.len = given.out.len = r.image_len;
     given.read.len = PRESENCE_READ_BYTES(r.n);
     given.page.len = PRESENCE_PAGE_BYTES;
     given.offset = PRESENCE_PAGE_FLAGS;
@@ -42,6 +42,11 @@ int give_opened(char **argument)
         return 0;
     rounds_begin(&r, given.image.bytes);
     return 1;
+}
+
+int given_fading(void)
+{
+    return r.form == FADING;
 }
 
 void give_round(uint32_t k)

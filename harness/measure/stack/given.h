@@ -6,9 +6,12 @@
 
 extern struct inputs given;
 
-/* Opens a module and a scan lock.  Arguments N, U, kind of rounds.  Returns 0
-   if they are wrong or the opening is refused. */
+/* Opens a module and a scan lock.  Arguments N, U, form of the setup, kind of
+   rounds.  Returns 0 if they are wrong or the opening is refused. */
 int give_opened(char **argument);
+
+/* Whether the module is one with fading. */
+int given_fading(void);
 
 /* The number of rounds to make. */
 extern const uint32_t given_rounds;

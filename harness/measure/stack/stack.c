@@ -1,7 +1,7 @@
 /*
  * stack.c - stack depth of every call, by painting.
  *
- *   stack N U quiet|loud|late|away|back
+ *   stack N U counts|fading quiet|loud|late|away|back
  *
  * Makes the calls in every round; then, on the state that the rounds left,
  * with every bit of every input flipped in turn and with wrong lengths.
@@ -88,13 +88,23 @@ static void try_wrong_inputs(void)
         try_flips(words[i], sizeof *words[i]);
 }
 
+/* The numbers that the header names for a call; with fading it has 22 in the
+   place of 4. */
+static uint32_t named(const struct call *c)
+{
+    if (!given_fading() || (c->numbers & 1u << 4) == 0)
+        return c->numbers;
+    return (c->numbers & ~(1u << 4)) | 1u << 22;
+}
+
 int main(int argc, char **argv)
 {
     uint32_t k;
     size_t c;
 
-    if (argc != 4 || !give_opened(argv + 1) || call_count > MAX_CALLS) {
-        fprintf(stderr, "stack N U quiet|loud|late|away|back\n");
+    if (argc != 5 || !give_opened(argv + 1) || call_count > MAX_CALLS) {
+        fprintf(stderr,
+                "stack N U counts|fading quiet|loud|late|away|back\n");
         return 2;
     }
     for (k = 0; k < given_rounds; k++) {
@@ -106,7 +116,7 @@ int main(int argc, char **argv)
     try_wrong_inputs();
     for (c = 0; c < call_count; c++)
         printf("%s %u %u %X %X\n", calls[c].name, (unsigned)seen[c].accepted,
-               (unsigned)seen[c].refused, (unsigned)calls[c].numbers,
+               (unsigned)seen[c].refused, (unsigned)named(&calls[c]),
                (unsigned)seen[c].numbers);
     return 0;
 }

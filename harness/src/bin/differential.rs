@@ -11,8 +11,8 @@ use harness::call::{Buffers, Call, Reply};
 use harness::ffi::Library;
 use harness::hex::to_hex;
 use harness::model::calls::Model;
-use harness::model::setup::Setup;
-use harness::model::state::{image_length, image_words, State};
+use harness::model::setup::{Form, Setup};
+use harness::model::state::{image_words, State};
 use harness::model::words::{bytes_of, words_of};
 use harness::random::damage::{any_bytes, damaged};
 use harness::random::pages::{offset, page, page_length, value};
@@ -91,11 +91,11 @@ impl Comparison {
         let bytes = bytes_of(&setup.words());
         self.compare(Call::CheckSetup { setup: bytes.clone() });
         for own in 1..=setup.n as u32 {
-            self.open(bytes.clone(), own, 4 * image_length(setup.n));
+            self.open(bytes.clone(), own, 4 * setup.image_length());
         }
         for _ in 0..3 {
             let own = self.own_number(setup.n);
-            let out_len = self.out_length(setup.n);
+            let out_len = self.out_length(setup.form(), setup.n);
             self.open(bytes.clone(), own, out_len);
         }
     }
@@ -110,7 +110,7 @@ impl Comparison {
             };
             self.compare(Call::CheckSetup { setup: bytes.clone() });
             let own = self.own_number(setup.n);
-            let out_len = self.out_length(setup.n);
+            let out_len = self.out_length(setup.form(), setup.n);
             self.open(bytes, own, out_len);
         }
     }
@@ -135,7 +135,7 @@ impl Comparison {
         for _ in 0..6 {
             let bytes = damaged(&mut self.random, &words);
             self.compare(Call::Outgoing { state: bytes.clone() });
-            let out_len = self.out_length(setup.n);
+            let out_len = self.out_length(setup.form(), setup.n);
             self.compare(Call::Save { state: bytes.clone(), out_len });
             self.any_step(&setup, &state, bytes);
         }
@@ -144,6 +144,7 @@ impl Comparison {
     /// Scripts and any bytes, as setup and as state.
     fn any_bytes(&mut self) {
         let n = self.random.between(2, 16) as usize;
+        let form = self.form();
         for _ in 0..3 {
             let bytes = if self.random.chance(1, 8) {
                 let way = self.random.below(WAYS);
@@ -152,7 +153,7 @@ impl Comparison {
                 any_bytes(&mut self.random)
             };
             let own = self.own_number(n);
-            let out_len = self.out_length(n);
+            let out_len = self.out_length(form, n);
             let controller = self.random.word();
             let read = any_bytes(&mut self.random);
             self.compare(Call::CheckSetup { setup: bytes.clone() });
@@ -169,7 +170,7 @@ impl Comparison {
         let state = self.state(&setup);
         let bytes = bytes_of(&image_words(&setup, &state));
         for _ in 0..6 {
-            let out_len = self.out_length(setup.n);
+            let out_len = self.out_length(setup.form(), setup.n);
             self.compare(Call::Save { state: bytes.clone(), out_len });
             self.any_step(&setup, &state, bytes.clone());
         }
@@ -186,7 +187,7 @@ impl Comparison {
             let length = self.other_length(read.len());
             read.resize(length, 0x55);
         }
-        let out_len = self.out_length(setup.n);
+        let out_len = self.out_length(setup.form(), setup.n);
         self.step(bytes, read, controller, out_len);
     }
 
@@ -256,7 +257,7 @@ impl Comparison {
     fn life(&mut self) {
         let setup = self.setup();
         let own = self.random.between(1, setup.n as u32);
-        let out_len = 4 * image_length(setup.n);
+        let out_len = 4 * setup.image_length();
         let bytes = bytes_of(&setup.words());
         let paged = self.random.chance(1, 2);
         let call = if paged {
@@ -306,6 +307,10 @@ impl Comparison {
         stepped
     }
 
+    fn form(&mut self) -> Form {
+        self.random.pick(&[Form::Counts, Form::Fading])
+    }
+
     /// Mostly 1..N.
     fn own_number(&mut self, n: usize) -> u32 {
         let n = n as u32;
@@ -321,8 +326,8 @@ impl Comparison {
     }
 
     /// Bytes of an output: mostly right.
-    fn out_length(&mut self, n: usize) -> usize {
-        let right = 4 * image_length(n);
+    fn out_length(&mut self, form: Form, n: usize) -> usize {
+        let right = 4 * form.image_length(n);
         if self.random.chance(2, 3) {
             right
         } else {
@@ -330,7 +335,7 @@ impl Comparison {
         }
     }
 
-    /// A length other than `right`: 0, off by a byte, off by a word, another N, huge.
+    /// A length other than `right`: 0, off by a byte, off by a word, another N or form, the same N in the other form, huge.
     fn other_length(&mut self, right: usize) -> usize {
         let length = match self.random.below(40) {
             0..=7 => 0,
@@ -338,7 +343,9 @@ impl Comparison {
             13..=17 => right + 1,
             18..=22 => right - 4,
             23..=27 => right + 4,
-            28..=32 => 4 * image_length(self.random.between(2, 16) as usize),
+            28..=30 => 4 * self.form().image_length(self.random.between(2, 16) as usize),
+            31 => right + 12,
+            32 => right.saturating_sub(12),
             33..=35 => self.random.below(2 * right),
             36..=38 => right + 256,
             _ => {

@@ -7,7 +7,7 @@
 
 use harness::ffi::Library;
 use harness::model::calls::Functions;
-use harness::model::setup::Setup;
+use harness::model::setup::{Form, Setup};
 use harness::model::state::{image_words, read_image, State};
 use harness::model::step::{read_word, Reading};
 use harness::model::words::{bytes_of, full, words_of, MAX};
@@ -28,8 +28,11 @@ use std::fs;
 use std::process::ExitCode;
 
 /// What some run has to have.
-const NAMES: [&str; 15] = [
+const NAMES: [&str; 18] = [
     "modules moved",
+    "counts",
+    "fading",
+    "one that fades and came back",
     "nobody in the cast",
     "a cast of some",
     "a return limit",
@@ -210,8 +213,12 @@ fn names_of(script: &Script, renumbering: &Renumbering, output: &str) -> Vec<&'s
     let views_of_1: Vec<&str> = rounds.iter().map(|round| round[0][3]).collect();
     let comes_back = |pair: &[&str]| pair[0].bytes().zip(pair[1].bytes()).any(|bits| bits == (b'0', b'1'));
     let (first, last) = (lines[0][4], lines[lines.len() - 1][4]);
+    let fades = script.setup.form() == Form::Fading;
     [
         ("modules moved", renumbering.moves()),
+        ("counts", !fades),
+        ("fading", fades),
+        ("one that fades and came back", fades && views_of_1.windows(2).any(comes_back)),
         ("nobody in the cast", script.cast == 0),
         ("a cast of some", script.cast != 0 && script.cast != full(n)),
         ("a return limit", script.setup.return_limit > 0),

@@ -3,7 +3,7 @@
 
 use harness::ffi::Library;
 use harness::model::calls::{Functions, Model};
-use harness::model::setup::Setup;
+use harness::model::setup::{Limits, Setup};
 use harness::model::state::{fresh, image_words};
 use harness::model::step::step;
 use harness::model::words::bytes_of;
@@ -66,7 +66,8 @@ fn main() -> ExitCode {
 /// Losses and lies as in the random reads; limits that keep all modules in the view.
 fn life(n: usize, u: usize, steps: usize) -> Life {
     let mut random = Random::new((100 * n + u) as u64);
-    let mut setup = Setup { penalty_limit: 1_000_000, reward_limit: 8, ..setup_of(&mut random, n, u) };
+    let limits = Limits::Counts { penalty: 1_000_000, reward: 8 };
+    let mut setup = Setup { limits, ..setup_of(&mut random, n, u) };
     for module in &mut setup.modules[..n] {
         module.criticality = 1;
     }

@@ -2,7 +2,7 @@
 
 use super::page::Page;
 use super::setup::{read_setup, Holds};
-use super::state::{fresh, handed_out, image_length, image_words, read_image};
+use super::state::{fresh, handed_out, image_words, read_image};
 use super::step::{read_word, step, Outcome, Reading};
 use super::words::{bytes_of, words_of};
 use super::{refusal, Refusal};
@@ -103,7 +103,7 @@ fn word(result: Result<u32, Refusal>) -> WordAnswer {
     }
 }
 
-/// Numbers 1 to 6.
+/// Numbers 1 to 6, and 22 in the place of 4.
 fn try_check_setup(setup: &[u8]) -> Result<u32, Refusal> {
     read_setup(setup, Holds::Setup)?;
     Ok(0)
@@ -115,7 +115,7 @@ fn try_open(setup: &[u8], own: u32, out: &mut [u8]) -> Result<u32, Refusal> {
     if own < 1 || own > setup.n as u32 {
         return Err(refusal(7, 0));
     }
-    if out.len() != 4 * image_length(setup.n) {
+    if out.len() != 4 * setup.image_length() {
         return Err(refusal(9, 0));
     }
     let state = fresh(&setup, own as usize);
@@ -127,7 +127,7 @@ fn try_open(setup: &[u8], own: u32, out: &mut [u8]) -> Result<u32, Refusal> {
 fn try_step(state: &[u8], read: &[u8], controller: u32, out: &mut [u8]) -> Result<Outcome, Refusal> {
     let (setup, mut state) = read_image(state)?;
     let read = words_of(read).filter(|words| words.len() == setup.n).ok_or(refusal(9, 0))?;
-    if out.len() != 4 * image_length(setup.n) {
+    if out.len() != 4 * setup.image_length() {
         return Err(refusal(9, 0));
     }
     let outcome = step(&setup, &mut state, &read, controller)?;
@@ -138,7 +138,7 @@ fn try_step(state: &[u8], read: &[u8], controller: u32, out: &mut [u8]) -> Resul
 /// Numbers 1 to 8, 9.
 fn try_save(state: &[u8], out: &mut [u8]) -> Result<u32, Refusal> {
     let (setup, state) = read_image(state)?;
-    if out.len() != 4 * image_length(setup.n) {
+    if out.len() != 4 * setup.image_length() {
         return Err(refusal(9, 0));
     }
     out.copy_from_slice(&bytes_of(&image_words(&setup, &state)));

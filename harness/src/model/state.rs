@@ -1,7 +1,7 @@
-//! A module's state and its saved image, with the return counts of document 02, E6. Numbers 7 and 8.
+//! A module's state and its saved image, with the return counts and the fading scores of document 02, E6 and E9. Numbers 7 and 8.
 
-use super::setup::{read_setup, Holds, Setup};
-use super::words::{bits, full, has, kind, OwnWord, PenaltyWord, PreviousRead, ReturnWord, RewardWord, Vector, MAX};
+use super::setup::{read_setup, Holds, Limits, Setup};
+use super::words::{bits, full, has, kind, Double, OwnWord, PenaltyWord, PreviousRead, ReturnWord, RewardWord, Vector, MAX};
 use super::{refusal, Refusal};
 
 /// One sender in a read: heard with a row, or missing with row 0.
@@ -21,13 +21,16 @@ pub struct State {
     pub latest: u32,
     /// The syndrome of the round before it.
     pub before: u32,
+    /// Penalties and rewards, 0 where the setup is fading.
     pub penalty: [u32; MAX],
     pub reward: [u32; MAX],
+    /// Scores, 0.0 where the setup has counts.
+    pub score: [Double; MAX],
     /// For a module outside the view how many rounds running its health was 1.
     pub returns: [u32; MAX],
 }
 
-/// A fresh module: all-ones syndromes and rows, all heard, zero counters, full view.
+/// A fresh module: all-ones syndromes and rows, all heard, zero counters, every score 0.0, full view.
 pub fn fresh(setup: &Setup, own: usize) -> State {
     let ones = full(setup.n);
     let mut previous = [Entry::default(); MAX];
@@ -35,7 +38,8 @@ pub fn fresh(setup: &Setup, own: usize) -> State {
         previous[j - 1] = Entry { heard: true, row: ones };
     }
     let zeros = [0; MAX];
-    State { own, view: ones, previous, latest: ones, before: ones, penalty: zeros, reward: zeros, returns: zeros }
+    let score = [Double(0.0); MAX];
+    State { own, view: ones, previous, latest: ones, before: ones, penalty: zeros, reward: zeros, score, returns: zeros }
 }
 
 /// Rule 7 read from the image: the syndrome that the step which made this state handed out.
@@ -45,12 +49,7 @@ pub fn handed_out(setup: &Setup, state: &State) -> u32 {
     Vector { kind: 5, bits: syndrome }.word()
 }
 
-/// Words of a saved state.
-pub fn image_length(n: usize) -> usize {
-    5 * n + 6
-}
-
-/// The setup, one 10, N of 11, the latest and the one before as two 12, N of 13, N of 14, N of 15.
+/// The setup, one 10, N of 11, the latest and the one before as two 12, N of 13 and N of 14 or a pair of plain words for each score, N of 15.
 pub fn image_words(setup: &Setup, state: &State) -> Vec<u32> {
     let n = setup.n;
     let mut words = setup.words();
@@ -61,11 +60,20 @@ pub fn image_words(setup: &Setup, state: &State) -> Vec<u32> {
     }
     words.push(Vector { kind: 12, bits: state.latest }.word());
     words.push(Vector { kind: 12, bits: state.before }.word());
-    for j in 1..=n {
-        words.push(PenaltyWord { module: j as u32, penalty: state.penalty[j - 1] }.word());
-    }
-    for j in 1..=n {
-        words.push(RewardWord { module: j as u32, reward: state.reward[j - 1] }.word());
+    match setup.limits {
+        Limits::Counts { .. } => {
+            for j in 1..=n {
+                words.push(PenaltyWord { module: j as u32, penalty: state.penalty[j - 1] }.word());
+            }
+            for j in 1..=n {
+                words.push(RewardWord { module: j as u32, reward: state.reward[j - 1] }.word());
+            }
+        }
+        Limits::Fading { .. } => {
+            for j in 1..=n {
+                words.extend(state.score[j - 1].words());
+            }
+        }
     }
     for j in 1..=n {
         words.push(ReturnWord { module: j as u32, count: state.returns[j - 1] }.word());
@@ -77,19 +85,28 @@ pub fn image_words(setup: &Setup, state: &State) -> Vec<u32> {
 pub fn read_image(bytes: &[u8]) -> Result<(Setup, State), Refusal> {
     let (setup, words) = read_setup(bytes, Holds::State)?;
     let n = setup.n;
-    let (own, view) = read_own_and_view(&words, n)?;
-    let previous = read_each(&words, n + 4, n, |word, j| read_previous(word, j, n))?;
-    let latest = read_syndrome(&words, 2 * n + 4, n)?;
-    let before = read_syndrome(&words, 2 * n + 5, n)?;
-    let penalty = read_each(&words, 2 * n + 6, n, |word, j| read_penalty(word, j, &setup, has(view, j)))?;
-    let reward = read_each(&words, 3 * n + 6, n, |word, j| read_reward(word, j, &setup, penalty[j - 1]))?;
-    let returns = read_each(&words, 4 * n + 6, n, |word, j| read_returns(word, j, &setup, has(view, j)))?;
-    Ok((setup, State { own, view, previous, latest, before, penalty, reward, returns }))
+    let at = setup.length();
+    let (own, view) = read_own_and_view(&words, at, n)?;
+    let previous = read_each(&words, at + 1, n, |word, j| read_previous(word, j, n))?;
+    let latest = read_syndrome(&words, at + n + 1, n)?;
+    let before = read_syndrome(&words, at + n + 2, n)?;
+    let mut state = State { view, previous, latest, before, ..fresh(&setup, own) };
+    let first = at + n + 3;
+    match setup.limits {
+        Limits::Counts { penalty: p, reward: r } => {
+            state.penalty = read_each(&words, first, n, |word, j| {
+                read_penalty(word, j, p, setup.module(j).criticality, has(view, j))
+            })?;
+            state.reward = read_each(&words, first + n, n, |word, j| read_reward(word, j, r, state.penalty[j - 1]))?;
+        }
+        Limits::Fading { limit, .. } => state.score = read_scores(&words, first, n, limit, view)?,
+    }
+    state.returns = read_each(&words, first + 2 * n, n, |word, j| read_returns(word, j, &setup, has(view, j)))?;
+    Ok((setup, state))
 }
 
 /// Own number and view. 7 is tested only where the word is kind 10, and before 8.
-fn read_own_and_view(words: &[u32], n: usize) -> Result<(usize, u32), Refusal> {
-    let at = n + 3;
+fn read_own_and_view(words: &[u32], at: usize, n: usize) -> Result<(usize, u32), Refusal> {
     let own = bits(words[at], 20, 16) as usize;
     if kind(words[at]) == 10 && !(1..=n).contains(&own) {
         return Err(refusal(7, at));
@@ -131,20 +148,37 @@ fn read_syndrome(words: &[u32], at: usize, n: usize) -> Result<u32, Refusal> {
 }
 
 /// A penalty over P goes with a clear view bit, and any other with a set one.
-fn read_penalty(word: u32, j: usize, setup: &Setup, in_view: bool) -> Option<u32> {
+fn read_penalty(word: u32, j: usize, p: u32, criticality: u32, in_view: bool) -> Option<u32> {
     let penalty = PenaltyWord::split(word)?;
     let right = penalty.module as usize == j
-        && penalty.penalty <= setup.penalty_limit + setup.module(j).criticality
-        && in_view == (penalty.penalty <= setup.penalty_limit);
+        && penalty.penalty <= p + criticality
+        && in_view == (penalty.penalty <= p);
     right.then_some(penalty.penalty)
 }
 
-fn read_reward(word: u32, j: usize, setup: &Setup, penalty: u32) -> Option<u32> {
+fn read_reward(word: u32, j: usize, r: u32, penalty: u32) -> Option<u32> {
     let reward = RewardWord::split(word)?;
-    let right = reward.module as usize == j
-        && reward.reward < setup.reward_limit
-        && (reward.reward == 0 || penalty > 0);
+    let right = reward.module as usize == j && reward.reward < r && (reward.reward == 0 || penalty > 0);
     right.then_some(reward.reward)
+}
+
+/// A pair of words for each module, the high half first; 8 at the high half of the first score that is wrong.
+fn read_scores(words: &[u32], first: usize, n: usize, limit: Double, view: u32) -> Result<[Double; MAX], Refusal> {
+    let mut scores = [Double(0.0); MAX];
+    for j in 1..=n {
+        let at = first + 2 * (j - 1);
+        let score = Double::of(words[at], words[at + 1]);
+        if !score_right(score.0, limit.0, has(view, j)) {
+            return Err(refusal(8, at));
+        }
+        scores[j - 1] = score;
+    }
+    Ok(scores)
+}
+
+/// Not negative, not infinite, a number, and below the limit exactly in the view. Minus zero counts as negative.
+fn score_right(score: f64, limit: f64, in_view: bool) -> bool {
+    score.is_sign_positive() && score.is_finite() && in_view == (score < limit)
 }
 
 /// A return count is below Q, and 0 for a module in the view or where Q is 0.

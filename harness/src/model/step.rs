@@ -1,9 +1,9 @@
-//! One step of one module: rules 1 to 8, struck-off modules, why a word was not heard, and modules that come back (document 02, E4, E5, E6).
-//! Number 10.
+//! One step of one module: rules 1 to 8, struck-off modules, why a word was not heard, modules that come back, and fading scores (document 02, E4,
+//! E5, E6, E9). Number 10.
 
-use super::setup::Setup;
+use super::setup::{Limits, Setup};
 use super::state::{Entry, State};
-use super::words::{bits, full, has, kind, only, Vector, MAX};
+use super::words::{bits, full, has, kind, only, Double, Vector, MAX};
 use super::{refusal, Refusal};
 
 /// Document 02, E5: what reading a bus word answers.
@@ -164,20 +164,42 @@ fn outgoing_word(send_mark: bool, latest: u32, syndrome: u32) -> u32 {
 
 /// Rule 8 for one module that it finds in the view.
 fn count_present(setup: &Setup, state: &mut State, j: usize, healthy: bool) {
+    match setup.limits {
+        Limits::Counts { penalty, reward } => count(setup, state, j, healthy, penalty, reward),
+        Limits::Fading { factor, limit } => fade(state, j, healthy, factor, limit),
+    }
+}
+
+/// Rule 8 with counts, as document 01 has it.
+fn count(setup: &Setup, state: &mut State, j: usize, healthy: bool, p: u32, r: u32) {
     let penalty = &mut state.penalty[j - 1];
     let reward = &mut state.reward[j - 1];
     if !healthy {
         *penalty += setup.module(j).criticality;
         *reward = 0;
-        if *penalty > setup.penalty_limit {
+        if *penalty > p {
             state.view &= !only(j);
         }
     } else if *penalty > 0 {
         *reward += 1;
-        if *reward == setup.reward_limit {
+        if *reward == r {
             *penalty = 0;
             *reward = 0;
         }
+    }
+}
+
+/// Rule 8 with fading (document 02, E9): a charge adds 1.0, whatever the criticality; a good round multiplies by the factor. Each is one
+/// operation on doubles, rounded once.
+fn fade(state: &mut State, j: usize, healthy: bool, factor: Double, limit: Double) {
+    let score = &mut state.score[j - 1].0;
+    if healthy {
+        *score *= factor.0;
+    } else {
+        *score += 1.0;
+    }
+    if *score >= limit.0 {
+        state.view &= !only(j);
     }
 }
 
@@ -190,8 +212,13 @@ fn count_absent(setup: &Setup, state: &mut State, j: usize, healthy: bool) {
     state.returns[j - 1] += 1;
     if state.returns[j - 1] == setup.return_limit {
         state.view |= only(j);
-        state.penalty[j - 1] = setup.penalty_limit;
-        state.reward[j - 1] = 0;
+        match setup.limits {
+            Limits::Counts { penalty, .. } => {
+                state.penalty[j - 1] = penalty;
+                state.reward[j - 1] = 0;
+            }
+            Limits::Fading { .. } => state.score[j - 1] = Double(0.0),
+        }
         state.returns[j - 1] = 0;
     }
 }

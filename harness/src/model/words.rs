@@ -1,4 +1,4 @@
-//! The words of document 01 and of document 02, E6, one struct for each kind.
+//! The words of document 01 and of document 02, E6 and E9, one struct for each kind; and a double, which is two plain words.
 //!
 //! `split` answers the fields of a word, or `None` if its kind is another one or a bit that
 //! belongs to no field is set. It does so by writing the fields back and comparing. Ranges of
@@ -67,6 +67,40 @@ impl Head {
         1 << 28 | self.return_limit << 8 | self.n
     }
 }
+
+/// Kind 0 (document 02, E9): it has no fields.
+pub struct FadingWord;
+
+impl FadingWord {
+    pub fn split(word: u32) -> Option<FadingWord> {
+        (FadingWord.word() == word).then_some(FadingWord)
+    }
+    pub fn word(&self) -> u32 {
+        0
+    }
+}
+
+/// A double as two plain words, the high half first (document 02, E9). Two are the same if all their bits are.
+#[derive(Clone, Copy, Debug, Default)]
+pub struct Double(pub f64);
+
+impl Double {
+    pub fn of(high: u32, low: u32) -> Double {
+        Double(f64::from_bits(u64::from(high) << 32 | u64::from(low)))
+    }
+    pub fn words(&self) -> [u32; 2] {
+        let bits = self.0.to_bits();
+        [(bits >> 32) as u32, bits as u32]
+    }
+}
+
+impl PartialEq for Double {
+    fn eq(&self, other: &Double) -> bool {
+        self.0.to_bits() == other.0.to_bits()
+    }
+}
+
+impl Eq for Double {}
 
 /// Kinds 2 (penalty limit), 3 (reward limit) and 9 (play): one number in bits 27..0.
 pub struct Amount {

@@ -1,7 +1,9 @@
 //! Damaged bytes: setups, states and scripts with something wrong.
 
+use super::doubles::{factor, limit, out_of_range, put, score_below, score_from, wrong_factor, wrong_limit};
 use super::Random;
-use crate::model::words::{bytes_of, kind};
+use crate::model::setup::Form;
+use crate::model::words::{bytes_of, kind, Double};
 
 /// Damages words in one or several ways and answers them as bytes.
 /// The result may still be accepted, since some damages change nothing that is tested.
@@ -53,7 +55,7 @@ fn damage_once(random: &mut Random, words: &mut Vec<u32>) {
         return;
     }
     let at = random.below(words.len());
-    match random.below(16) {
+    match random.below(17) {
         // The fields of one word, at or beyond their limits.
         0..=5 => spoil_field(random, words, at),
         6 | 7 => words[at] ^= 1 << random.below(32),
@@ -75,6 +77,7 @@ fn damage_once(random: &mut Random, words: &mut Vec<u32>) {
             words[at] =
                 if random.chance(1, 2) { words[at].wrapping_add(1) } else { words[at].wrapping_sub(1) }
         }
+        15 => other_form(random, words),
         _ => match random.below(3) {
             0 => words.truncate(at),
             1 => words.push(random.word()),
@@ -83,9 +86,22 @@ fn damage_once(random: &mut Random, words: &mut Vec<u32>) {
     }
 }
 
-/// Sets one field of a word to a value at or just beyond its limit.
+/// Limits of the other form in the place of these; what stands behind is of the form that was.
+fn other_form(random: &mut Random, words: &mut Vec<u32>) {
+    let end = Form::of(words).first_module().min(words.len());
+    let limits = match Form::of(words) {
+        Form::Fading => vec![2 << 28 | 1, 3 << 28 | 3],
+        Form::Counts => [&[0][..], &Double(factor(random)).words(), &Double(limit(random)).words()].concat(),
+    };
+    words.splice(end.min(1)..end, limits);
+}
+
+/// Sets one field of a word, or a double, to a value at or just beyond its limit.
 fn spoil_field(random: &mut Random, words: &mut [u32], at: usize) {
     let n = (words[0] & 31).clamp(2, 16);
+    if Form::of(words) == Form::Fading && spoil_double(random, words, n as usize, at) {
+        return;
+    }
     let word = words[at];
     let bit_at_n = 1 << (n + random.below(2) as u32);
     words[at] = match kind(word) {
@@ -109,6 +125,40 @@ fn spoil_field(random: &mut Random, words: &mut [u32], at: usize) {
         15 => spoil_returns(random, word, n, words[0] >> 8 & 0xF_FFFF),
         _ => word ^ 1 << random.below(32),
     };
+}
+
+/// The double that word `at` is a half of: the factor, the limit, or a score of a state. False if it is of none.
+fn spoil_double(random: &mut Random, words: &mut [u32], n: usize, at: usize) -> bool {
+    if words.len() < Form::Fading.first_module() {
+        return false;
+    }
+    let first = Form::Fading.setup_length(n) + n + 3;
+    let is_state = words.len() == Form::Fading.image_length(n);
+    let right = random.chance(1, 3);
+    match at {
+        2 | 3 => put(words, 2, if right { factor(random) } else { wrong_factor(random) }),
+        4 | 5 => put(words, 4, if right { limit(random) } else { wrong_limit(random) }),
+        _ if is_state && (first..first + 2 * n).contains(&at) => {
+            let limit = Double::of(words[4], words[5]).0;
+            put(words, at - (at - first) % 2, any_score(random, limit));
+        }
+        _ => return false,
+    }
+    true
+}
+
+/// On either side of the limit, whatever the view says, or no score.
+fn any_score(random: &mut Random, limit: f64) -> f64 {
+    if !(limit > 0.0 && limit <= 1_000_000.0) {
+        return out_of_range(random);
+    }
+    match random.below(6) {
+        0 => limit,
+        1 => limit.next_down(),
+        2 => score_below(random, limit),
+        3 => score_from(random, limit),
+        _ => out_of_range(random),
+    }
 }
 
 /// Kind 1: N, the return limit, a spare bit.

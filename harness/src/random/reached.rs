@@ -1,14 +1,15 @@
 //! What scripts have in them and what comes of them, by name: to see what random scripts reach.
 
-use crate::model::setup::Setup;
+use crate::model::setup::{Form, Limits, Setup};
 use crate::model::step::heard_word;
 use crate::model::words::{full, kind, words_of, MAX};
 use crate::script::check::{check, Item, Script, MOST_BYTES, MOST_ROUNDS};
 use std::collections::{BTreeMap, BTreeSet};
 
 /// Every name, in the order of a report.
-const NAMES: [(&str, &[&str]); 11] = [
-    ("refused", &["1", "2", "3", "4", "5", "6", "12", "13", "14", "15", "16"]),
+const NAMES: [(&str, &[&str]); 13] = [
+    ("refused", &["1", "2", "3", "4", "22", "5", "6", "12", "13", "14", "15", "16"]),
+    ("22 for", &["a spare bit", "the factor", "the limit"]),
     ("14 for want of", &["cast", "told word", "play of events", "any play"]),
     ("played", &["N 2", "N 3", "N 4", "N 5", "N 6", "N 7", "N 8", "N 9", "N 10", "N 11", "N 12", "N 13"]),
     ("played", &["N 14", "N 15", "N 16", "u 0", "u 1", "marks", "several plays"]),
@@ -24,6 +25,10 @@ const NAMES: [(&str, &[&str]); 11] = [
     (
         "return",
         &["Q 0, good but out", "Q 1", "Q 2 and above", "run restarted", "out again at once", "cleared", "run unfinished"],
+    ),
+    (
+        "fading",
+        &["factor 0", "factor between", "factor 1", "limit up to 1", "limit above 1", "some leave", "one comes back"],
     ),
 ];
 
@@ -53,6 +58,9 @@ impl Reached {
                 self.count("refused", &refused.number.to_string());
                 if refused.number == 14 {
                     self.count("14 for want of", wanting(bytes));
+                }
+                if refused.number == 22 {
+                    self.count("22 for", ["a spare bit", "the factor", "the limit"][refused.index / 2]);
                 }
             }
         }
@@ -92,8 +100,13 @@ impl Reached {
         self.count_rounds(script);
         self.count_events(script);
         self.count("limit", limit_name(script, output));
-        self.count_views(script.setup.n, output);
-        self.count_returns(script, output);
+        let leaves = self.count_views(script.setup.n, output);
+        let comes_back = self.count_returns(script, output);
+        if let Limits::Fading { factor, limit } = script.setup.limits {
+            self.count_fading(factor.0, limit.0);
+            self.count_if(leaves, "fading", "some leave");
+            self.count_if(comes_back, "fading", "one comes back");
+        }
     }
 
     /// The setup and the cast.
@@ -130,26 +143,38 @@ impl Reached {
         }
     }
 
-    /// The fourth field of a line is the view; a round is N lines.
-    fn count_views(&mut self, n: usize, output: &str) {
+    fn count_fading(&mut self, factor: f64, limit: f64) {
+        let by_factor = match factor {
+            0.0 => "factor 0",
+            1.0 => "factor 1",
+            _ => "factor between",
+        };
+        self.count("fading", by_factor);
+        self.count("fading", if limit <= 1.0 { "limit up to 1" } else { "limit above 1" });
+    }
+
+    /// The fourth field of a line is the view; a round is N lines. True if a module leaves.
+    fn count_views(&mut self, n: usize, output: &str) -> bool {
         let views: Vec<&str> = output.lines().filter_map(|line| line.split(' ').nth(3)).collect();
         let leaves = views.iter().any(|view| view.contains('0'));
         self.count("view", if leaves { "some leave" } else { "all stay" });
         let differ = views.chunks(n).any(|round| round.iter().any(|view| *view != round[0]));
         self.count_if(differ, "view", "modules differ");
+        leaves
     }
 
-    /// What the first module prints of each module, round after round.
-    fn count_returns(&mut self, script: &Script, output: &str) {
+    /// What the first module prints of each module, round after round. True if a module comes back.
+    fn count_returns(&mut self, script: &Script, output: &str) -> bool {
         let first: Vec<&str> = output.lines().step_by(script.setup.n).collect();
         let mut names = BTreeSet::new();
         for j in 0..script.setup.n {
             let bits: Vec<(bool, bool)> = first.iter().map(|line| health_and_view(line, j)).collect();
             names.extend(returns_of(&script.setup, &bits));
         }
-        for name in names {
+        for name in &names {
             self.count("return", name);
         }
+        names.contains("Q 1") || names.contains("Q 2 and above")
     }
 }
 
@@ -183,13 +208,21 @@ fn returns_of(setup: &Setup, bits: &[(bool, bool)]) -> Vec<&'static str> {
             }
             (true, true) => {
                 back = back.map(|rounds| rounds + 1);
-                names.extend((back == Some(setup.reward_limit)).then_some("cleared"));
+                names.extend((back.is_some() && back == cleared_after(setup)).then_some("cleared"));
             }
         }
         present = in_view;
     }
     names.extend((run > 0).then_some(if setup.return_limit == 0 { "Q 0, good but out" } else { "run unfinished" }));
     names
+}
+
+/// How many good rounds clear the counters of a module that has returned. A score is 0.0 then, and there is nothing to clear.
+fn cleared_after(setup: &Setup) -> Option<u32> {
+    match setup.limits {
+        Limits::Counts { reward, .. } => Some(reward),
+        Limits::Fading { .. } => None,
+    }
 }
 
 /// Whether the run keeps within the fault limit, and with what. A run that has left it stays out.
@@ -209,8 +242,7 @@ fn limit_name(script: &Script, output: &str) -> &'static str {
 /// What a script refused by 14 lacks.
 fn wanting(bytes: &[u8]) -> &'static str {
     let words = words_of(bytes).expect("14 has whole words");
-    let n = (words[0] & 31) as usize;
-    let mut at = n + 4;
+    let mut at = Form::of(&words).setup_length((words[0] & 31) as usize) + 1;
     if words.len() < at {
         return "cast";
     }

@@ -1,7 +1,9 @@
 //! Run scripts that are refused, each made of the words of an accepted one. At times they are
 //! refused by another number than the one named, where the accepted script has it so.
 
+use super::doubles::{put, wrong_factor, wrong_limit as no_limit};
 use super::Random;
+use crate::model::setup::Form;
 use crate::model::words::{bytes_of, only};
 
 /// 1 and 3: cut anywhere.
@@ -10,9 +12,9 @@ pub fn cut(random: &mut Random, mut bytes: Vec<u8>) -> Vec<u8> {
     bytes
 }
 
-/// 3: whole words, fewer than N+3.
+/// 3: whole words, fewer than the setup has.
 pub fn few_words(random: &mut Random, words: &[u32]) -> Vec<u8> {
-    bytes_of(&words[..1 + random.below(modules(words) + 2)])
+    bytes_of(&words[..1 + random.below(cast_at(words) - 1)])
 }
 
 /// 16, at times with a wrong bit in the first words.
@@ -51,7 +53,12 @@ fn modules(words: &[u32]) -> usize {
 }
 
 fn cast_at(words: &[u32]) -> usize {
-    modules(words) + 3
+    Form::of(words).setup_length(modules(words))
+}
+
+/// Where the word of module j stands.
+fn module_at(words: &[u32], j: usize) -> usize {
+    Form::of(words).first_module() + j - 1
 }
 
 /// 12: a second cast, or a word of a kind that runs do not have.
@@ -117,16 +124,36 @@ fn two_wrong_words(random: &mut Random, words: &mut Vec<u32>) {
     words.swap(at, first);
 }
 
-/// 4: a limit out of range, at times with a wrong module word behind it.
+/// 4, or 22 in its place: a limit out of range, at times with a wrong module word behind it.
 fn wrong_limit(random: &mut Random, words: &mut Vec<u32>) {
+    let module = module_at(words, random.between(1, modules(words) as u32) as usize);
+    match Form::of(words) {
+        Form::Counts => wrong_count(random, words),
+        Form::Fading => wrong_double(random, words),
+    }
+    if random.chance(1, 2) {
+        words[module] = random.word();
+    }
+}
+
+fn wrong_count(random: &mut Random, words: &mut [u32]) {
     let at = 1 + random.below(2);
     let kind = at as u32 + 1;
     let most = if at == 1 { 1_000_000 } else { 8_000_000 };
     words[at] = random.pick(&[kind << 28, kind << 28 | (most + 1), 5 << 28 | 1, words[at] | 1 << 27]);
-    if random.chance(1, 2) {
-        let word = random.word();
-        let module = 3 + random.below(modules(words));
-        words[module] = word;
+}
+
+/// A spare bit, another kind of word, which is 4, a double out of range, or both doubles.
+fn wrong_double(random: &mut Random, words: &mut [u32]) {
+    match random.below(8) {
+        0 | 1 => words[1] = 1 << random.below(28),
+        2 => words[1] = random.between(3, 15) << 28,
+        3 | 4 => put(words, 2, wrong_factor(random)),
+        5 | 6 => put(words, 4, no_limit(random)),
+        _ => {
+            put(words, 2, wrong_factor(random));
+            put(words, 4, no_limit(random));
+        }
     }
 }
 
@@ -135,7 +162,8 @@ fn wrong_mark(random: &mut Random, words: &mut Vec<u32>) {
     let n = modules(words) as u32;
     let j = if random.chance(1, 3) { 1 } else { random.between(1, n) };
     let place = if j == 1 { random.between(0, n) } else { random.between(j, n) };
-    words[j as usize + 2] = 4 << 28 | j << 23 | 1 << 22 | place << 17 | 1;
+    let at = module_at(words, j as usize);
+    words[at] = 4 << 28 | j << 23 | 1 << 22 | place << 17 | 1;
 }
 
 /// 5: one field of a module word just out of range.
@@ -144,7 +172,8 @@ fn wrong_module(random: &mut Random, words: &mut Vec<u32>) {
     let j = random.between(1, n);
     let (number, place, criticality) =
         random.pick(&[(j, n + 1, 1), (j, n, 0), (j, n, 100_001), (j % 16 + 1, n, 1), (0, n, 1)]);
-    words[j as usize + 2] = 4 << 28 | number << 23 | place << 17 | criticality;
+    let at = module_at(words, j as usize);
+    words[at] = 4 << 28 | number << 23 | place << 17 | criticality;
 }
 
 /// 2: a wrong head, in N, in the return limit, in a spare bit or in its kind, before a sound rest.

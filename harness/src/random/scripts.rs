@@ -1,10 +1,11 @@
 //! Run scripts: accepted ones, and refused ones for every number.
 
 use super::damage::{any_bytes, damaged};
+use super::doubles::{factor, lively_limit};
 use super::refused;
 use super::setups::{lively_setup, setup, setup_of};
 use super::Random;
-use crate::model::setup::Setup;
+use crate::model::setup::{Limits, Setup};
 use crate::model::words::{bytes_of, full, has};
 use crate::script::check::words;
 use crate::script::{Item, Script};
@@ -16,7 +17,7 @@ pub const WAYS: usize = 34;
 pub fn script_bytes(random: &mut Random, way: usize) -> Vec<u8> {
     let script = script(random);
     let all = words(&script);
-    let (setup, tail) = all.split_at(script.setup.n + 3);
+    let (setup, tail) = all.split_at(script.setup.length());
     match way {
         // Accepted.
         0..=5 => bytes_of(&all),
@@ -26,7 +27,7 @@ pub fn script_bytes(random: &mut Random, way: usize) -> Vec<u8> {
         8..=10 => damaged(random, &all),
         11 => [bytes_of(setup), damaged(random, tail)].concat(),
         12 => any_bytes(random),
-        // 2 to 6: a setup with something wrong, before a sound tail.
+        // 2 to 6 and 22: a setup with something wrong, before a sound tail.
         14 => [damaged(random, setup), bytes_of(tail)].concat(),
         // 1, 3 and 16: too few or too many bytes.
         13 => refused::cut(random, bytes_of(&all)),
@@ -145,7 +146,10 @@ fn careful_events(random: &mut Random, n: usize, cast: u32, items: &mut Vec<Item
 /// goes on, in the round in which it would return, or after it.
 pub fn returning_script(random: &mut Random) -> Script {
     let mut setup = lively_setup(random);
-    setup.penalty_limit = random.between(1, 3);
+    setup.limits = match setup.limits {
+        Limits::Counts { reward, .. } => Limits::Counts { penalty: random.between(1, 3), reward },
+        Limits::Fading { .. } => Limits::fading(factor(random), lively_limit(random)),
+    };
     setup.return_limit = random.pick(&[0, 1, 1, 2, 3, 3, 7, 40]);
     let n = setup.n;
     let cast = if random.chance(1, 4) { 1 << random.below(n) } else { 0 };
@@ -154,8 +158,8 @@ pub fn returning_script(random: &mut Random) -> Script {
     let mut items = Vec::new();
     for _ in 0..1 + random.below(3) {
         // One round more than it takes to leave, or one fewer.
-        let charges = setup.penalty_limit / setup.module(sender).criticality + random.between(0, 2);
-        for _ in 0..charges {
+        let needed = charges(&setup, sender);
+        for _ in 0..needed + random.between(0, 2) - 1 {
             items.extend([lost, Item::Play { rounds: 1 }]);
         }
         if random.chance(1, 4) {
@@ -168,6 +172,14 @@ pub fn returning_script(random: &mut Random) -> Script {
         }
     }
     Script { setup, cast, items }
+}
+
+/// How many charges one after the other make a fresh module leave.
+fn charges(setup: &Setup, j: usize) -> u32 {
+    match setup.limits {
+        Limits::Counts { penalty, .. } => penalty / setup.module(j).criticality + 1,
+        Limits::Fading { limit, .. } => limit.0.ceil() as u32,
+    }
 }
 
 /// An accepted script in which every read place is N, so that u is 0.

@@ -1,7 +1,8 @@
-//! Accepted setups: every N, both u, marks, limits at both ends, with modules that return and without.
+//! Accepted setups: every N, both u, marks, counts and fading, limits at both ends, with modules that return and without.
 
+use super::doubles::{factor, limit, lively_limit};
 use super::Random;
-use crate::model::setup::{Module, Setup};
+use crate::model::setup::{Limits, Module, Setup};
 use crate::model::words::MAX;
 
 pub fn setup(random: &mut Random) -> Setup {
@@ -13,8 +14,10 @@ pub fn setup(random: &mut Random) -> Setup {
 /// A setup whose limits are low, so that modules leave the view and return and counters clear often.
 pub fn lively_setup(random: &mut Random) -> Setup {
     let mut setup = setup(random);
-    setup.penalty_limit = random.between(1, 12);
-    setup.reward_limit = random.between(1, 6);
+    setup.limits = match setup.limits {
+        Limits::Counts { .. } => Limits::Counts { penalty: random.between(1, 12), reward: random.between(1, 6) },
+        Limits::Fading { .. } => Limits::fading(factor(random), lively_limit(random)),
+    };
     setup.return_limit = random.between(0, 5);
     for module in &mut setup.modules[..setup.n] {
         module.criticality = random.between(1, 3);
@@ -35,10 +38,18 @@ pub fn setup_of(random: &mut Random, n: usize, u: usize) -> Setup {
     }
     Setup {
         n,
-        penalty_limit: random.limit(1_000_000),
-        reward_limit: random.limit(8_000_000),
+        limits: limits(random),
         return_limit: if random.chance(1, 4) { 0 } else { random.limit(1_000_000) },
         modules,
+    }
+}
+
+/// Counts or fading, as often the one as the other.
+fn limits(random: &mut Random) -> Limits {
+    if random.chance(1, 2) {
+        Limits::Counts { penalty: random.limit(1_000_000), reward: random.limit(8_000_000) }
+    } else {
+        Limits::fading(factor(random), limit(random))
     }
 }
 

@@ -1,11 +1,12 @@
 //! Accepted states: made from fields, and reached by stepping.
 
+use super::doubles::{score_below, score_from};
 use super::reads::read;
 use super::Random;
-use crate::model::setup::Setup;
+use crate::model::setup::{Limits, Setup};
 use crate::model::state::{fresh, Entry, State};
 use crate::model::step::step;
-use crate::model::words::{only, MAX};
+use crate::model::words::{has, only, Double, MAX};
 
 /// A state made from fields within the limits of number 8.
 pub fn state(random: &mut Random, setup: &Setup) -> State {
@@ -16,37 +17,44 @@ pub fn state(random: &mut Random, setup: &Setup) -> State {
             *entry = Entry { heard: true, row: random.vector(n) };
         }
     }
-    let mut view = 0;
-    let mut penalty = [0; MAX];
-    let mut reward = [0; MAX];
-    let mut returns = [0; MAX];
+    let own = random.between(1, n as u32) as usize;
+    let mut state = State { previous, latest: random.vector(n), before: random.vector(n), view: 0, ..fresh(setup, own) };
     for j in 1..=n {
-        penalty[j - 1] = any_penalty(random, setup, j);
-        if penalty[j - 1] <= setup.penalty_limit {
-            view |= only(j);
-        } else {
-            returns[j - 1] = any_returns(random, setup);
+        match setup.limits {
+            Limits::Counts { penalty, reward } => any_counts(random, setup, &mut state, j, penalty, reward),
+            Limits::Fading { limit, .. } => any_score(random, &mut state, j, limit.0),
         }
-        if penalty[j - 1] > 0 {
-            reward[j - 1] = any_reward(random, setup);
+        if !has(state.view, j) {
+            state.returns[j - 1] = any_returns(random, setup);
         }
     }
-    State {
-        own: random.between(1, n as u32) as usize,
-        view,
-        previous,
-        latest: random.vector(n),
-        before: random.vector(n),
-        penalty,
-        reward,
-        returns,
+    state
+}
+
+/// Penalty, reward and view of module j.
+fn any_counts(random: &mut Random, setup: &Setup, state: &mut State, j: usize, p: u32, r: u32) {
+    let penalty = any_penalty(random, p, setup.module(j).criticality);
+    state.penalty[j - 1] = penalty;
+    if penalty <= p {
+        state.view |= only(j);
+    }
+    if penalty > 0 {
+        state.reward[j - 1] = any_reward(random, r);
+    }
+}
+
+/// Score and view of module j.
+fn any_score(random: &mut Random, state: &mut State, j: usize, limit: f64) {
+    let in_view = random.chance(2, 3);
+    let score = if in_view { score_below(random, limit) } else { score_from(random, limit) };
+    state.score[j - 1] = Double(score);
+    if in_view {
+        state.view |= only(j);
     }
 }
 
 /// 0..P + criticality.
-fn any_penalty(random: &mut Random, setup: &Setup, j: usize) -> u32 {
-    let limit = setup.penalty_limit;
-    let criticality = setup.module(j).criticality;
+fn any_penalty(random: &mut Random, limit: u32, criticality: u32) -> u32 {
     match random.below(9) {
         0 | 1 => 0,
         2 => limit,
@@ -60,8 +68,8 @@ fn any_penalty(random: &mut Random, setup: &Setup, j: usize) -> u32 {
 }
 
 /// 0..R-1.
-fn any_reward(random: &mut Random, setup: &Setup) -> u32 {
-    let most = setup.reward_limit - 1;
+fn any_reward(random: &mut Random, limit: u32) -> u32 {
+    let most = limit - 1;
     match random.below(5) {
         0 => 0,
         1 | 2 => most,

@@ -1,4 +1,4 @@
-//! Checking a run script: 16 first, then 1 to 6, then word by word 12, 13, 15, and 14 last.
+//! Checking a run script: 16 first, then 1 to 6 (22 in the place of 4), then word by word 12, 13, 15, and 14 last.
 
 use crate::model::setup::{read_setup, Holds, Setup};
 use crate::model::words::{full, has, kind, Amount, EventWord, Vector};
@@ -32,12 +32,12 @@ pub fn check(bytes: &[u8]) -> Result<Script, Refusal> {
     let count = words.len();
 
     // The cast stands first and nowhere else.
-    let at = n + 3;
+    let at = setup.length();
     if at == count {
         return Err(refusal(14, count));
     }
     let cast = read_cast(words[at], n).ok_or(refusal(12, at))?;
-    let items = read_items(&words, n, cast)?;
+    let items = read_items(&words, at + 1, n, cast)?;
 
     // A play stands last: without it there is none, or events wait for one.
     match items.last() {
@@ -46,11 +46,10 @@ pub fn check(bytes: &[u8]) -> Result<Script, Refusal> {
     }
 }
 
-/// The events and plays behind the cast.
-fn read_items(words: &[u32], n: usize, cast: u32) -> Result<Vec<Item>, Refusal> {
+/// The events and plays behind the cast, the first of them at `at`.
+fn read_items(words: &[u32], mut at: usize, n: usize, cast: u32) -> Result<Vec<Item>, Refusal> {
     let mut items = Vec::new();
     let mut rounds_in_all = 0;
-    let mut at = n + 4;
     while at < words.len() {
         let item = read_item(words, at, n, cast)?;
         if let Item::Play { rounds } = item {

@@ -4,7 +4,6 @@
 use super::backplane::{Event, Events};
 use crate::model::calls::{Answer, Functions};
 use crate::model::setup::Setup;
-use crate::model::state::image_length;
 use crate::model::words::{bytes_of, only};
 
 pub struct Images<'a> {
@@ -23,7 +22,7 @@ impl<'a> Images<'a> {
         let n = setup.n;
         let mut opened = Images { calls, n, images: Vec::new(), pages: Vec::new(), health: vec![0; n] };
         for own in 1..=n as u32 {
-            let mut image = vec![0; 4 * image_length(n)];
+            let mut image = vec![0; 4 * setup.image_length()];
             let mut page = vec![0; 64];
             accepted(calls.page_open(&bytes_of(&setup.words()), own, &mut image, &mut page))?;
             opened.images.push(image);

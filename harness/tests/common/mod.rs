@@ -10,6 +10,10 @@ use harness::script::run;
 pub const SHEET: [u32; 7] =
     [0x10000004, 0x20000001, 0x30000003, 0x40880001, 0x41080001, 0x41880001, 0x42080001];
 
+/// The sheet with fading, factor 1/2 and limit 2.0: the modules from word 6 on.
+pub const FADING_SHEET: [u32; 10] =
+    [0x10000004, 0, 0x3FE00000, 0, 0x40000000, 0, 0x40880001, 0x41080001, 0x41880001, 0x42080001];
+
 /// N = 3 with the limits of the sheet, all l = 3.
 pub const SHEET_OF_THREE: [u32; 6] = [0x10000003, 0x20000001, 0x30000003, 0x40860001, 0x41060001, 0x41860001];
 

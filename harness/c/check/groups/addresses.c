@@ -9,19 +9,19 @@
 #include "check/sizes.h"
 
 /* An accepted call: the arguments that op takes of those given. */
-static struct call accepted_call(enum op op, uint32_t n, const uint8_t *setup,
-                                 const uint8_t *image, const uint8_t *read,
-                                 uint32_t controller)
+static struct call accepted_call(enum op op, enum form form, uint32_t n,
+                                 const uint8_t *setup, const uint8_t *image,
+                                 const uint8_t *read, uint32_t controller)
 {
     int of_setup = op == SETUP || op == OPEN;
     int writes = op != SETUP && op != OUTGOING;
     struct call c = {.op = op, .read = read};
 
     c.in = of_setup ? setup : image;
-    c.in_len = of_setup ? PRESENCE_SETUP_BYTES(n) : PRESENCE_IMAGE_BYTES(n);
+    c.in_len = of_setup ? setup_bytes(form, n) : image_bytes(form, n);
     c.read_len = op == STEP ? PRESENCE_READ_BYTES(n) : 0;
     c.argument = op == OPEN ? n : controller;
-    c.out_len = writes ? PRESENCE_IMAGE_BYTES(n) : 0;
+    c.out_len = writes ? image_bytes(form, n) : 0;
     return c;
 }
 
@@ -42,22 +42,29 @@ static void call_at_all_addresses(const struct call *c)
             }
 }
 
+static void all_calls(enum form form, uint32_t n)
+{
+    uint8_t s[SETUP_MAX], image[IMAGE_MAX], read[PRESENCE_MAX_READ_BYTES];
+    struct call c;
+    uint32_t op, controller;
+
+    low_setup(form, s, n, 1);
+    lived_image(form, image, s, n, 1, 30);
+    for (op = SETUP; op <= OUTGOING; op++) {
+        controller = random_read(read, n, 4);
+        c = accepted_call((enum op)op, form, n, s, image, read, controller);
+        call_at_all_addresses(&c);
+    }
+}
+
 void group_addresses(void)
 {
-    uint8_t s[PRESENCE_MAX_SETUP_BYTES], image[IMAGE_MAX];
-    uint8_t read[PRESENCE_MAX_READ_BYTES];
-    struct call c;
-    uint32_t n, op, controller;
+    uint32_t n;
 
     begin_group("odd addresses");
     for (n = 2; n <= MAX_N; n += 7) {
-        random_setup(s, n, 1, 5, 3);
-        lived_image(image, s, n, 1, 30);
-        for (op = SETUP; op <= OUTGOING; op++) {
-            controller = random_read(read, n, 4);
-            c = accepted_call((enum op)op, n, s, image, read, controller);
-            call_at_all_addresses(&c);
-        }
+        all_calls(COUNTS, n);
+        all_calls(FADING, n);
     }
     end_group();
 }

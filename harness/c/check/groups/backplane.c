@@ -10,8 +10,8 @@ static void open_all(struct backplane *b)
     uint32_t n = b->n, i, j;
 
     for (i = 0; i < n; i++) {
-        open_module(b->setup, PRESENCE_SETUP_BYTES(n), i + 1,
-                    PRESENCE_IMAGE_BYTES(n), 0, 0, b->image[i]);
+        open_module(b->setup, setup_bytes(b->form, n), i + 1,
+                    image_bytes(b->form, n), 0, 0, b->image[i]);
         for (j = 0; j < n; j++)
             put(b->read[i], j, 0x50000000 | ones(n));
         b->controller[i] = ones(n);
@@ -21,7 +21,7 @@ static void open_all(struct backplane *b)
 /* Module i + 1 takes the word that its image hands out. */
 static void take_word(struct backplane *b, uint32_t i)
 {
-    b->word[i] = outgoing(b->image[i], PRESENCE_IMAGE_BYTES(b->n), 0, 0);
+    b->word[i] = outgoing(b->image[i], image_bytes(b->form, b->n), 0, 0);
 }
 
 /* Module j sends in round k. */
@@ -40,16 +40,16 @@ static void send_word(struct backplane *b, uint32_t k, uint32_t j)
 /* Those with read place l make their step of round k. */
 static void step_at(struct backplane *b, uint32_t k, uint32_t l)
 {
-    size_t len = PRESENCE_IMAGE_BYTES(b->n);
+    size_t len = image_bytes(b->form, b->n);
     uint32_t n = b->n, i, of_setup;
 
     for (i = 0; i < n; i++) {
-        of_setup = get(b->setup, 3 + i);
+        of_setup = get(b->setup, module_at(b->form, i + 1));
         if ((of_setup >> 17 & 0x1F) != l)
             continue;
         b->health[k][i] = step(b->image[i], len, b->read[i], 4 * n,
                                b->controller[i], len, 0, 0, b->image[i]);
-        b->view[k][i] = PRESENCE_VIEW(b->image[i], n);
+        b->view[k][i] = view_of(b->form, b->image[i], n);
         if (of_setup >> 22 & 1) /* with the mark */
             take_word(b, i);
     }

@@ -3,12 +3,14 @@
 #define CHECK_BACKPLANE_H
 
 #include "check/sizes.h"
+#include "check/words.h"
 
-#define ROUNDS 16 /* most rounds that are played */
+#define ROUNDS 24 /* most rounds that are played */
 
-/* A backplane; n, setup and silent are given.  Module j stands at j-1, round k
-   at k. */
+/* A backplane; form, n, setup and silent are given.  Module j stands at j-1,
+   round k at k. */
 struct backplane {
+    enum form form;
     uint32_t n;
     const uint8_t *setup;
     uint32_t silent[ROUNDS + 1][MAX_N]; /* receivers without j */

@@ -15,6 +15,7 @@ void group_image_lengths(void);
 void group_steps_refused(void);
 void group_starred(void);
 void group_returns(void);
+void group_fading(void);
 void group_renumbered(void);
 void group_lives(void);
 void group_nothing_kept(void);

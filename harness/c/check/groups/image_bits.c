@@ -23,15 +23,15 @@ static void all_of_image(struct call *c)
     both(c, &r);
 }
 
-static void turn_bits(uint8_t *image, uint32_t n, const uint8_t *read,
-                      uint32_t controller)
+static void turn_bits(uint8_t *image, size_t len, uint32_t n,
+                      const uint8_t *read, uint32_t controller)
 {
-    struct call c = {.in = image, .in_len = PRESENCE_IMAGE_BYTES(n),
-                     .read = read, .read_len = PRESENCE_READ_BYTES(n),
+    struct call c = {.in = image, .in_len = len, .read = read,
+                     .read_len = PRESENCE_READ_BYTES(n),
                      .argument = controller};
     uint32_t at, b, word;
 
-    for (at = 0; at < image_words(n); at++) {
+    for (at = 0; at < len / 4; at++) {
         word = get(image, at);
         for (b = 0; b < 32; b++) {
             put(image, at, word ^ 1u << b);
@@ -41,21 +41,26 @@ static void turn_bits(uint8_t *image, uint32_t n, const uint8_t *read,
     }
 }
 
+static void turn_bits_of(enum form form, uint32_t n, uint32_t u)
+{
+    uint8_t s[SETUP_MAX], image[IMAGE_MAX], read[PRESENCE_MAX_READ_BYTES];
+    uint32_t controller;
+
+    low_setup(form, s, n, u);
+    lived_image(form, image, s, n, 1 + below(n), 40);
+    controller = random_read(read, n, 6);
+    turn_bits(image, image_bytes(form, n), n, read, controller);
+}
+
 void group_image_bits(void)
 {
-    uint8_t s[PRESENCE_MAX_SETUP_BYTES], image[IMAGE_MAX];
-    uint8_t read[PRESENCE_MAX_READ_BYTES];
-    uint32_t n, u, p, r, controller;
+    uint32_t n, u;
 
     begin_group("single bits of images");
     for (n = 2; n <= MAX_N; n++)
         for (u = 0; u < 2; u++) {
-            r = 2 + below(6);
-            p = 1 + below(12);
-            random_setup(s, n, u, p, r);
-            lived_image(image, s, n, 1 + below(n), 40);
-            controller = random_read(read, n, 6);
-            turn_bits(image, n, read, controller);
+            turn_bits_of(COUNTS, n, u);
+            turn_bits_of(FADING, n, u);
         }
     end_group();
 }

@@ -10,58 +10,117 @@
 #include "check/sizes.h"
 #include "check/words.h"
 
-/* Modules outside the view that counted a round or came back. */
-static unsigned long counted, returned;
+/* By form, modules outside the view that counted a round or came back, and
+   modules that left. */
+static unsigned long counted[2], returned[2], left[2];
+
+/* What a step made of module j, its health there and what it was before. */
+struct course {
+    const uint8_t *setup, *old, *image;
+    enum form form;
+    uint32_t n, j, healthy;
+};
+
+static uint32_t in_view(const struct course *c, const uint8_t *image)
+{
+    return view_of(c->form, image, c->n) >> (c->j - 1) & 1;
+}
+
+static uint64_t score_bits(const struct course *c, const uint8_t *image)
+{
+    return bits_of(get_double(image, score_at(c->n, c->j)));
+}
+
+/* What is counted of a module outside the view that does, or does not, come
+   back. */
+static void counters_follow(const struct course *c, uint32_t returns)
+{
+    uint32_t n = c->n, j = c->j;
+
+    if (c->form == FADING) {
+        same("score of one out", score_bits(c, c->image),
+             returns ? bits_of(0.0) : score_bits(c, c->old));
+        return;
+    }
+    same("penalty of one out", get(c->image, penalty_at(n, j)),
+         returns ? penalty_word(j, get(c->setup, 1) & 0x0FFFFFFF)
+                 : get(c->old, penalty_at(n, j)));
+    same("reward of one out", get(c->image, reward_at(n, j)),
+         returns ? reward_word(j, 0) : get(c->old, reward_at(n, j)));
+}
 
 /* E6 of document 02 without plain.c, for a module that the step found outside
    the view: it counts good rounds, and at the Q-th it is back. */
-static void outside_follows(const uint8_t *setup, uint32_t n, uint32_t j,
-                            const uint8_t *old, const uint8_t *image,
-                            uint32_t healthy)
+static void outside_follows(const struct course *c)
 {
-    uint32_t q = get(setup, 0) >> 8 & 0xFFFFF;
-    uint32_t count = (get(old, returns_at(n, j)) & 0xFFFFF) + 1;
-    uint32_t returns = healthy && count == q;
+    uint32_t q = get(c->setup, 0) >> 8 & 0xFFFFF;
+    uint32_t at = returns_at(c->form, c->n, c->j);
+    uint32_t count = (get(c->old, at) & 0xFFFFF) + 1;
+    uint32_t returns = c->healthy && count == q;
 
-    same("back in the view", PRESENCE_VIEW(image, n) >> (j - 1) & 1, returns);
-    same("penalty of one out", get(image, penalty_at(n, j)),
-         returns ? penalty_word(j, get(setup, 1) & 0x0FFFFFFF)
-                 : get(old, penalty_at(n, j)));
-    same("reward of one out", get(image, reward_at(n, j)),
-         returns ? reward_word(j, 0) : get(old, reward_at(n, j)));
-    same("count of one out", get(image, returns_at(n, j)),
-         returns_word(j, healthy && count < q ? count : 0));
-    counted += healthy && count < q;
-    returned += returns;
+    same("back in the view", in_view(c, c->image), returns);
+    counters_follow(c, returns);
+    same("count of one out", get(c->image, at),
+         returns_word(c->j, c->healthy && count < q ? count : 0));
+    counted[c->form] += c->healthy && count < q;
+    returned[c->form] += returns;
+}
+
+/* E9 of document 02 without plain.c, for a module that the step found in the
+   view: 1.0 more or times the factor, and out of it from the limit on. */
+static void score_follows(const struct course *c)
+{
+    double score = get_double(c->old, score_at(c->n, c->j));
+
+    score = c->healthy ? score * get_double(c->setup, 2) : score + 1.0;
+    same("score of one in", score_bits(c, c->image), bits_of(score));
+    same("score by presence_score", score_bits(c, c->image),
+         bits_of(presence_score(c->image, c->n, c->j)));
+    same("in the view below the limit", in_view(c, c->image),
+         score < get_double(c->setup, 4));
+}
+
+static void module_follows(const struct course *c)
+{
+    if (!in_view(c, c->old)) {
+        outside_follows(c);
+        return;
+    }
+    if (c->form == FADING)
+        score_follows(c);
+    same("count of one in", get(c->image, returns_at(c->form, c->n, c->j)),
+         returns_word(c->j, 0));
+    left[c->form] += !in_view(c, c->image);
 }
 
 /* What follows from documents 01 and 02 without plain.c, for the images before
    and after a step. */
-static void step_follows(const uint8_t *setup, uint32_t n, uint32_t own,
-                         const uint8_t *old, const uint8_t *image,
+static void step_follows(enum form form, const uint8_t *setup, uint32_t n,
+                         uint32_t own, const uint8_t *old, const uint8_t *image,
                          uint32_t health)
 {
-    uint32_t j;
+    struct course c = {.setup = setup, .old = old, .image = image,
+                       .form = form, .n = n};
 
     same("health bits at N or above", health & ~ones(n), 0);
-    if (memcmp(image, setup, PRESENCE_SETUP_BYTES(n)) != 0)
+    if (memcmp(image, setup, setup_bytes(form, n)) != 0)
         differ("setup in the image", 1, 0);
-    same("own number in the image", get(image, own_at(n)) >> 16, 0xA000 | own);
-    same("syndrome before", get(image, before_at(n)), get(old, latest_at(n)));
-    for (j = 1; j <= n; j++)
-        if (PRESENCE_VIEW(old, n) >> (j - 1) & 1)
-            same("count of one in", get(image, returns_at(n, j)),
-                 returns_word(j, 0));
-        else
-            outside_follows(setup, n, j, old, image, health >> (j - 1) & 1);
+    same("own number in the image", get(image, own_at(form, n)) >> 16,
+         0xA000 | own);
+    same("syndrome before", get(image, before_at(form, n)),
+         get(old, latest_at(form, n)));
+    for (c.j = 1; c.j <= n; c.j++) {
+        c.healthy = health >> (c.j - 1) & 1;
+        module_follows(&c);
+    }
 }
 
 /* Rule 7: the latest syndrome, with the mark the one before. */
-static void word_follows(const uint8_t *setup, uint32_t n, uint32_t own,
-                         const uint8_t *image, uint32_t word)
+static void word_follows(enum form form, const uint8_t *setup, uint32_t n,
+                         uint32_t own, const uint8_t *image, uint32_t word)
 {
-    uint32_t mark = get(setup, 2 + own) >> 22 & 1;
-    uint32_t at = mark ? before_at(n) : latest_at(n);
+    uint32_t mark = get(setup, module_at(form, own)) >> 22 & 1;
+    uint32_t at = mark ? before_at(form, n) : latest_at(form, n);
 
     same("word handed out", word, 0x50000000 | (get(image, at) & 0xFFFF));
 }
@@ -77,17 +136,30 @@ static void restart(uint8_t *image, size_t len)
     memcpy(image, r.out, len);
 }
 
-static void life(uint32_t n, uint32_t u, uint32_t style, uint32_t steps)
+/* From limits by which nearly every charge strikes off to those by which none
+   does. */
+static void setup_of_style(enum form form, uint8_t *setup, uint32_t n,
+                           uint32_t u, uint32_t style)
 {
     static const uint32_t p_of[] = {1, 20, 3000, 1000000};
     static const uint32_t r_of[] = {1, 3, 50, 8000000};
-    uint8_t s[PRESENCE_MAX_SETUP_BYTES], read[PRESENCE_MAX_READ_BYTES];
-    uint8_t image[IMAGE_MAX], old[IMAGE_MAX];
-    size_t len = PRESENCE_IMAGE_BYTES(n);
+    static const double limit_of[] = {1.0, 2.7, 20.0, 1000000.0};
+    uint32_t r = r_of[below(4)];
+
+    if (form == FADING)
+        random_fading_setup(setup, n, u, random_factor(), limit_of[style % 4]);
+    else
+        random_setup(setup, n, u, p_of[style % 4], r);
+}
+
+static void life(enum form form, const uint8_t *setup, uint32_t n,
+                 uint32_t steps)
+{
+    uint8_t read[PRESENCE_MAX_READ_BYTES], image[IMAGE_MAX], old[IMAGE_MAX];
+    size_t len = image_bytes(form, n);
     uint32_t own = 1 + below(n), k, controller, health, word, faults = 0;
 
-    random_setup(s, n, u, p_of[style % 4], r_of[below(4)]);
-    open_module(s, PRESENCE_SETUP_BYTES(n), own, len, 0, 0, image);
+    open_module(setup, setup_bytes(form, n), own, len, 0, 0, image);
     word = outgoing(image, len, 0, 0);
     for (k = 1; k <= steps; k++) {
         if (k % 16 == 1)
@@ -99,9 +171,9 @@ static void life(uint32_t n, uint32_t u, uint32_t style, uint32_t steps)
             put(read, own - 1, word); /* the module's own word */
         memcpy(old, image, len);
         health = step(image, len, read, 4 * n, controller, len, 0, 0, image);
-        step_follows(s, n, own, old, image, health);
+        step_follows(form, setup, n, own, old, image, health);
         word = outgoing(image, len, 0, 0);
-        word_follows(s, n, own, image, word);
+        word_follows(form, setup, n, own, image, word);
 
         if (below(8) == 0)
             restart(image, len);
@@ -111,16 +183,25 @@ static void life(uint32_t n, uint32_t u, uint32_t style, uint32_t steps)
     }
 }
 
-void group_lives(void)
+static void lives_of(enum form form)
 {
+    uint8_t setup[SETUP_MAX];
     uint32_t n, u, style;
 
-    begin_group("lives");
     for (n = 2; n <= MAX_N; n++)
         for (u = 0; u < 2; u++)
-            for (style = 0; style < 4; style++)
-                life(n, u, style, 300);
-    if (counted < 1000 || returned < 1000)
-        differ("modules that came back", returned, 1000);
+            for (style = 0; style < 4; style++) {
+                setup_of_style(form, setup, n, u, style);
+                life(form, setup, n, 300);
+            }
+    if (counted[form] < 1000 || returned[form] < 1000 || left[form] < 1000)
+        differ("modules that came back", returned[form], 1000);
+}
+
+void group_lives(void)
+{
+    begin_group("lives");
+    lives_of(COUNTS);
+    lives_of(FADING);
     end_group();
 }

@@ -1,6 +1,6 @@
 /*
- * nothing_kept.c - two modules in turn, each step made twice: nothing is kept
- * between calls.
+ * nothing_kept.c - modules of both forms in turn, each step made twice:
+ * nothing is kept between calls.
  */
 #include "check/groups/groups.h"
 
@@ -31,26 +31,28 @@ static void step_twice(const struct call *c, const struct call *between,
 
 void group_nothing_kept(void)
 {
-    uint8_t s[2][PRESENCE_MAX_SETUP_BYTES], image[2][IMAGE_MAX];
-    uint8_t read[2][PRESENCE_MAX_READ_BYTES];
-    struct call c[2];
-    uint32_t n[2] = {16, 3}, i, k;
+    static const uint32_t n[] = {16, 3, 16, 5};
+    static const enum form form[] = {COUNTS, COUNTS, FADING, FADING};
+    uint8_t s[COUNT(n)][SETUP_MAX], image[COUNT(n)][IMAGE_MAX];
+    uint8_t read[COUNT(n)][PRESENCE_MAX_READ_BYTES];
+    struct call c[COUNT(n)];
+    uint32_t i, k;
     size_t len;
 
     begin_group("nothing kept");
-    for (i = 0; i < 2; i++) {
-        len = PRESENCE_IMAGE_BYTES(n[i]);
-        random_setup(s[i], n[i], i, 20, 3);
-        open_module(s[i], PRESENCE_SETUP_BYTES(n[i]), 2, len, 0, 0, image[i]);
+    for (i = 0; i < COUNT(n); i++) {
+        len = image_bytes(form[i], n[i]);
+        low_setup(form[i], s[i], n[i], i % 2);
+        open_module(s[i], setup_bytes(form[i], n[i]), 2, len, 0, 0, image[i]);
         c[i] = (struct call){.op = STEP, .in = image[i], .in_len = len,
                              .read = read[i],
                              .read_len = PRESENCE_READ_BYTES(n[i]),
                              .out_len = len};
     }
     for (k = 0; k < 300; k++)
-        for (i = 0; i < 2; i++) {
+        for (i = 0; i < COUNT(n); i++) {
             c[i].argument = random_read(read[i], n[i], 4);
-            step_twice(&c[i], k > 0 ? &c[1 - i] : NULL, image[i]);
+            step_twice(&c[i], k > 0 ? &c[(i + 1) % COUNT(n)] : NULL, image[i]);
         }
     end_group();
 }

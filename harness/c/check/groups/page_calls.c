@@ -21,13 +21,13 @@ uint32_t host(enum op op, uint8_t *page, size_t page_len, uint32_t offset,
     return r.reply.value;
 }
 
-void open_paged(const uint8_t *setup, uint32_t n, uint32_t own,
+void open_paged(enum form form, const uint8_t *setup, uint32_t n, uint32_t own,
                 size_t page_len, uint32_t number, uint8_t *image,
                 uint8_t *page)
 {
     struct call c = {.op = PAGE_OPEN, .in = setup,
-                     .in_len = PRESENCE_SETUP_BYTES(n), .argument = own,
-                     .out_len = PRESENCE_IMAGE_BYTES(n), .page = page,
+                     .in_len = setup_bytes(form, n), .argument = own,
+                     .out_len = image_bytes(form, n), .page = page,
                      .page_len = page_len};
     struct result r;
 
@@ -39,15 +39,15 @@ void open_paged(const uint8_t *setup, uint32_t n, uint32_t own,
     }
 }
 
-uint32_t step_paged(uint32_t n, uint8_t *image, const uint8_t *read,
-                    uint32_t controller, uint8_t *page, size_t page_len,
-                    uint32_t number)
+uint32_t step_paged(enum form form, uint32_t n, uint8_t *image,
+                    const uint8_t *read, uint32_t controller, uint8_t *page,
+                    size_t page_len, uint32_t number)
 {
     struct call c = {.op = PAGE_STEP, .in = image,
-                     .in_len = PRESENCE_IMAGE_BYTES(n), .read = read,
+                     .in_len = image_bytes(form, n), .read = read,
                      .read_len = PRESENCE_READ_BYTES(n),
                      .argument = controller,
-                     .out_len = PRESENCE_IMAGE_BYTES(n), .page = page,
+                     .out_len = image_bytes(form, n), .page = page,
                      .page_len = page_len};
     struct result r;
 

@@ -3,6 +3,7 @@
 #define CHECK_PAGE_CALLS_H
 
 #include "check/call.h"
+#include "check/words.h"
 
 /* The host's call, which must answer number; returns the word. */
 uint32_t host(enum op op, uint8_t *page, size_t page_len, uint32_t offset,
@@ -10,15 +11,15 @@ uint32_t host(enum op op, uint8_t *page, size_t page_len, uint32_t offset,
 
 /* Opening with a page, which may hold any bytes before it; it must answer
    number.  Image and page are written if it is accepted. */
-void open_paged(const uint8_t *setup, uint32_t n, uint32_t own,
+void open_paged(enum form form, const uint8_t *setup, uint32_t n, uint32_t own,
                 size_t page_len, uint32_t number, uint8_t *image,
                 uint8_t *page);
 
 /* A step with a page, which must answer number; returns the health vector.
    Image and page are those after it if it is accepted. */
-uint32_t step_paged(uint32_t n, uint8_t *image, const uint8_t *read,
-                    uint32_t controller, uint8_t *page, size_t page_len,
-                    uint32_t number);
+uint32_t step_paged(enum form form, uint32_t n, uint8_t *image,
+                    const uint8_t *read, uint32_t controller, uint8_t *page,
+                    size_t page_len, uint32_t number);
 
 void random_page(uint8_t *page, size_t len);
 

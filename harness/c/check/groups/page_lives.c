@@ -10,6 +10,9 @@
 #include "check/sizes.h"
 #include "check/words.h"
 
+/* Steps that changed the view. */
+static unsigned long changes;
+
 /* The cause of module j + 1 in a read by what the header says of it. */
 static uint32_t cause(uint32_t n, const uint8_t *read, uint32_t controller,
                       uint32_t j)
@@ -25,15 +28,18 @@ static uint32_t cause(uint32_t n, const uint8_t *read, uint32_t controller,
 }
 
 /* A step with a page by what the header says of it. */
-static void page_follows(uint32_t n, uint8_t *image, const uint8_t *read,
-                         uint32_t controller, uint8_t *page)
+static void page_follows(enum form form, uint32_t n, uint8_t *image,
+                         const uint8_t *read, uint32_t controller,
+                         uint8_t *page)
 {
     uint8_t old[PRESENCE_PAGE_BYTES];
-    uint32_t found = PRESENCE_VIEW(image, n), words[8] = {0}, j;
+    uint32_t found = view_of(form, image, n), words[8] = {0}, j;
 
     memcpy(old, page, sizeof old);
-    words[0] = step_paged(n, image, read, controller, page, sizeof old, 0);
-    words[1] = PRESENCE_VIEW(image, n);
+    words[0] = step_paged(form, n, image, read, controller, page, sizeof old,
+                          0);
+    words[1] = view_of(form, image, n);
+    changes += words[1] != found;
     words[2] = get(old, 2) | (words[1] != get(old, 1));
     for (j = 0; j < n; j++)
         if ((found >> j & 1) == 1 && (words[0] >> j & 1) == 0)
@@ -48,19 +54,19 @@ static void page_follows(uint32_t n, uint8_t *image, const uint8_t *read,
              cause(n, read, controller, j - 1));
 }
 
-static void page_life(uint32_t n, uint32_t u, uint32_t steps)
+static void page_life(enum form form, uint32_t n, uint32_t u, uint32_t steps)
 {
-    uint8_t s[PRESENCE_MAX_SETUP_BYTES], read[PRESENCE_MAX_READ_BYTES];
+    uint8_t s[SETUP_MAX], read[PRESENCE_MAX_READ_BYTES];
     uint8_t image[IMAGE_MAX], page[PRESENCE_PAGE_BYTES];
     uint32_t controller, k, flags;
 
     random_page(page, sizeof page);
-    random_setup(s, n, u, 20, 3);
-    open_paged(s, n, 1 + below(n), sizeof page, 0, image, page);
+    low_setup(form, s, n, u);
+    open_paged(form, s, n, 1 + below(n), sizeof page, 0, image, page);
     host(PAGE_WRITE, page, sizeof page, PRESENCE_PAGE_ENABLE, below(4), 0);
     for (k = 0; k < steps; k++) {
         controller = random_read(read, n, below(9));
-        page_follows(n, image, read, controller, page);
+        page_follows(form, n, image, read, controller, page);
         flags = host(PAGE_READ, page, sizeof page, PRESENCE_PAGE_FLAGS, 0, 0);
         same("interrupt", host(INTERRUPT, page, sizeof page, 0, 0, 0),
              (flags & get(page, 3)) != 0);
@@ -69,9 +75,9 @@ static void page_life(uint32_t n, uint32_t u, uint32_t steps)
         if (below(8) == 0)
             random_page(page, sizeof page);
         if (below(4) == 0) /* refused steps between */
-            step_paged(n, image, read, 1u << n, page, sizeof page, 10);
+            step_paged(form, n, image, read, 1u << n, page, sizeof page, 10);
         if (below(4) == 0)
-            step_paged(n, image, read, 1u << n, page, below(64), 9);
+            step_paged(form, n, image, read, 1u << n, page, below(64), 9);
     }
 }
 
@@ -81,7 +87,11 @@ void group_page_lives(void)
 
     begin_group("lives with a page");
     for (n = 2; n <= MAX_N; n++)
-        for (u = 0; u < 2; u++)
-            page_life(n, u, 300);
+        for (u = 0; u < 2; u++) {
+            page_life(COUNTS, n, u, 300);
+            page_life(FADING, n, u, 300);
+        }
+    if (changes < 1000)
+        differ("steps that changed the view", changes, 1000);
     end_group();
 }

@@ -12,6 +12,7 @@
 
 /* Module j gets the number number[j - 1]. */
 struct renumbering {
+    enum form form;
     uint32_t n;
     uint32_t number[MAX_N];
 };
@@ -19,10 +20,11 @@ struct renumbering {
 /* Modules seen to leave the view and to come back. */
 static unsigned long left, returned;
 
-static void any_numbers(struct renumbering *r, uint32_t n)
+static void any_numbers(struct renumbering *r, enum form form, uint32_t n)
 {
     uint32_t i, j, taken;
 
+    r->form = form;
     r->n = n;
     for (i = 0; i < n; i++)
         r->number[i] = i + 1;
@@ -60,25 +62,40 @@ static void move_read(uint8_t *to, const struct renumbering *r,
         put(to, r->number[j - 1] - 1, moved(r, get(from, j - 1)));
 }
 
+/* What is counted of module j is counted of module i then. */
+static void move_counters(uint8_t *to, const struct renumbering *r,
+                          const uint8_t *from, uint32_t j, uint32_t i)
+{
+    uint32_t n = r->n;
+
+    if (r->form == FADING) {
+        memcpy(to + 4 * score_at(n, i), from + 4 * score_at(n, j), 8);
+    } else {
+        put(to, penalty_at(n, i), numbered(get(from, penalty_at(n, j)), i));
+        put(to, reward_at(n, i), numbered(get(from, reward_at(n, j)), i));
+    }
+    put(to, returns_at(r->form, n, i),
+        numbered(get(from, returns_at(r->form, n, j)), i));
+}
+
 /* The setup stands in front of the image and goes with it. */
 static void move_image(uint8_t *to, const struct renumbering *r,
                        const uint8_t *from)
 {
-    uint32_t n = r->n, own = get(from, own_at(n)), j, i;
+    enum form f = r->form;
+    uint32_t n = r->n, own = get(from, own_at(f, n)), j, i;
 
-    memcpy(to, from, 12); /* head and limits */
-    put(to, own_at(n), own_word(r->number[(own >> 16 & 31) - 1],
-                                moved(r, own & 0xFFFF)));
-    put(to, latest_at(n), moved(r, get(from, latest_at(n))));
-    put(to, before_at(n), moved(r, get(from, before_at(n))));
+    memcpy(to, from, 4 * module_at(f, 1)); /* head and limits */
+    put(to, own_at(f, n), own_word(r->number[(own >> 16 & 31) - 1],
+                                   moved(r, own & 0xFFFF)));
+    put(to, latest_at(f, n), moved(r, get(from, latest_at(f, n))));
+    put(to, before_at(f, n), moved(r, get(from, before_at(f, n))));
     for (j = 1; j <= n; j++) {
         i = r->number[j - 1];
-        put(to, 2 + i, numbered(get(from, 2 + j), i));
-        put(to, previous_at(n, i),
-            numbered(moved(r, get(from, previous_at(n, j))), i));
-        put(to, penalty_at(n, i), numbered(get(from, penalty_at(n, j)), i));
-        put(to, reward_at(n, i), numbered(get(from, reward_at(n, j)), i));
-        put(to, returns_at(n, i), numbered(get(from, returns_at(n, j)), i));
+        put(to, module_at(f, i), numbered(get(from, module_at(f, j)), i));
+        put(to, previous_at(f, n, i),
+            numbered(moved(r, get(from, previous_at(f, n, j))), i));
+        move_counters(to, r, from, j, i);
     }
 }
 
@@ -86,59 +103,63 @@ static void image_is(const struct renumbering *r, const uint8_t *image,
                      const uint8_t *rebuilt)
 {
     uint8_t wanted[IMAGE_MAX];
+    size_t len = image_bytes(r->form, r->n);
     uint32_t at;
 
     move_image(wanted, r, image);
-    for (at = 0; at < image_words(r->n); at++)
+    for (at = 0; at < len / 4; at++)
         same("word of a renumbered image", get(rebuilt, at), get(wanted, at));
-    same("word handed out, renumbered",
-         outgoing(rebuilt, PRESENCE_IMAGE_BYTES(r->n), 0, 0),
-         moved(r, outgoing(image, PRESENCE_IMAGE_BYTES(r->n), 0, 0)));
+    same("word handed out, renumbered", outgoing(rebuilt, len, 0, 0),
+         moved(r, outgoing(image, len, 0, 0)));
 }
 
 /* Makes the same steps of a module and of the module that it became. */
-static void two_lives(uint32_t n, uint32_t p, uint32_t steps)
+static void two_lives(enum form form, const uint8_t *setup, uint32_t n,
+                      uint32_t steps)
 {
-    uint8_t setup[PRESENCE_MAX_SETUP_BYTES];
     uint8_t read[PRESENCE_MAX_READ_BYTES], read_then[PRESENCE_MAX_READ_BYTES];
     uint8_t image[IMAGE_MAX], rebuilt[IMAGE_MAX];
-    size_t len = PRESENCE_IMAGE_BYTES(n);
+    size_t setup_len = setup_bytes(form, n), len = image_bytes(form, n);
     uint32_t own = 1 + below(n), faults = 0, k, controller, health, view;
     struct renumbering r;
 
-    any_numbers(&r, n);
-    random_setup(setup, n, 0, p, 1 + below(5));
-    open_module(setup, PRESENCE_SETUP_BYTES(n), own, len, 0, 0, image);
+    any_numbers(&r, form, n);
+    fresh_image(form, image, setup, n, own); /* if the opening is refused */
+    open_module(setup, setup_len, own, len, 0, 0, image);
     move_image(rebuilt, &r, image);
-    open_module(rebuilt, PRESENCE_SETUP_BYTES(n), r.number[own - 1], len, 0, 0,
-                rebuilt);
+    open_module(rebuilt, setup_len, r.number[own - 1], len, 0, 0, rebuilt);
     image_is(&r, image, rebuilt);
     for (k = 0; k < steps; k++) {
         if (k % 16 == 0)
             faults = below(9);
         controller = random_read(read, n, faults);
         move_read(read_then, &r, read);
-        view = PRESENCE_VIEW(image, n);
+        view = view_of(form, image, n);
         health = step(image, len, read, 4 * n, controller, len, 0, 0, image);
         same("health, renumbered",
              step(rebuilt, len, read_then, 4 * n, moved(&r, controller), len, 0,
                   0, rebuilt),
              moved(&r, health));
         image_is(&r, image, rebuilt);
-        left += (view & ~PRESENCE_VIEW(image, n)) != 0;
-        returned += (~view & PRESENCE_VIEW(image, n)) != 0;
+        left += (view & ~view_of(form, image, n)) != 0;
+        returned += (~view & view_of(form, image, n)) != 0;
     }
 }
 
 void group_renumbered(void)
 {
     static const uint32_t p_of[] = {1, 20, 3000, 100000};
+    uint8_t setup[SETUP_MAX];
     uint32_t n, i;
 
     begin_group("renumbered racks");
     for (n = 2; n <= MAX_N; n++)
-        for (i = 0; i < 8; i++)
-            two_lives(n, p_of[i % 4], 100);
+        for (i = 0; i < 8; i++) {
+            random_setup(setup, n, 0, p_of[i % 4], 1 + below(5));
+            two_lives(COUNTS, setup, n, 100);
+            low_setup(FADING, setup, n, 0);
+            two_lives(FADING, setup, n, 100);
+        }
     if (left < 100 || returned < 100)
         differ("modules that left and came back", left, returned);
     end_group();

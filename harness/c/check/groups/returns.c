@@ -27,7 +27,7 @@ static void returning_setup(uint8_t *setup, uint32_t n, uint32_t u, uint32_t q)
     make_setup(setup, n, P, R, 1);
     put(setup, 0, head_word(n, q));
     for (j = 1; u == 1 && j <= n; j++)
-        put(setup, 2 + j, module_word(j, j > 1, j - 1, 1));
+        put(setup, module_at(COUNTS, j), module_word(j, j > 1, j - 1, 1));
 }
 
 /* Plays with module N unheard in rounds 1 and 2, and in round r if r is not
@@ -69,7 +69,7 @@ static void counters_are(const struct backplane *b, uint32_t penalty,
              penalty_word(n, penalty));
         same("reward", get(b->image[i], reward_at(n, n)),
              reward_word(n, reward));
-        same("return count", get(b->image[i], returns_at(n, n)),
+        same("return count", get(b->image[i], returns_at(COUNTS, n, n)),
              returns_word(n, count));
     }
 }
@@ -134,7 +134,7 @@ void group_returns(void)
 {
     static const uint32_t limits[] = {1, 2, 5};
     static struct backplane b;
-    uint8_t setup[PRESENCE_MAX_SETUP_BYTES];
+    uint8_t setup[SETUP_MAX];
     uint32_t n, u, i;
 
     begin_group("modules that come back");

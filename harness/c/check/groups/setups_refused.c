@@ -1,4 +1,4 @@
-/* setups_refused.c - setups with a wrong word: answers 2, 4, 5 and 6. */
+/* setups_refused.c - setups with a wrong word: answers 2, 4, 5, 6 and 22. */
 #include "check/groups/groups.h"
 
 #include <string.h>
@@ -14,20 +14,20 @@
  * opening, and in an image by step, saving and outgoing word, always with the
  * same number and index.
  */
-static void refused_setup(const uint8_t *setup, uint32_t n, uint32_t number,
-                          uint32_t index)
+static void refused_setup(enum form form, const uint8_t *setup, uint32_t n,
+                          uint32_t number, uint32_t index)
 {
-    uint8_t good[PRESENCE_MAX_SETUP_BYTES], image[IMAGE_MAX];
+    uint8_t good[SETUP_MAX], image[IMAGE_MAX];
     uint8_t read[PRESENCE_MAX_READ_BYTES];
-    size_t setup_len = PRESENCE_SETUP_BYTES(n);
-    size_t image_len = PRESENCE_IMAGE_BYTES(n);
+    size_t setup_len = setup_bytes(form, n);
+    size_t image_len = image_bytes(form, n);
 
     check_setup(setup, setup_len, number, index);
     open_module(setup, setup_len, 1, image_len, number, index, NULL);
     /* Own number and output wrong too: the lower number counts. */
     open_module(setup, setup_len, 0, 7, number, index, NULL);
 
-    usual_setup(good, n);
+    usual_setup(form, good, n);
     open_module(good, setup_len, 1, image_len, 0, 0, image);
     memcpy(image, setup, setup_len);
     memset(read, 0, sizeof read);
@@ -41,58 +41,104 @@ static void refused_setup(const uint8_t *setup, uint32_t n, uint32_t number,
 }
 
 /* The usual setup with one word replaced, which is named. */
-static void refused_setup_word(uint8_t *setup, uint32_t n, uint32_t at,
-                               uint32_t word, uint32_t number)
+static void refused_setup_word(enum form form, uint8_t *setup, uint32_t n,
+                               uint32_t at, uint32_t word, uint32_t number)
 {
-    usual_setup(setup, n);
+    usual_setup(form, setup, n);
     put(setup, at, word);
-    refused_setup(setup, n, number, at);
+    refused_setup(form, setup, n, number, at);
 }
 
 /* 2 */
-static void heads_refused(uint32_t n)
+static void heads_refused(enum form form, uint32_t n)
 {
     static const uint32_t heads[] = {
         0x10000000, 0x10000001, 0x10000011, 0x1000001F, 0x10000024, 0x10000044,
         0x10000084, 0x100003E4, 0x00000004, 0x20000004, 0x90000004, 0xF0000004,
         0xFFFFFFFF, 0x1F424104, 0x1F800004, 0x1FFFFF04
     };
-    uint8_t s[PRESENCE_MAX_SETUP_BYTES];
+    uint8_t s[SETUP_MAX];
     uint32_t i;
 
     for (i = 0; i < COUNT(heads); i++)
-        refused_setup_word(s, n, 0, heads[i], 2);
+        refused_setup_word(form, s, n, 0, heads[i], 2);
 }
 
 /* 4 at word 1, at word 2, at both */
 static void limits_refused(uint32_t n)
 {
     static const uint32_t penalty_limits[] = {
-        0x20000000, 0x200F4241, 0x2FFFFFFF, 0x28000001, 0x30000005, 0x00000005,
+        0x20000000, 0x200F4241, 0x2FFFFFFF, 0x28000001, 0x30000005, 0x10000005,
         0xA0000005
     };
     static const uint32_t reward_limits[] = {
         0x30000000, 0x307A1201, 0x3FFFFFFF, 0x38000001, 0x20000005, 0x40000005,
         0xB0000005
     };
-    uint8_t s[PRESENCE_MAX_SETUP_BYTES];
+    uint8_t s[SETUP_MAX];
     uint32_t i;
 
     for (i = 0; i < COUNT(penalty_limits); i++) {
-        refused_setup_word(s, n, 1, penalty_limits[i], 4);
+        refused_setup_word(COUNTS, s, n, 1, penalty_limits[i], 4);
         put(s, 2, 0x30000000);
         put(s, 3, 0);
-        refused_setup(s, n, 4, 1);
+        refused_setup(COUNTS, s, n, 4, 1);
     }
     for (i = 0; i < COUNT(reward_limits); i++) {
-        refused_setup_word(s, n, 2, reward_limits[i], 4);
+        refused_setup_word(COUNTS, s, n, 2, reward_limits[i], 4);
         put(s, 3, module_word(1, 1, n, 1));
-        refused_setup(s, n, 4, 2);
+        refused_setup(COUNTS, s, n, 4, 2);
     }
 }
 
+/* The usual setup with a double replaced, which is named at its high half;
+   what comes after it may be wrong too. */
+static void refused_double(uint32_t n, uint32_t at, uint64_t bits)
+{
+    uint8_t s[SETUP_MAX];
+
+    usual_setup(FADING, s, n);
+    put_double(s, at, of_bits(bits));
+    refused_setup(FADING, s, n, 22, at);
+    memset(s + 4 * (at + 2), 0xFF, setup_bytes(FADING, n) - 4 * (at + 2));
+    refused_setup(FADING, s, n, 22, at);
+}
+
+/* 22: bits of word 1, alone and with all that follows wrong; doubles that are
+   refused as a factor and as a limit, and those out of one range alone. */
+static void fading_refused(uint32_t n)
+{
+    const uint64_t never[] = {
+        0x8000000000000000, 0x8000000000000001, /* minus zero, the next */
+        bits_of(-0.5), bits_of(-1.0), bits_of(-1e300),
+        0x7FF0000000000000, 0xFFF0000000000000, /* infinite */
+        0x7FF8000000000000, 0xFFF8000000000000, /* no number */
+        0x7FF0000000000001, 0xFFF0000000000001, 0x7FF4000000000000,
+        0x7FFFFFFFFFFFFFFF, 0xFFFFFFFFFFFFFFFF,
+        bits_of(1000000.0) + 1, bits_of(1e300)
+    };
+    const uint64_t no_factor[] = {
+        bits_of(1.0) + 1, bits_of(1.5), bits_of(2.0), bits_of(1000000.0)
+    };
+    uint8_t s[SETUP_MAX];
+    uint32_t b, i;
+
+    for (b = 0; b < 28; b++) {
+        refused_setup_word(FADING, s, n, 1, 1u << b, 22);
+        memset(s + 8, 0xFF, setup_bytes(FADING, n) - 8);
+        refused_setup(FADING, s, n, 22, 1);
+    }
+    for (i = 0; i < COUNT(never); i++) {
+        refused_double(n, 2, never[i]);
+        refused_double(n, 4, never[i]);
+    }
+    for (i = 0; i < COUNT(no_factor); i++)
+        refused_double(n, 2, no_factor[i]);
+    refused_double(n, 4, bits_of(0.0));
+}
+
 /* 5 at module j */
-static void module_words_refused(uint32_t n, uint32_t j)
+static void module_words_refused(enum form form, uint32_t n, uint32_t j)
 {
     const uint32_t wrong[] = {
         module_word(j, 0, n + 1, 1), /* l over N */
@@ -104,48 +150,58 @@ static void module_words_refused(uint32_t n, uint32_t j)
         module_word(j, 1, 31, 131071),
         0
     };
-    uint8_t s[PRESENCE_MAX_SETUP_BYTES];
-    uint32_t i;
+    uint8_t s[SETUP_MAX];
+    uint32_t at = module_at(form, j), i;
 
     for (i = 0; i < COUNT(wrong); i++) {
-        refused_setup_word(s, n, 2 + j, wrong[i], 5);
+        refused_setup_word(form, s, n, at, wrong[i], 5);
         /* A second one further on: the first is named. */
-        put(s, 2 + n, 0);
-        refused_setup(s, n, 5, 2 + j);
+        put(s, module_at(form, n), 0);
+        refused_setup(form, s, n, 5, at);
         /* A wrong mark before it: 5 goes before 6. */
         if (j > 1) {
-            put(s, 3, module_word(1, 1, 0, 1));
-            refused_setup(s, n, 5, 2 + j);
+            put(s, module_at(form, 1), module_word(1, 1, 0, 1));
+            refused_setup(form, s, n, 5, at);
         }
     }
 }
 
 /* 6 at module j */
-static void marks_refused(uint32_t n, uint32_t j)
+static void marks_refused(enum form form, uint32_t n, uint32_t j)
 {
-    uint8_t s[PRESENCE_MAX_SETUP_BYTES];
-    uint32_t l;
+    uint8_t s[SETUP_MAX];
+    uint32_t at = module_at(form, j), l;
 
     /* Every l that is the own number or more; every l at module 1. */
     for (l = j == 1 ? 0 : j; l <= n; l++)
-        refused_setup_word(s, n, 2 + j, module_word(j, 1, l, 1), 6);
+        refused_setup_word(form, s, n, at, module_word(j, 1, l, 1), 6);
     /* Two wrong marks: the first is named. */
-    put(s, 2 + n, module_word(n, 1, n, 1));
-    refused_setup(s, n, 6, 2 + j);
+    put(s, module_at(form, n), module_word(n, 1, n, 1));
+    refused_setup(form, s, n, 6, at);
+}
+
+/* What both forms have. */
+static void words_refused(enum form form, uint32_t n)
+{
+    uint32_t j;
+
+    heads_refused(form, n);
+    for (j = 1; j <= n; j++) {
+        module_words_refused(form, n, j);
+        marks_refused(form, n, j);
+    }
 }
 
 void group_setups_refused(void)
 {
-    uint32_t n, j;
+    uint32_t n;
 
     begin_group("setups refused");
     for (n = 2; n <= MAX_N; n++) {
-        heads_refused(n);
         limits_refused(n);
-        for (j = 1; j <= n; j++) {
-            module_words_refused(n, j);
-            marks_refused(n, j);
-        }
+        fading_refused(n);
+        words_refused(COUNTS, n);
+        words_refused(FADING, n);
     }
     end_group();
 }

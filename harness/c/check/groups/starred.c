@@ -83,7 +83,7 @@ static void starred_two_charges(struct backplane *b, const uint8_t *sheet)
 /* Send marks on 2, 3 and 4, so u = 1. */
 static void starred_marks(struct backplane *b)
 {
-    uint8_t marks[PRESENCE_MAX_SETUP_BYTES];
+    uint8_t marks[SETUP_MAX];
 
     make_setup(marks, 4, 1, 3, 1);
     put(marks, 3, module_word(1, 0, 0, 1));
@@ -165,7 +165,7 @@ static void starred_heard(uint8_t *image)
 void group_starred(void)
 {
     static struct backplane b;
-    uint8_t sheet[PRESENCE_MAX_SETUP_BYTES], image[IMAGE_MAX];
+    uint8_t sheet[SETUP_MAX], image[IMAGE_MAX];
 
     begin_group("starred cases");
     make_setup(sheet, 4, 1, 3, 1);

@@ -1,99 +1,110 @@
--- A setup that passes is read, its module opened, and the fresh state written.
-use mathlib.Core.Path.{ap, _∙_, sym}
-use Prim.Native.Nat.{ℕ}
-use Rattle.setup.specs.declared.Setup.{Setup}
+-- The setup, the own number and the length are tested; then its words are copied, and those of a fresh module written after them.
+use native.Mathlib.Omega.{arith}
+use mathlib.Core.Path.{_≡_, ap, _∙_, sym}
+use Prim.Native.Nat.{ℕ, _≤_}
+use Rattle.words.specs.declared.Verdict.{Verdict}
+use Rattle.setup.specs.Layout.{frontWords}
 use Rattle.image.specs.Layout.{imageLength}
-use Rattle.presence.specs.Opening.{openOf}
-use Rattle.presence.proofs.SmallLaws.{valid-setup, valid-roomy}
-use Rattle.presence.proofs.StateStepLaws.{open-passed}
+use Rattle.presence.proofs.StateRoundLaws.{is-between}
+use Rattle.image.proofs.SectionLaws.{accounts-written}
 use Rattle.calls.specs.declared.Answer.{Answer}
 use Rattle.calls.specs.Calls.{called}
-use Rattle.calls.proofs.ModuleCallLaws.{setup-verdict, setup-read, opened-valid, opened-most, opened-size, room-is, room-not, open-bad-setup, open-refused-call, open-no-room, open-wrote}
+use Rattle.calls.proofs.ModuleCallLaws.{open-bad-setup}
+use Rattle.calls.proofs.ImageOpenLaws.{fits, full-small, rows-small, zeros-small, open-seven, open-nine, open-made}
 use borrow.Author.Needs.{needs}
 use Rattle.calls.proofs.calls.presence_open.Statement.{statement}
 use Rattle.calls.proofs.calls.presence_open.Tie as tie
 
-read-requires : tie.Need-read-requires
-read-requires c κs = search needs
-
-refuse-requires : tie.Need-refuse-requires
-refuse-requires c κs = search needs
-
 returns : tie.Need-returns
 returns c =
     let a = c .before .before .before .before .before .before .args in
-    ap (λ (x : Answer). called x (a .out .now)) (c .refuse .ensures)
-    ∙ open-bad-setup _ _ _ (setup-verdict _ (c .before .before .before .read .ensures)) (c .before .if1 .taken)
+    ap (λ (x : Answer). called x (a .out .now)) (c .refuse .ensures) ∙ open-bad-setup _ _ _ (c .before .before .before .check .ensures) (c .before .if1 .taken)
 
-open-requires : tie.Need-open-requires
-open-requires c κs = search needs
+size-at-requires : tie.Need-size-at-requires
+size-at-requires c κs = fits _ (ap (λ (x : Verdict). x .number) (sym (c .before .before .check .ensures)) ∙ (c .if1 .left)) .front .room
 
-refuse-requires-2 : tie.Need-refuse-requires-2
-refuse-requires-2 c κs = search needs
+fades-at-requires : tie.Need-fades-at-requires
+fades-at-requires c κs = fits _ (ap (λ (x : Verdict). x .number) (sym (c .before .before .before .check .ensures)) ∙ (c .before .if1 .left)) .front .whole
 
 returns-2 : tie.Need-returns-2
 returns-2 c =
-    let e = c .before .before .before .before .before .before .before .read .ensures in
-    let z = c .before .before .before .before .before .if1 .left in
     let a = c .before .before .before .before .before .before .before .before .before .before .args in
-    ap (λ (x : Answer). called x (a .out .now)) (c .refuse2 .ensures)
-    ∙ open-refused-call _ _ _ (setup-verdict _ e) z (c .before .before .before .«open» .ensures ∙ ap (λ (s : Setup). openOf s (a .own)) (setup-read _ e z)) (c .before .if2 .taken)
+    open-seven _ (ap (λ (x : Verdict). x .number) (sym (c .before .before .before .before .before .before .before .check .ensures)) ∙ (c .before .before .before .before .before .if1 .left)) (a .own) (a .out .now) (c .before .before .before .before .size-at .ensures) (c .before .if2 .taken) (c .refuse2 .ensures)
 
 image-length-requires : tie.Need-image-length-requires
-image-length-requires c κs = opened-most _ _ (c .before .before .before .«open» .ensures) (c .before .if2 .left)
-
-refuse-requires-3 : tie.Need-refuse-requires-3
-refuse-requires-3 c κs = search needs
+image-length-requires c κs =
+    let few = fits _ (ap (λ (x : Verdict). x .number) (sym (c .before .before .before .before .before .before .check .ensures)) ∙ (c .before .before .before .before .if1 .left)) .front .most in
+    ((c .before .front-words .ensures .2), omega (arith, (c .before .before .before .size-at .ensures)))
 
 returns-3 : tie.Need-returns-3
 returns-3 c =
-    let e = c .before .before .before .before .before .before .before .before .before .before .read .ensures in
-    let z = c .before .before .before .before .before .before .before .before .if1 .left in
-    let a = c .before .before .before .before .before .before .before .before .before .before .before .before .before .args in
-    let o = c .before .before .before .before .before .before .«open» .ensures in
-    let n = c .before .before .before .before .if2 .left in
-    let l = c .before .before .image-length .ensures in
-    ap (λ (x : Answer). called x (a .out .now)) (c .refuse3 .ensures)
-    ∙ open-no-room _ _ _ (setup-verdict _ e) z (o ∙ ap (λ (s : Setup). openOf s (a .own)) (setup-read _ e z)) n
-    (room-not _ (a .out .now) (opened-size _ _ o n) (rw l at (c .before .if3 .taken)))
+    let a = c .before .before .before .before .before .before .before .before .before .before .before .before .args in
+    let l = (c .before .before .image-length .ensures) in
+    open-nine _ (ap (λ (x : Verdict). x .number) (sym (c .before .before .before .before .before .before .before .before .before .check .ensures)) ∙ (c .before .before .before .before .before .before .before .if1 .left)) (a .own) (a .out .now) (c .before .before .before .before .before .before .size-at .ensures) (c .before .before .before .if2 .left) (c .before .before .before .before .before .fades-at .ensures) (c .before .before .before .before .front-words .ensures .0) (rw l at (c .before .if3 .taken)) (c .refuse3 .ensures)
 
-save-words-requires : tie.Need-save-words-requires
-save-words-requires c κs =
-    let o = c .before .before .before .before .before .before .«open» .ensures in
-    let n = c .before .before .before .before .if2 .left in
-    let v = opened-valid _ _ o n in
-    (valid-setup _ v, valid-roomy _ v, c .before .if3 .left ∙ c .before .before .image-length .ensures ∙ ap imageLength (sym (opened-size _ _ o n)))
+filled-requires : tie.Need-filled-requires
+filled-requires c κs =
+    let few = fits _ (ap (λ (x : Verdict). x .number) (sym (c .before .before .before .before .before .before .before .before .before .check .ensures)) ∙ (c .before .before .before .before .before .before .before .if1 .left)) .front .most in
+    omega (arith, (c .before .before .before .before .before .before .size-at .ensures))
 
-refuse-requires-4 : tie.Need-refuse-requires-4
-refuse-requires-4 c κs = search needs
+copy-words-requires : tie.Need-copy-words-requires
+copy-words-requires c κs =
+    let b = fits _ (ap (λ (x : Verdict). x .number) (sym (c .before .before .before .before .before .before .before .before .before .before .before .before .check .ensures)) ∙ (c .before .before .before .before .before .before .before .before .before .before .if1 .left)) in
+    let n = (c .before .before .before .before .before .before .before .before .before .size-at .ensures) in
+    let e = c .before .setup-words .ensures in
+    let l = (c .before .before .before .before .if3 .left) ∙ (c .before .before .before .before .before .image-length .ensures) in
+    let f = (c .before .before .before .before .before .before .before .front-words .ensures .0) ∙ ap frontWords (c .before .before .before .before .before .before .before .before .fades-at .ensures) in
+    (omega (arith, b .size), omega arith)
 
-same-length : tie.Need-same-length
-same-length c = search needs
+save-sections-requires : tie.Need-save-sections-requires
+save-sections-requires c κs =
+    let b = fits _ (ap (λ (x : Verdict). x .number) (sym (c .before .before .before .before .before .before .before .before .before .before .before .before .before .before .before .before .before .check .ensures)) ∙ (c .before .before .before .before .before .before .before .before .before .before .before .before .before .before .before .if1 .left)) in
+    let few : c .before .before .before .before .before .before .before .before .before .before .before .before .before .before .size-at .result ≤ 16 = omega (arith, b .front .most, (c .before .before .before .before .before .before .before .before .before .before .before .before .before .before .size-at .ensures)) in
+    let inside = is-between 1 (c .before .before .before .before .before .before .before .before .before .before .before .before .before .before .size-at .result) (c .before .before .before .before .before .before .before .before .before .before .before .before .before .before .before .before .before .before .before .before .args .own) (c .before .before .before .before .before .before .before .before .before .before .before .if2 .left) in
+    let v = c .before .before .before .before .before .before .before .before .full-of .ensures in
+    let small = full-small _ few v in
+    let l = (c .before .before .before .before .before .before .before .before .before .if3 .left) ∙ (c .before .before .before .before .before .before .before .before .before .before .image-length .ensures) ∙ ap (λ (x : ℕ). imageLength x (c .before .before .before .before .before .before .before .before .before .before .before .before .before .before .size-at .result)) (c .before .before .before .before .before .before .before .before .before .before .before .before .front-words .ensures .0) in
+    ((few, c .before .before .before .before .copy-words .kept .1 .1 .0 ∙ l, omega (arith, inside .1), small, small, small), rows-small _ few v (c .before .before .before .before .before .before .before .filled .ensures))
+
+save-accounts-requires : tie.Need-save-accounts-requires
+save-accounts-requires c κs =
+    let b = fits _ (ap (λ (x : Verdict). x .number) (sym (c .before .before .before .before .before .before .before .before .before .before .before .before .before .before .before .before .before .before .before .before .before .before .before .before .check .ensures)) ∙ (c .before .before .before .before .before .before .before .before .before .before .before .before .before .before .before .before .before .before .before .before .before .before .if1 .left)) in
+    let few : c .before .before .before .before .before .before .before .before .before .before .before .before .before .before .before .before .before .before .before .before .before .size-at .result ≤ 16 = omega (arith, b .front .most, (c .before .before .before .before .before .before .before .before .before .before .before .before .before .before .before .before .before .before .before .before .before .size-at .ensures)) in
+    let l = (c .before .before .before .before .before .before .before .before .before .before .before .before .before .before .before .before .if3 .left) ∙ (c .before .before .before .before .before .before .before .before .before .before .before .before .before .before .before .before .before .image-length .ensures) ∙ ap (λ (x : ℕ). imageLength x (c .before .before .before .before .before .before .before .before .before .before .before .before .before .before .before .before .before .before .before .before .before .size-at .result)) (c .before .before .before .before .before .before .before .before .before .before .before .before .before .before .before .before .before .before .before .front-words .ensures .0) in
+    (few, c .before .before .before .before .before .before .save-sections .kept .1 .1 .1 .1 .1 .1 .1 .1 .0 ∙ c .before .before .before .before .before .before .before .before .before .before .before .copy-words .kept .1 .1 .0 ∙ l, zeros-small (c .before .before .before .before .before .before .before .before .before .before .before .before .before .before .before .before .before .before .before .before .fades-at .result) _ few)
 
 returns-4 : tie.Need-returns-4
 returns-4 c =
-    let e = c .before .before .before .before .before .before .before .before .before .before .before .before .before .before .read .ensures in
-    let z = c .before .before .before .before .before .before .before .before .before .before .before .before .if1 .left in
-    let a = c .before .before .before .before .before .before .before .before .before .before .before .before .before .before .before .before .before .args in
-    let o = c .before .before .before .before .before .before .before .before .before .before .«open» .ensures in
-    let n = c .before .before .before .before .before .before .before .before .if2 .left in
-    open-wrote _ _ _ (setup-verdict _ e) z (o ∙ ap (λ (s : Setup). openOf s (a .own)) (setup-read _ e z)) (c .refuse4 .ensures) n
-    (room-is _ (a .out .now) (opened-size _ _ o n) (c .before .before .before .before .before .if3 .left ∙ c .before .before .before .before .before .before .image-length .ensures)) (c .before .before .before .save-words .ensures)
+    let s = c .before .before .before .before .before .before .before .before .before .before .before .before .before .before .before .before .before .before .before .before .before .before .before .before .before .before .before .before .before .before .before in
+    let l = (c .before .before .before .before .before .before .before .before .before .before .before .before .before .before .before .before .before .before .before .before .if3 .left) ∙ (c .before .before .before .before .before .before .before .before .before .before .before .before .before .before .before .before .before .before .before .before .before .image-length .ensures) in
+    let v = c .before .before .before .before .before .before .before .before .before .before .before .before .before .before .before .before .before .before .before .full-of .result in
+    let both = accounts-written (c .before .before .before .before .before .before .before .before .before .before .before .before .before .before .before .before .before .before .before .before .before .before .before .before .fades-at .result) (c .before .before .before .before .before .before .before .before .before .before .before .before .before .before .before .before .before .before .before .before .before .before .before .before .before .size-at .result) (s .args .own) v
+    (record { heard = v; rows = c .before .before .before .before .before .before .before .before .before .before .before .before .before .before .before .before .before .before .filled .result }) v v _ _ _ _ (c .before .before .before .before .before .before .before .before .before .before .save-sections .ensures) (c .before .before .before .save-accounts .ensures)
+    in
+    open-made _ (ap (λ (x : Verdict). x .number) (sym (c .before .before .before .before .before .before .before .before .before .before .before .before .before .before .before .before .before .before .before .before .before .before .before .before .before .before .before .before .check .ensures)) ∙ (c .before .before .before .before .before .before .before .before .before .before .before .before .before .before .before .before .before .before .before .before .before .before .before .before .before .before .if1 .left)) (s .args .own) (s .args .out .now) (c .before .before .before .before .before .before .before .before .before .before .before .before .before .before .before .before .before .before .before .before .before .before .before .before .before .size-at .ensures) (c .before .before .before .before .before .before .before .before .before .before .before .before .before .before .before .before .before .before .before .before .before .before .if2 .left) (c .before .before .before .before .before .before .before .before .before .before .before .before .before .before .before .before .before .before .before .before .before .before .before .before .fades-at .ensures) (c .before .before .before .before .before .before .before .before .before .before .before .before .before .before .before .before .before .before .before .before .before .before .before .front-words .ensures .0)
+    (λ i. omega (arith, c .before .before .before .before .before .before .before .before .before .before .before .before .before .before .before .before .before .before .before .before .before .before .before .before .before .before .before .before .before .before .shared-slice-known .given i)) l (c .before .before .before .before .before .before .before .before .before .before .before .before .before .before .before .before .before .before .before .full-of .ensures) (c .before .before .before .before .before .before .before .before .before .before .before .before .before .before .before .before .before .before .filled .ensures) (c .before .before .before .before .before .before .before .before .before .before .before .before .before .before .before .before .before .setup-words .ensures) (c .before .before .before .before .before .before .before .before .before .before .before .before .before .before .before .copy-words .ensures) both (c .refuse4 .ensures)
 
 pub presence-open-spec : {M : Type 1} → statement M
 presence-open-spec =
     tie.close
     (tie.spec
-    read-requires
-    refuse-requires
+    (λ c κs. search needs)
+    (λ c κs. search needs)
     returns
-    open-requires
-    refuse-requires-2
+    size-at-requires
+    fades-at-requires
+    (λ c κs. search needs)
+    (λ c κs. search needs)
     returns-2
     image-length-requires
-    refuse-requires-3
+    (λ c κs. search needs)
     returns-3
-    save-words-requires
-    refuse-requires-4
-    same-length
+    (λ c κs. search needs)
+    filled-requires
+    (λ c κs. search needs)
+    copy-words-requires
+    save-sections-requires
+    save-accounts-requires
+    (λ c κs. search needs)
+    (λ c. search needs)
     returns-4)

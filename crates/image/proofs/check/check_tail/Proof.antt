@@ -1,42 +1,73 @@
 -- The sections in their turn.
 use Rattle.image.proofs.SectionLaws.{tail-joined}
+use mathlib.Core.Path.{_≡_, _∙_, ap, sym}
+use mathlib.Core.Bool.{Bool}
+use Rattle.setup.specs.Layout.{frontWords}
+use Prim.Native.Nat.{ℕ}
+use native.Mathlib.Omega.{arith}
+use Rattle.image.specs.Layout.{imageLength}
 use borrow.Author.Needs.{needs}
 use Rattle.image.proofs.check.check_tail.Statement.{statement}
 use Rattle.image.proofs.check.check_tail.Tie as tie
 
+-- the length, by the number of words before those of the modules
+by-front : {front k : ℕ} (b : Bool) (n : ℕ) → front ≡ frontWords b → k ≡ imageLength (frontWords b) n → k ≡ imageLength front n
+by-front b n e h = h ∙ ap (λ (x : ℕ). imageLength x n) (sym e)
+
+front-words-requires : tie.Need-front-words-requires
+front-words-requires c κs = search needs
+
 check-own-requires : tie.Need-check-own-requires
-check-own-requires c κs = search needs
+check-own-requires c κs =
+    let f = c .front-words .ensures in
+    let s = c .before .before in
+    (f .2, s .pre .0, by-front (s .args .fades) (s .args .n) (f .0) (s .pre .1))
 
 rows-at-requires : tie.Need-rows-at-requires
-rows-at-requires c κs = search needs
+rows-at-requires c κs = (c .before .front-words .ensures .2, c .before .before .before .pre .0)
 
 then-section-requires : tie.Need-then-section-requires
-then-section-requires c κs = search needs
+then-section-requires c κs =
+    let f = c .before .before .front-words .ensures in
+    let s = c .before .before .before .before in
+    let e = c .rows-at .ensures in
+    (f .2, s .pre .0, by-front (s .args .fades) (s .args .n) (f .0) (s .pre .1), f .1, omega arith, omega arith)
 
 latest-at-requires : tie.Need-latest-at-requires
-latest-at-requires c κs = search needs
+latest-at-requires c κs = (c .before .before .before .front-words .ensures .2, c .before .before .before .before .before .pre .0)
 
 then-syndrome-requires : tie.Need-then-syndrome-requires
-then-syndrome-requires c κs = search needs
+then-syndrome-requires c κs =
+    let f = c .before .before .before .before .front-words .ensures in
+    let s = c .before .before .before .before .before .before in
+    let e = c .latest-at .ensures in
+    (f .2, s .pre .0, by-front (s .args .fades) (s .args .n) (f .0) (s .pre .1), omega arith)
 
 earlier-at-requires : tie.Need-earlier-at-requires
-earlier-at-requires c κs = search needs
+earlier-at-requires c κs = (c .before .before .before .before .before .front-words .ensures .2, c .before .before .before .before .before .before .before .pre .0)
 
 then-syndrome-requires-2 : tie.Need-then-syndrome-requires-2
-then-syndrome-requires-2 c κs = search needs
+then-syndrome-requires-2 c κs =
+    let f = c .before .before .before .before .before .before .front-words .ensures in
+    let s = c .before .before .before .before .before .before .before .before in
+    let e = c .earlier-at .ensures in
+    (f .2, s .pre .0, by-front (s .args .fades) (s .args .n) (f .0) (s .pre .1), omega arith)
 
-then-counters-requires : tie.Need-then-counters-requires
-then-counters-requires c κs = search needs
+then-accounts-requires : tie.Need-then-accounts-requires
+then-accounts-requires c κs = c .before .before .before .before .before .before .before .before .before .pre
 
 returns : tie.Need-returns
 returns c =
-    tail-joined _ _ (c .before .before .before .before .before .before .before .check-own .ensures) (c .before .before .before .before .before .before .rows-at .ensures) (c .before .before .before .before .before .then-section .ensures) (c .before .before .before .before .latest-at .ensures)
-    (c .before .before .before .then-syndrome .ensures) (c .before .before .earlier-at .ensures) (c .before .then-syndrome2 .ensures) (c .then-counters .ensures)
+    let b = c .before .before .before .before in
+    let a = b .before .before .before in
+    tail-joined _ _ _ (a .before .front-words .ensures .0) (a .check-own .ensures) (b .before .before .rows-at .ensures) (b .before .then-section .ensures)
+    (b .latest-at .ensures) (c .before .before .before .then-syndrome .ensures) (c .before .before .earlier-at .ensures) (c .before .then-syndrome2 .ensures) (c .then-accounts .ensures)
 
 pub check-tail-spec : {M : Type 1} → statement M
 check-tail-spec =
     tie.close
     (tie.spec
+    front-words-requires
     check-own-requires
     rows-at-requires
     then-section-requires
@@ -44,5 +75,5 @@ check-tail-spec =
     then-syndrome-requires
     earlier-at-requires
     then-syndrome-requires-2
-    then-counters-requires
+    then-accounts-requires
     returns)

@@ -17,9 +17,9 @@ returns c =
     let a = b .before .before in
     let t = a .before .before .before .args in
     let w = wordAt (t .s .now) in
-    let p = then-tested (t .n) penalties (a .before .penalties-at .ensures) w _ _ (none-tested (t .v)) (a .then-section .ensures) refl in
-    let r = then-tested (t .n) rewards (b .before .rewards-at .ensures) w _ _ p (b .then-section2 .ensures) refl in
-    then-tested (t .n) returnCounts (c .before .returns-at .ensures) w _ _ r (c .then-section3 .ensures) refl
+    let p = then-tested 3 (t .n) penalties (a .before .accounts-at .ensures) w _ _ (none-tested (t .v)) (a .then-section .ensures) refl in
+    let r = then-tested 3 (t .n) rewards (b .before .rewards-at .ensures) w _ _ p (b .then-section2 .ensures) refl in
+    then-tested 3 (t .n) returnCounts (c .before .returns-at .ensures) w _ _ r (c .then-section3 .ensures) refl
 
 pub then-counters-spec : {M : Type 1} → statement M
 then-counters-spec =

@@ -20,7 +20,7 @@ accept-requires c κs = search needs
 returns-2 : tie.Need-returns-2
 returns-2 c =
     let a = c .before .before .before .before .before .before .args in
-    search-none _ (each (a .n) (wordTest (wordAt (a .s .now)) (a .n) (a .kind) (a .at)) 8 (a .at)) (c .before .before .before .if1 .left) (c .before .before .wrong-word .ensures .0) (c .before .if2 .taken) (c .accept .ensures)
+    search-none _ (each (a .n) (wordTest (wordAt (a .s .now)) (a .front) (a .n) (a .kind) (a .at)) 8 (a .at)) (c .before .before .before .if1 .left) (c .before .before .wrong-word .ensures .0) (c .before .if2 .taken) (c .accept .ensures)
 
 add-refusal : tie.Need-add-refusal
 add-refusal c = search needs
@@ -37,7 +37,7 @@ refusal-requires c κs = search needs
 returns-3 : tie.Need-returns-3
 returns-3 c =
     let a = c .before .before .before .before .before .before .args in
-    search-found _ (each (a .n) (wordTest (wordAt (a .s .now)) (a .n) (a .kind) (a .at)) 8 (a .at)) (c .before .before .before .if1 .left) (c .before .before .wrong-word .ensures .0) (c .before .if2 .left) refl (c .refusal .ensures)
+    search-found _ (each (a .n) (wordTest (wordAt (a .s .now)) (a .front) (a .n) (a .kind) (a .at)) 8 (a .at)) (c .before .before .before .if1 .left) (c .before .before .wrong-word .ensures .0) (c .before .if2 .left) refl (c .refusal .ensures)
 
 pub then-section-spec : {M : Type 1} → statement M
 then-section-spec =

@@ -1,7 +1,5 @@
 -- The answer so far, or that of the word.
-use native.Mathlib.Omega.{arith}
 use mathlib.Core.Path.{ap, _∙_, refl}
-use Rattle.words.specs.Verdict.{single}
 use Rattle.words.proofs.SearchLaws.{search-skipped}
 use Rattle.image.specs.Words.{syndromeOk}
 use Rattle.image.proofs.SectionLaws.{word-passes, word-fails}

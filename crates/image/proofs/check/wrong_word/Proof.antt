@@ -11,10 +11,10 @@ use Rattle.image.proofs.check.wrong_word.Statement.{statement}
 use Rattle.image.proofs.check.wrong_word.Tie as tie
 
 abbrev Inv-loop : tie.InvT-loop
-Inv-loop s n kind at j₀ j = (j ≤ n) × (lowest j (λ k. not (wordTest (wordAt s) n kind at k)) ≡ 0)
+Inv-loop s front n kind at j₀ j = (j ≤ n) × (lowest j (λ k. not (wordTest (wordAt s) front n kind at k)) ≡ 0)
 
 abbrev μ-loop : tie.MeasureT-loop
-μ-loop s n kind at j₀ j = n - j
+μ-loop s front n kind at j₀ j = n - j
 
 loop-holds : tie.Need-loop-holds Inv-loop μ-loop
 unfolding lowest
@@ -23,7 +23,7 @@ loop-holds c = (omega arith, refl)
 word-right-requires : tie.Need-word-right-requires Inv-loop μ-loop
 word-right-requires c κs =
     let a = c .before .before .before .pre in
-    (a .0, a .1, a .2, a .3, omega arith)
+    (a .0, a .1, a .2, a .3, a .4, a .5, omega arith)
 
 add-result : tie.Need-add-result Inv-loop μ-loop
 add-result c = omega arith

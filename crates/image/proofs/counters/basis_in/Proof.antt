@@ -16,10 +16,10 @@ returns c =
     let k = v .before .before in
     let l = k .before .before .before in
     let t = l .before .before .before .args in
-    basis-by (wordAt (t .s .now)) (t .n) (t .j) (l .before .limit-in .ensures) (l .limit-in2 .ensures)
+    basis-by (wordAt (t .s .now)) (t .front) (t .n) (t .j) (l .before .limit-in .ensures) (l .limit-in2 .ensures)
     (k .before .field .ensures ∙ ap returnLimitIn (k .before .before .word-at .ensures)) (k .criticality-in .ensures)
     (v .bit-at .ensures ∙ ap (λ (x : ℕ). bit x (t .j)) (v .before .view-in .ensures))
-    (ap counterIn (word-by _ _ (c .before .penalties-at .ensures) (c .word-at2 .ensures)))
+    (ap counterIn (word-by _ _ (c .before .accounts-at .ensures) (c .word-at2 .ensures)))
 
 pub basis-in-spec : {M : Type 1} → statement M
 basis-in-spec =

@@ -1,5 +1,4 @@
--- Each section in its turn.
-use Rattle.words.proofs.VerdictLaws.{and-end}
+-- By the form, each section in its turn.
 use Rattle.image.specs.Counters.{countersRoomy}
 use borrow.Author.Needs.{needs}
 use Rattle.image.proofs.counters.counters_roomy.Statement.{statement}
@@ -7,7 +6,11 @@ use Rattle.image.proofs.counters.counters_roomy.Tie as tie
 
 returns : tie.Need-returns
 unfolding countersRoomy
-returns c = rw (c .before .before .bounded .ensures, c .before .bounded2 .ensures, c .bounded3 .ensures, and-end)
+returns c = rw (c .before .before .before .before .if1 .taken, c .before .before .before .bounded .ensures, c .before .before .bounded2 .ensures, c .before .clear-doubles .ensures, c .bounded3 .ensures)
+
+returns-2 : tie.Need-returns-2
+unfolding countersRoomy
+returns-2 c = rw (c .before .before .before .before .if1 .left, c .before .before .before .bounded4 .ensures, c .before .before .bounded5 .ensures, c .before .bounded6 .ensures, c .clear-doubles2 .ensures)
 
 pub counters-roomy-spec : {M : Type 1} → statement M
 counters-roomy-spec =
@@ -16,4 +19,10 @@ counters-roomy-spec =
     (λ c κs. search needs)
     (λ c κs. search needs)
     (λ c κs. search needs)
-    returns)
+    (λ c κs. search needs)
+    returns
+    (λ c κs. search needs)
+    (λ c κs. search needs)
+    (λ c κs. search needs)
+    (λ c κs. search needs)
+    returns-2)

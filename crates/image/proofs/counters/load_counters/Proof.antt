@@ -3,18 +3,20 @@
 use native.Mathlib.Omega.{arith}
 use Prim.Native.Nat.{ℕ, _-_, _≤_}
 use mathlib.Core.Path.{_≡_, refl, ap, _∙_, sym}
+use mathlib.Core.Bool.{false}
 use Rattle.words.specs.Word.{wordAt, gapOf}
 use Rattle.words.specs.Bits.{bit}
 use Rattle.words.specs.Array.{array}
 use Rattle.words.specs.Count.{all}
 use Rattle.words.proofs.ArrayLaws.{array-step, array-end}
 use Rattle.words.proofs.CountLaws.{all-step, all-end}
+use Rattle.setup.specs.Layout.{frontWords}
 use Rattle.image.specs.CounterSection.{counterIn}
 use Rattle.image.specs.Returns.{returnCounts}
 use Rattle.image.specs.Counters.{penalties, rewards}
 use Rattle.image.proofs.CounterSectionLaws.{first, later, testsAt, counters-right}
 use Rattle.image.proofs.ReadLaws.{array-read, word-by, basis-by}
-use Rattle.image.proofs.GapLaws.{gaps-test, gapsTo, gap-values}
+use Rattle.image.proofs.GapLaws.{gaps-test, gapsTo, count-values}
 use borrow.Author.Needs.{needs}
 use Rattle.image.proofs.counters.load_counters.Statement.{statement}
 use Rattle.image.proofs.counters.load_counters.Tie as tie
@@ -23,16 +25,16 @@ abbrev Inv-loop : tie.InvT-loop
 Inv-loop s n q p limit criticality view penalty₀ reward₀ returns₀ i k l good₀ j₀ penalty reward returns good j =
     (j ≤ n)
     × (good ≡ all j (testsAt (wordAt s) n))
-    × (penalty ≡ gapsTo (wordAt s) n j penalties)
-    × (reward ≡ gapsTo (wordAt s) n j rewards)
-    × (returns ≡ gapsTo (wordAt s) n j returnCounts)
+    × (penalty ≡ gapsTo (wordAt s) (frontWords false) n j penalties)
+    × (reward ≡ gapsTo (wordAt s) (frontWords false) n j rewards)
+    × (returns ≡ gapsTo (wordAt s) (frontWords false) n j returnCounts)
 
 abbrev μ-loop : tie.MeasureT-loop
 μ-loop s n q p limit criticality view penalty₀ reward₀ returns₀ i k l good₀ j₀ penalty reward returns good j =
     n - j
 
-penalties-at-requires : tie.Need-penalties-at-requires Inv-loop μ-loop
-penalties-at-requires c κs = search needs
+accounts-at-requires : tie.Need-accounts-at-requires Inv-loop μ-loop
+accounts-at-requires c κs = search needs
 
 rewards-at-requires : tie.Need-rewards-at-requires Inv-loop μ-loop
 rewards-at-requires c κs = search needs
@@ -50,7 +52,7 @@ add-word-at : tie.Need-add-word-at Inv-loop μ-loop
 add-word-at c = omega arith
 
 word-at-requires : tie.Need-word-at-requires Inv-loop μ-loop
-word-at-requires c κs = omega (arith, c .before .before .before .before .penalties-at .ensures)
+word-at-requires c κs = omega (arith, c .before .before .before .before .accounts-at .ensures)
 
 gap-requires : tie.Need-gap-requires Inv-loop μ-loop
 gap-requires c κs = omega arith
@@ -130,10 +132,10 @@ loop-again c =
     let w = wordAt (s .args .s .now) in
     let n = s .args .n in
     let k = array-read _ _ (r .3) (l .j) h (f .0 .0) in
-    let e = word-by _ (l .j) (c .before .before .before .before .before .before .before .before .before .before .before .before .before .before .before .penalties-at .ensures) (c .before .before .before .before .before .before .before .before .before .before .word-at .ensures) in
+    let e = word-by _ (l .j) (c .before .before .before .before .before .before .before .before .before .before .before .before .before .before .before .accounts-at .ensures) (c .before .before .before .before .before .before .before .before .before .before .word-at .ensures) in
     let g = word-by _ (l .j) (c .before .before .before .before .before .before .before .before .before .before .before .before .before .before .rewards-at .ensures) (c .before .before .before .before .before .before .before .before .word-at2 .ensures) in
     let t = word-by _ (l .j) (c .before .before .before .before .before .before .before .before .before .before .before .before .before .returns-at .ensures) (c .before .before .before .before .before .before .word-at3 .ensures) in
-    let basis = basis-by w n (l .j) (r .0) (r .1) (r .4) k (c .before .before .before .before .bit-at .ensures ∙ ap (λ (v : ℕ). bit v (l .j)) (r .2)) (ap counterIn e) in (
+    let basis = basis-by w (frontWords false) n (l .j) (r .0) (r .1) (r .4) k (c .before .before .before .before .bit-at .ensures ∙ ap (λ (v : ℕ). bit v (l .j)) (r .2)) (ap counterIn e) in (
       omega (arith, h),
       all-step _ _ (l .inv .1)
           (gaps-test w n (l .j) (omega arith) basis (omega arith) (f .1 .1 .0 .0) (f .1 .1 .0 .1) (f .1 .1 .0 .2) e g t (omega arith) (omega arith) (omega arith)
@@ -151,9 +153,9 @@ returns c =
     let g = all-end _ e (i .1) in (
       g ∙ counters-right (wordAt (a .args .s .now)) _,
       λ t. (
-        gap-values _ _ penalties first (omega arith) (a .pre .0 .0) (sym g ∙ t) (array-end _ e (i .2)),
-        gap-values _ _ rewards (later first) (omega arith) (a .pre .0 .0) (sym g ∙ t) (array-end _ e (i .3)),
-        gap-values _ _ returnCounts (later (later first)) (omega arith) (a .pre .0 .0) (sym g ∙ t) (array-end _ e (i .4)),
+        count-values _ _ penalties first (omega arith) (a .pre .0 .0) (sym g ∙ t) (array-end _ e (i .2)),
+        count-values _ _ rewards (later first) (omega arith) (a .pre .0 .0) (sym g ∙ t) (array-end _ e (i .3)),
+        count-values _ _ returnCounts (later (later first)) (omega arith) (a .pre .0 .0) (sym g ∙ t) (array-end _ e (i .4)),
       ),
     )
 
@@ -163,7 +165,7 @@ load-counters-spec =
     (tie.spec
     Inv-loop
     μ-loop
-    penalties-at-requires
+    accounts-at-requires
     rewards-at-requires
     returns-at-requires
     loop-holds

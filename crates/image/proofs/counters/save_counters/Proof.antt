@@ -19,8 +19,8 @@ abbrev μ-loop : tie.MeasureT-loop
 μ-loop n penalty reward returns out₀ i k l j₀ out j =
     n - j
 
-penalties-at-requires : tie.Need-penalties-at-requires Inv-loop μ-loop
-penalties-at-requires c κs = search needs
+accounts-at-requires : tie.Need-accounts-at-requires Inv-loop μ-loop
+accounts-at-requires c κs = search needs
 
 rewards-at-requires : tie.Need-rewards-at-requires Inv-loop μ-loop
 rewards-at-requires c κs = search needs
@@ -46,7 +46,7 @@ counter-word-requires c κs =
     (omega arith, omega arith, c .before .before .before .before .before .before .before .before .pre .2 _ (c .before .before .loop-test .taken))
 
 put-word-requires : tie.Need-put-word-requires Inv-loop μ-loop
-put-word-requires c κs = omega (arith, c .before .before .before .before .before .before .before .penalties-at .ensures)
+put-word-requires c κs = omega (arith, c .before .before .before .before .before .before .before .accounts-at .ensures)
 
 add-put-word-2 : tie.Need-add-put-word-2 Inv-loop μ-loop
 add-put-word-2 c = omega arith
@@ -95,7 +95,7 @@ loop-again c =
     let p = c .before .before .before .before .before .before .before .before .before .before .before .before .before .before .put-word in
     let q = c .before .before .before .before .before .before .before .before .put-word2 in
     let r = c .before .before .put-word3 in
-    let ip = c .before .before .before .before .before .before .before .before .before .before .before .before .before .before .before .before .before .before .before .before .before .before .penalties-at .ensures in
+    let ip = c .before .before .before .before .before .before .before .before .before .before .before .before .before .before .before .before .before .before .before .before .before .before .accounts-at .ensures in
     let ir = c .before .before .before .before .before .before .before .before .before .before .before .before .before .before .before .before .before .before .before .before .before .rewards-at .ensures in
     let it = c .before .before .before .before .before .before .before .before .before .before .before .before .before .before .before .before .before .before .before .before .returns-at .ensures in (
       omega arith,
@@ -111,7 +111,7 @@ returns : tie.Need-returns Inv-loop μ-loop
 returns c =
     let a = c .before .before .before .before .before .before .args in
     let e : c .before .loop .j ≡ a .n = omega arith in
-    three-end (a .out .now) _ _ _ e (c .before .before .before .before .penalties-at .ensures) (c .before .before .before .rewards-at .ensures) (c .before .before .returns-at .ensures) (c .before .loop .inv .2)
+    three-end (a .out .now) _ _ _ e (c .before .before .before .before .accounts-at .ensures) (c .before .before .before .rewards-at .ensures) (c .before .before .returns-at .ensures) (c .before .loop .inv .2)
 
 pub save-counters-spec : {M : Type 1} → statement M
 save-counters-spec =
@@ -119,7 +119,7 @@ save-counters-spec =
     (tie.spec
     Inv-loop
     μ-loop
-    penalties-at-requires
+    accounts-at-requires
     rewards-at-requires
     returns-at-requires
     loop-holds

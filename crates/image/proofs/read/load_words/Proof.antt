@@ -38,8 +38,8 @@ syndrome-ok-requires-2 c κs = search needs
 field-requires : tie.Need-field-requires
 field-requires c κs = search needs
 
-cast-t6 : tie.Need-cast-t6
-cast-t6 c = search needs
+cast-t7 : tie.Need-cast-t7
+cast-t7 c = search needs
 
 returns : tie.Need-returns
 returns c =
@@ -69,5 +69,5 @@ load-words-spec =
     syndrome-ok-requires
     syndrome-ok-requires-2
     field-requires
-    cast-t6
+    cast-t7
     returns)

@@ -17,21 +17,21 @@ use Rattle.image.proofs.rows.load_rows.Statement.{statement}
 use Rattle.image.proofs.rows.load_rows.Tie as tie
 
 abbrev Inv-loop : tie.InvT-loop
-Inv-loop s n rows₀ i good₀ heard₀ j₀ rows good heard j =
+Inv-loop s front n rows₀ i good₀ heard₀ j₀ rows good heard j =
     (j ≤ n)
-    × (good ≡ all j (rowTest (wordAt s) n))
-    × (heard ≡ pack j (λ k. heardIn (wordAt s (rowsAt n + k))))
-    × (rows ≡ array j (λ k. rowIn (wordAt s (rowsAt n + k))))
+    × (good ≡ all j (rowTest (wordAt s) front n))
+    × (heard ≡ pack j (λ k. heardIn (wordAt s (rowsAt front n + k))))
+    × (rows ≡ array j (λ k. rowIn (wordAt s (rowsAt front n + k))))
 
 abbrev μ-loop : tie.MeasureT-loop
-μ-loop s n rows₀ i good₀ heard₀ j₀ rows good heard j = n - j
+μ-loop s front n rows₀ i good₀ heard₀ j₀ rows good heard j = n - j
 
 rows-at-requires : tie.Need-rows-at-requires Inv-loop μ-loop
 rows-at-requires c κs = search needs
 
 loop-holds : tie.Need-loop-holds Inv-loop μ-loop
 unfolding all pack array
-loop-holds c = (omega arith, refl, refl, c .before .before .pre .2)
+loop-holds c = (omega arith, refl, refl, c .before .before .pre .3)
 
 add-word-at : tie.Need-add-word-at Inv-loop μ-loop
 add-word-at c = omega arith

@@ -1,22 +1,21 @@
 -- Every section at its place.
-use mathlib.Core.Path.{_∙_}
 use Rattle.image.proofs.SectionLaws.{sections-written}
 use borrow.Author.Needs.{needs}
 use Rattle.image.proofs.save.save_sections.Statement.{statement}
 use Rattle.image.proofs.save.save_sections.Tie as tie
 
-save-counters-requires : tie.Need-save-counters-requires
-save-counters-requires c κs =
-    let a = c .before .before .before .before .before .before .before .before .before .before .before .before .before .before .before .before .before .before .before .before .before .before .before .before .before .pre in
-    (a .0 .0, c .before .before .before .save-word3 .kept .1 .0 ∙ c .before .before .before .before .before .before .before .before .before .save-word2 .kept .1 .0 ∙ c .before .before .before .before .before .before .before .before .before .before .before .before .before .before .before .save-rows .kept .1 .1 .1 .0 ∙ c .before .before .before .before .before .before .before .before .before .before .before .before .before .before .before .before .before .before .before .before .save-word .kept .1 .0 ∙ a .0 .1, a .1 .1, a .1 .2, a .1 .3)
-
 returns : tie.Need-returns
 returns c =
-    let a = c .before .before .before .before .before .before .before .before .before .before .before .before .before .before .before .before .before .before .before .before .before .before .before .before .before .before .before .before .args in
-    sections-written (a .n) (a .own) (record { view = a .view; penalty = a .penalty .now; reward = a .reward .now; returns = a .returns .now })
-    (record { heard = a .heard; rows = a .rows .now }) (a .latest) (a .earlier) (a .out .now) (c .before .before .before .before .before .before .before .before .before .before .before .before .before .before .before .before .before .before .before .before .before .before .before .before .own-at .ensures) (c .before .before .before .before .before .before .before .before .before .before .before .before .before .before .before .before .before .before .before .before .before .before .before .before .before .before .own-word .ensures) (c .before .before .before .before .before .before .before .before .before .before .before .before .before .before .before .before .before .before .before .before .before .before .before .save-word .ensures) (c .before .before .before .before .before .before .before .before .before .before .before .before .before .before .before .before .before .before .before .rows-at .ensures)
-    (c .before .before .before .before .before .before .before .before .before .before .before .before .before .before .before .before .before .before .save-rows .ensures) (c .before .before .before .before .before .before .before .before .before .before .before .before .before .latest-at .ensures) (c .before .before .before .before .before .before .before .before .before .before .before .before .before .before .before .syndrome-word .ensures) (c .before .before .before .before .before .before .before .before .before .before .before .before .save-word2 .ensures)
-    (c .before .before .before .before .before .before .before .earlier-at .ensures) (c .before .before .before .before .before .before .before .before .before .syndrome-word2 .ensures) (c .before .before .before .before .before .before .save-word3 .ensures) (c .before .before .save-counters .ensures)
+    let e = c .before .before in
+    let l = e .before .before .before .before .before .before in
+    let r = l .before .before .before .before .before .before in
+    let o = r .before .before .before .before .before in
+    let f = o .before .before .before .before in
+    let a = f .before .before .args in
+    sections-written (a .fades) (a .n) (a .own) (a .view) (record { heard = a .heard; rows = a .rows .now }) (a .latest) (a .earlier) (a .out .now) (f .front-words .ensures .0)
+    (o .before .own-at .ensures) (o .before .before .before .own-word .ensures) (o .save-word .ensures) (r .before .rows-at .ensures) (r .save-rows .ensures)
+    (l .before .latest-at .ensures) (l .before .before .before .syndrome-word .ensures) (l .save-word2 .ensures)
+    (e .before .earlier-at .ensures) (e .before .before .before .syndrome-word2 .ensures) (e .save-word3 .ensures)
 
 pub save-sections-spec : {M : Type 1} → statement M
 save-sections-spec =
@@ -33,6 +32,6 @@ save-sections-spec =
     (λ c κs. search needs)
     (λ c κs. search needs)
     (λ c κs. search needs)
-    save-counters-requires
+    (λ c κs. search needs)
     (λ c. search needs)
     returns)

@@ -1,29 +1,11 @@
 -- An opening as without a page; where it is accepted the page is written after it.
-use Rattle.page.proofs.OpenLaws.{open-no-page, open-refused, setup-room, in-fresh, open-paged}
+use Rattle.page.proofs.OpenLaws.{open-no-page, open-refused, setup-room, setup-whole, in-fresh, open-paged}
 use borrow.Author.Needs.{needs}
 use Rattle.page.proofs.with_page.presence_page_open.Statement.{statement}
 use Rattle.page.proofs.with_page.presence_page_open.Tie as tie
 
-slice-relend-prefix-presence-open : tie.Need-slice-relend-prefix-presence-open
-slice-relend-prefix-presence-open c = search needs
-
-slice-aggregate-presence-open : tie.Need-slice-aggregate-presence-open
-slice-aggregate-presence-open c = search needs
-
-presence-open-requires : tie.Need-presence-open-requires
-presence-open-requires c κs = search needs
-
-same-length : tie.Need-same-length
-same-length c = search needs
-
 returns : tie.Need-returns
 returns c = open-no-page _ _ _ _ (c .before .before .presence-open .ensures) (c .before .before .before .before .if1 .taken)
-
-presence-open-requires-2 : tie.Need-presence-open-requires-2
-presence-open-requires-2 c κs = search needs
-
-same-length-2 : tie.Need-same-length-2
-same-length-2 c = search needs
 
 returns-2 : tie.Need-returns-2
 returns-2 c =
@@ -33,46 +15,45 @@ returns-2 c =
 size-at-requires : tie.Need-size-at-requires
 size-at-requires c κs = setup-room _ _ _ (c .before .before .before .before .presence-open2 .ensures) (c .if2 .left)
 
+fades-at-requires : tie.Need-fades-at-requires
+fades-at-requires c κs = setup-whole _ _ _ (c .before .before .before .before .before .before .presence-open2 .ensures) (c .before .before .if2 .left)
+
 view-in-requires : tie.Need-view-in-requires
 view-in-requires c κs =
-    let i = c .before .before in
-    in-fresh _ _ _ (i .before .before .before .before .presence-open2 .ensures) (i .if2 .left) (c .before .size-at .ensures)
+    let f = c .front-words .ensures in
+    let s = in-fresh _ _ _ (c .before .before .before .before .before .before .before .before .presence-open2 .ensures) (c .before .before .before .before .if2 .left) (c .before .before .before .size-at .ensures) (c .before .fades-at .ensures) (f .0) in
+    (f .2, s .0, s .1)
 
 open-page-requires : tie.Need-open-page-requires
 open-page-requires c κs =
-    let i = c .before .before .before .before in
-    let p = i .before .before .before .before in
-    (in-fresh _ _ _ (p .presence-open2 .ensures) (i .if2 .left) (c .before .before .before .size-at .ensures) .0, p .before .before .if1 .left)
-
-same-length-3 : tie.Need-same-length-3
-same-length-3 c = search needs
-
-same-length-4 : tie.Need-same-length-4
-same-length-4 c = search needs
+    let f = c .before .before in (
+      in-fresh _ _ _ (c .before .before .before .before .before .before .before .before .before .before .presence-open2 .ensures) (c .before .before .before .before .before .before .if2 .left) (c .before .before .before .before .before .size-at .ensures) (f .before .fades-at .ensures) (f .front-words .ensures .0) .0,
+      c .before .before .before .before .before .before .before .before .before .before .before .before .if1 .left,
+    )
 
 returns-3 : tie.Need-returns-3
 returns-3 c =
-    let a = c .before .before .before .before in
-    let i = a .before .before .before in
-    let p = i .before .before .before .before in
-    open-paged _ _ _ (p .presence-open2 .ensures) (i .if2 .left) (a .before .before .size-at .ensures) _ (p .before .before .if1 .left) (a .view-in .ensures)
-    (c .before .before .open-page .ensures)
+    let f = c .before .before .before .before .before in
+    open-paged _ _ _ (c .before .before .before .before .before .before .before .before .before .before .before .before .before .presence-open2 .ensures) (c .before .before .before .before .before .before .before .before .before .if2 .left) (c .before .before .before .before .before .before .before .before .size-at .ensures) (f .before .fades-at .ensures) (f .front-words .ensures .0) _ (c .before .before .before .before .before .before .before .before .before .before .before .before .before .before .before .if1 .left)
+    (c .before .before .before .before .view-in .ensures) (c .before .before .open-page .ensures)
 
 pub presence-page-open-spec : {M : Type 1} → statement M
 presence-page-open-spec =
     tie.close
     (tie.spec
-    slice-relend-prefix-presence-open
-    slice-aggregate-presence-open
-    presence-open-requires
-    same-length
+    (λ c. search needs)
+    (λ c. search needs)
+    (λ c κs. search needs)
+    (λ c. search needs)
     returns
-    presence-open-requires-2
-    same-length-2
+    (λ c κs. search needs)
+    (λ c. search needs)
     returns-2
     size-at-requires
+    fades-at-requires
+    (λ c κs. search needs)
     view-in-requires
     open-page-requires
-    same-length-3
-    same-length-4
+    (λ c. search needs)
+    (λ c. search needs)
     returns-3)

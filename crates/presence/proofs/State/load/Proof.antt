@@ -1,6 +1,9 @@
 -- An accepted image gives its state, and another the answer of the check.
-use mathlib.Core.Path.{_∙_, sym}
+use mathlib.Core.Path.{ap, _∙_, sym}
+use mathlib.Core.Bool.{Bool}
 use borrow.Author.Tests.{not-true, not-false}
+use Rattle.setup.specs.Layout.{frontWords}
+use Rattle.image.specs.Layout.{imageLength}
 use Rattle.image.proofs.ImageAnswers.{size-refused, size-fits, size-return, by-words}
 use Rattle.presence.proofs.StateAnswers.{load-refused, load-accepted}
 use borrow.Author.Needs.{needs}
@@ -17,22 +20,26 @@ returns : tie.Need-returns
 returns c =
     load-refused _ (c .refused .ensures) (size-refused _ (sym (c .before .before .image-size .ensures) ∙ c .before .if1 .taken))
 
+fades-at-requires : tie.Need-fades-at-requires
+fades-at-requires c κs = size-fits _ (c .before .image-size .ensures) (c .if1 .left) .3
+
 load-requires : tie.Need-load-requires
 load-requires c κs =
-    let f = size-fits _ (c .before .image-size .ensures) (c .if1 .left) in
-    (f .0, f .1, f .2, size-return _ (c .before .image-size .ensures) (c .if1 .left))
+    let f = size-fits _ (c .before .before .image-size .ensures) (c .before .if1 .left) in
+    let form = c .fades-at .ensures in
+    (f .0, f .1 ∙ ap (λ (b : Bool). imageLength (frontWords b) (c .before .before .image-size .result)) (sym form), f .2, form, size-return _ (c .before .before .image-size .ensures) (c .before .if1 .left))
 
 refused-requires-2 : tie.Need-refused-requires-2
 refused-requires-2 c κs = search needs
 
 returns-2 : tie.Need-returns-2
 returns-2 c =
-    let e = by-words _ (c .before .before .before .before .before .image-size .ensures) (c .before .before .before .before .if1 .left) (c .before .before .before .load .ensures .0) in
+    let e = by-words _ (c .before .before .before .before .before .before .image-size .ensures) (c .before .before .before .before .before .if1 .left) (c .before .before .before .load .ensures .0) in
     load-refused _ (c .refused2 .ensures) (sym e ∙ not-true _ (c .before .if2 .taken))
 
 returns-3 : tie.Need-returns-3
 returns-3 c =
-    let e = by-words _ (c .before .before .before .before .before .image-size .ensures) (c .before .before .before .before .if1 .left) (c .before .before .before .load .ensures .0) in
+    let e = by-words _ (c .before .before .before .before .before .before .image-size .ensures) (c .before .before .before .before .before .if1 .left) (c .before .before .before .load .ensures .0) in
     load-accepted _ (c .before .before .before .load .ensures .1 (not-false _ (c .before .if2 .left))) (sym e ∙ not-false _ (c .before .if2 .left))
 
 pub load-spec : {M : Type 1} → statement M
@@ -42,6 +49,7 @@ load-spec =
     image-size-requires
     refused-requires
     returns
+    fades-at-requires
     load-requires
     refused-requires-2
     returns-2

@@ -1,7 +1,7 @@
 -- The answer for the struct, then the length; the bytes are written only where both accept.
 use mathlib.Core.Path.{_∙_}
 use mathlib.Core.List.{[]}
-use Rattle.presence.proofs.StateAnswers.{verdict-small, verdict-valid, save-refused, save-short, save-done}
+use Rattle.presence.proofs.StateAnswers.{length-by, verdict-small, verdict-valid, save-refused, save-short, save-done}
 use Rattle.presence.proofs.SmallLaws.{valid-setup, valid-roomy}
 use borrow.Author.Needs.{needs}
 use Rattle.presence.proofs.State.save.Statement.{statement}
@@ -14,20 +14,24 @@ returns : tie.Need-returns
 returns c = save-refused _ _ (c .before .before .verdict .ensures) (c .if1 .taken)
 
 image-length-requires : tie.Need-image-length-requires
-image-length-requires c κs = verdict-small _ [] (c .before .before .verdict .ensures) (c .if1 .left) .size
+image-length-requires c κs = (c .front-words .ensures .2, verdict-small _ [] (c .before .before .before .before .before .verdict .ensures) (c .before .before .before .if1 .left) .size)
 
 refusal-requires : tie.Need-refusal-requires
 refusal-requires c κs = search needs
 
 returns-2 : tie.Need-returns-2
 returns-2 c =
-    let l = c .before .before .image-length .ensures in
-    save-short _ _ (c .before .before .before .before .before .verdict .ensures) (c .refusal .ensures) (c .before .before .before .if1 .left) (rw l at (c .before .if2 .taken))
+    let g = c .before .before .before in
+    let s = c .before .before .before .before .before .before .before .before .before .before in
+    let l = length-by (s .args .self) (g .before .fades .ensures) (g .front-words .ensures .0) (c .before .before .image-length .ensures) in
+    save-short _ _ (c .before .before .before .before .before .before .before .before .verdict .ensures) (c .refusal .ensures) (c .before .before .before .before .before .before .if1 .left) (rw l at (c .before .if2 .taken))
 
 save-words-requires : tie.Need-save-words-requires
 save-words-requires c κs =
-    let v = verdict-valid _ [] (c .before .before .before .before .before .verdict .ensures) (c .before .before .before .if1 .left) in
-    (valid-setup _ v, valid-roomy _ v, c .before .if2 .left ∙ c .before .before .image-length .ensures)
+    let v = verdict-valid _ [] (c .before .before .before .before .before .before .before .before .verdict .ensures) (c .before .before .before .before .before .before .if1 .left) in
+    let g = c .before .before .before in
+    let s = c .before .before .before .before .before .before .before .before .before .before in
+    (valid-setup _ v, valid-roomy _ v, c .before .if2 .left ∙ length-by (s .args .self) (g .before .fades .ensures) (g .front-words .ensures .0) (c .before .before .image-length .ensures))
 
 accept-requires : tie.Need-accept-requires
 accept-requires c κs = search needs
@@ -37,8 +41,10 @@ same-length c = search needs
 
 returns-3 : tie.Need-returns-3
 returns-3 c =
-    save-done _ _ (c .before .before .before .before .before .before .before .before .before .verdict .ensures) (c .accept .ensures) (c .before .before .before .save-words .ensures) (c .before .before .before .before .before .before .before .if1 .left)
-    (c .before .before .before .before .before .if2 .left ∙ c .before .before .before .before .before .before .image-length .ensures)
+    let g = c .before .before .before .before .before .before .before in
+    let s = c .before .before .before .before .before .before .before .before .before .before .before .before .before .before in
+    save-done _ _ (c .before .before .before .before .before .before .before .before .before .before .before .before .verdict .ensures) (c .accept .ensures) (c .before .before .before .save-words .ensures) (c .before .before .before .before .before .before .before .before .before .before .if1 .left)
+    (c .before .before .before .before .before .if2 .left ∙ length-by (s .args .self) (g .before .fades .ensures) (g .front-words .ensures .0) (c .before .before .before .before .before .before .image-length .ensures))
 
 pub save-spec : {M : Type 1} → statement M
 save-spec =
@@ -46,6 +52,8 @@ save-spec =
     (tie.spec
     verdict-requires
     returns
+    (λ c κs. search needs)
+    (λ c κs. search needs)
     image-length-requires
     refusal-requires
     returns-2

@@ -28,7 +28,7 @@ check-play-requires c κs =
     let g = c .before .before .before in
     let f = front-fits _ (g .check-front .ensures) (c .before .if2 .left) in
     let e = c .size-at .ensures in
-    omega arith
+    (omega arith, omega arith, f .front .whole, f .front .room)
 
 returns-3 : tie.Need-returns-3
 returns-3 c =

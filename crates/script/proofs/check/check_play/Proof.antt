@@ -14,7 +14,7 @@ refusal-requires : tie.Need-refusal-requires
 refusal-requires c κs = search needs
 
 returns : tie.Need-returns
-returns c = no-cast _ _ (c .before .before .cast-at .ensures) (c .before .if1 .taken) (c .refusal .ensures)
+returns c = no-cast _ _ (c .before .before .cast-at .ensures .0) (c .before .if1 .taken) (c .refusal .ensures)
 
 word-at-requires : tie.Need-word-at-requires
 word-at-requires c κs = search needs
@@ -31,20 +31,20 @@ refusal-requires-2 c κs = search needs
 returns-2 : tie.Need-returns-2
 returns-2 c =
     let g = c .before .before .before in
-    wrong-cast _ _ (g .before .before .cast-at .ensures) (g .before .if1 .left) (g .word-at .ensures) (c .before .before .cast-ok .ensures)
+    wrong-cast _ _ (g .before .before .cast-at .ensures .0) (g .before .if1 .left) (g .word-at .ensures) (c .before .before .cast-ok .ensures)
     (c .before .if2 .taken) (c .refusal2 .ensures)
 
-events-at-requires : tie.Need-events-at-requires
-events-at-requires c κs = search needs
+add-check-tail : tie.Need-add-check-tail
+add-check-tail c = search needs
 
 check-tail-requires : tie.Need-check-tail-requires
 check-tail-requires c κs = search needs
 
 returns-3 : tie.Need-returns-3
 returns-3 c =
-    let g = c .before .before .before .before in
-    right-cast _ _ (g .before .before .cast-at .ensures) (g .before .if1 .left) (g .word-at .ensures) (c .before .before .before .cast-ok .ensures)
-    (c .before .before .if2 .left) (c .before .events-at .ensures) (c .check-tail .ensures)
+    let g = c .before .before .before in
+    right-cast _ _ (g .before .before .cast-at .ensures .0) (g .before .if1 .left) (g .word-at .ensures) (c .before .before .cast-ok .ensures)
+    (c .before .if2 .left) (c .check-tail .ensures)
 
 pub check-play-spec : {M : Type 1} → statement M
 check-play-spec =
@@ -59,6 +59,6 @@ check-play-spec =
     cast-refusal-2
     refusal-requires-2
     returns-2
-    events-at-requires
+    add-check-tail
     check-tail-requires
     returns-3)

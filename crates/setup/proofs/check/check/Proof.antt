@@ -1,9 +1,9 @@
 -- Numbers 1 and 2, then the length, then the words: where one refuses, its answer is the whole answer.
-use mathlib.Core.Path.{_∙_}
+use mathlib.Core.Path.{ap, sym, _∙_}
 use native.Mathlib.Omega.{arith}
 use borrow.Author.Tests.{eq-eqb, ne-eqb}
-use Rattle.setup.specs.Check.{checkSetup}
-use Rattle.setup.proofs.SetupAnswerLaws.{head-fits, head-stays, head-short, head-goes}
+use Rattle.setup.specs.Check.{checkWords, checkSetup}
+use Rattle.setup.proofs.SetupAnswerLaws.{head-fits, head-stays, head-short, head-goes, length-by}
 use borrow.Author.Needs.{needs}
 use Rattle.setup.proofs.check.check.Statement.{statement}
 use Rattle.setup.proofs.check.check.Tie as tie
@@ -18,6 +18,12 @@ returns c = head-stays _ (c .before .before .check-head .ensures) _ _ (c .if1 .t
 size-at-requires : tie.Need-size-at-requires
 size-at-requires c κs = head-fits _ (c .before .before .check-head .ensures) (c .if1 .left) .room
 
+fades-at-requires : tie.Need-fades-at-requires
+fades-at-requires c κs = head-fits _ (c .before .before .before .check-head .ensures) (c .before .if1 .left) .whole
+
+front-words-requires : tie.Need-front-words-requires
+front-words-requires c κs = search needs
+
 setup-length-requires : tie.Need-setup-length-requires
 setup-length-requires c κs = search needs
 
@@ -27,25 +33,32 @@ refusal-requires c κs = search needs
 returns-2 : tie.Need-returns-2
 unfolding checkSetup
 returns-2 c =
-    let g = c .before .before .before .before in
-    let l = rw (c .before .before .setup-length .ensures, c .before .before .before .size-at .ensures) at (c .before .if2 .taken) in
-    head-short _ (g .before .before .check-head .ensures) _ (g .if1 .left) (ne-eqb _ _ l) (c .refusal .ensures)
+    let k = c .before .before in
+    let f = k .before .before in
+    let g = f .before .before in
+    let l = length-by _ (f .fades-at .ensures) (k .before .front-words .ensures .0) (f .before .size-at .ensures) (k .setup-length .ensures) in
+    head-short _ (g .before .before .check-head .ensures) _ (g .if1 .left) (ne-eqb _ _ (λ e. c .before .if2 .taken (e ∙ sym l))) (c .refusal .ensures)
 
 check-words-requires : tie.Need-check-words-requires
 check-words-requires c κs =
-    let g = c .before .before .before in
-    let f = head-fits _ (g .before .before .check-head .ensures) (g .if1 .left) in
-    let e = c .before .before .size-at .ensures in
-    let k = c .before .setup-length .ensures in
-    omega arith
+    let k = c .before in
+    let f = k .before .before in
+    let g = f .before .before in
+    let h = head-fits _ (g .before .before .check-head .ensures) (g .if1 .left) in
+    let e = f .before .size-at .ensures in
+    let w = k .before .front-words .ensures .0 in
+    let l = k .setup-length .ensures in
+    (omega (arith, h .most), omega arith, f .fades-at .ensures)
 
 returns-3 : tie.Need-returns-3
 unfolding checkSetup
 returns-3 c =
-    let g = c .before .before .before .before in
-    let e = c .before .before .before .size-at .ensures in
-    let l = rw (c .before .before .setup-length .ensures, e) at (c .before .if2 .left) in
-    head-goes _ (g .before .before .check-head .ensures) _ (g .if1 .left) (eq-eqb _ _ l) (rw e at (c .check-words .ensures))
+    let k = c .before .before in
+    let f = k .before .before in
+    let g = f .before .before in
+    let e = f .before .size-at .ensures in
+    let l = length-by _ (f .fades-at .ensures) (k .before .front-words .ensures .0) e (k .setup-length .ensures) in
+    head-goes _ (g .before .before .check-head .ensures) _ (g .if1 .left) (eq-eqb _ _ (c .before .if2 .left ∙ l)) (c .check-words .ensures ∙ ap (checkWords _) e)
 
 pub check-spec : {M : Type 1} → statement M
 check-spec =
@@ -54,6 +67,8 @@ check-spec =
     check-head-requires
     returns
     size-at-requires
+    fades-at-requires
+    front-words-requires
     setup-length-requires
     refusal-requires
     returns-2

@@ -1,52 +1,14 @@
--- The two limits, then the module words by one number and by the other, each after the answer of those before.
-use native.Mathlib.Omega.{arith}
-use mathlib.Core.Path.{refl, ap, _∙_}
-use Rattle.words.proofs.SearchLaws.{begins-refused, begins-well, two-tests}
-use Rattle.setup.specs.Check.{limitOk, checkWords}
+-- The limits, then the module words by one number and by the other, each after the answer of those before.
+use Rattle.setup.proofs.SetupAnswerLaws.{words-by}
 use borrow.Author.Needs.{needs}
 use Rattle.setup.proofs.check.check_words.Statement.{statement}
 use Rattle.setup.proofs.check.check_words.Tie as tie
 
-word-at-requires : tie.Need-word-at-requires
-word-at-requires c κs = search needs
+front-words-requires : tie.Need-front-words-requires
+front-words-requires c κs = search needs
 
-limit-ok-requires : tie.Need-limit-ok-requires
-limit-ok-requires c κs = search needs
-
-cast-refusal : tie.Need-cast-refusal
-cast-refusal c = search needs
-
-refusal-requires : tie.Need-refusal-requires
-refusal-requires c κs = search needs
-
-returns : tie.Need-returns
-unfolding checkWords
-returns c =
-    let e = c .before .before .limit-ok .ensures ∙ ap (limitOk _ _) (c .before .before .before .word-at .ensures) in
-    begins-refused 4 1 _ e (omega arith) (c .before .if1 .taken) refl (c .refusal .ensures)
-
-word-at-requires-2 : tie.Need-word-at-requires-2
-word-at-requires-2 c κs = search needs
-
-limit-ok-requires-2 : tie.Need-limit-ok-requires-2
-limit-ok-requires-2 c κs = search needs
-
-cast-refusal-2 : tie.Need-cast-refusal-2
-cast-refusal-2 c = search needs
-
-refusal-requires-2 : tie.Need-refusal-requires-2
-refusal-requires-2 c κs = search needs
-
-returns-2 : tie.Need-returns-2
-unfolding checkWords
-returns-2 c =
-    let e = c .before .before .limit-ok2 .ensures ∙ ap (limitOk _ _) (c .before .before .before .word-at2 .ensures) in
-    let g = c .before .before .before .before in
-    let d = g .before .limit-ok .ensures ∙ ap (limitOk _ _) (g .before .before .word-at .ensures) in
-    begins-refused 4 2 _ e (omega arith) (c .before .if2 .taken) refl (c .refusal2 .ensures) ∙ begins-well 4 1 _ d (g .if1 .left)
-
-accept-requires : tie.Need-accept-requires
-accept-requires c κs = search needs
+check-limits-requires : tie.Need-check-limits-requires
+check-limits-requires c κs = search needs
 
 then-modules-requires : tie.Need-then-modules-requires
 then-modules-requires c κs = search needs
@@ -54,32 +16,18 @@ then-modules-requires c κs = search needs
 then-modules-requires-2 : tie.Need-then-modules-requires-2
 then-modules-requires-2 c κs = search needs
 
-returns-3 : tie.Need-returns-3
-unfolding checkWords
-returns-3 c =
-    let h = c .before .before .before in
-    let e = h .before .limit-ok2 .ensures ∙ ap (limitOk _ _) (h .before .before .word-at2 .ensures) in
-    let g = h .before .before .before in
-    let d = g .before .limit-ok .ensures ∙ ap (limitOk _ _) (g .before .before .word-at .ensures) in
-    two-tests _ _ (c .before .before .accept .ensures) (c .before .then-modules .ensures) (c .then-modules2 .ensures)
-    ∙ begins-well 4 2 _ e (h .if2 .left)
-    ∙ begins-well 4 1 _ d (g .if1 .left)
+returns : tie.Need-returns
+returns c =
+    let l = c .before .before in
+    let f = l .before in
+    words-by _ (f .before .before .pre .2) (f .front-words .ensures .0) _ (l .check-limits .ensures) (c .before .then-modules .ensures) (c .then-modules2 .ensures)
 
 pub check-words-spec : {M : Type 1} → statement M
 check-words-spec =
     tie.close
     (tie.spec
-    word-at-requires
-    limit-ok-requires
-    cast-refusal
-    refusal-requires
-    returns
-    word-at-requires-2
-    limit-ok-requires-2
-    cast-refusal-2
-    refusal-requires-2
-    returns-2
-    accept-requires
+    front-words-requires
+    check-limits-requires
     then-modules-requires
     then-modules-requires-2
-    returns-3)
+    returns)

@@ -1,6 +1,7 @@
 -- The answer so far, or what the search through the module words found.
 use native.Mathlib.Omega.{arith}
 use mathlib.Core.Path.{refl}
+use Rattle.words.specs.Word.{wordAt}
 use Rattle.words.proofs.LowestLaws.{found-le}
 use Rattle.words.proofs.SearchLaws.{search-skipped, search-none, search-found}
 use Rattle.setup.specs.Check.{moduleTests}
@@ -21,7 +22,7 @@ returns-2 : tie.Need-returns-2
 returns-2 c =
     let g = c .before .before .before in
     let a = g .before .before .before .args in
-    search-none _ (moduleTests (a .s .now) (a .n) (a .number)) (g .if1 .left) (c .before .before .wrong-module .ensures) (c .before .if2 .taken) (c .accept .ensures)
+    search-none _ (moduleTests (wordAt (a .s .now)) (a .front) (a .n) (a .number)) (g .if1 .left) (c .before .before .wrong-module .ensures) (c .before .if2 .taken) (c .accept .ensures)
 
 add-refusal : tie.Need-add-refusal
 add-refusal c =
@@ -43,7 +44,7 @@ returns-3 : tie.Need-returns-3
 returns-3 c =
     let g = c .before .before .before in
     let a = g .before .before .before .args in
-    search-found _ (moduleTests (a .s .now) (a .n) (a .number)) (g .if1 .left) (c .before .before .wrong-module .ensures) (c .before .if2 .left) refl (c .refusal .ensures)
+    search-found _ (moduleTests (wordAt (a .s .now)) (a .front) (a .n) (a .number)) (g .if1 .left) (c .before .before .wrong-module .ensures) (c .before .if2 .left) refl (c .refusal .ensures)
 
 pub then-modules-spec : {M : Type 1} → statement M
 then-modules-spec =

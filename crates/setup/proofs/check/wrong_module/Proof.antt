@@ -3,6 +3,7 @@ use Prim.Native.Nat.{_-_, _≤_}
 use mathlib.Core.Path.{_≡_, refl, ap}
 use mathlib.Core.Bool.{not}
 use native.Mathlib.Omega.{arith}
+use Rattle.words.specs.Word.{wordAt}
 use Rattle.words.specs.Count.{lowest}
 use Rattle.words.proofs.LowestLaws.{lowest-ends, asked-none, asked-found}
 use Rattle.setup.specs.Check.{moduleTest}
@@ -10,17 +11,17 @@ use Rattle.setup.proofs.check.wrong_module.Statement.{statement}
 use Rattle.setup.proofs.check.wrong_module.Tie as tie
 
 abbrev Inv-loop : tie.InvT-loop
-Inv-loop s n number j₀ j = (j ≤ n) × (lowest j (λ k. not (moduleTest s n number k)) ≡ 0)
+Inv-loop s front n number j₀ j = (j ≤ n) × (lowest j (λ k. not (moduleTest (wordAt s) front n number k)) ≡ 0)
 
 abbrev μ-loop : tie.MeasureT-loop
-μ-loop s n number j₀ j = n - j
+μ-loop s front n number j₀ j = n - j
 
 loop-holds : tie.Need-loop-holds Inv-loop μ-loop
 unfolding lowest
 loop-holds c = (omega arith, refl)
 
 module-right-requires : tie.Need-module-right-requires Inv-loop μ-loop
-module-right-requires c κs = (omega arith, omega arith, omega arith)
+module-right-requires c κs = (omega arith, omega arith, omega arith, omega arith)
 
 add-result : tie.Need-add-result Inv-loop μ-loop
 add-result c = omega arith

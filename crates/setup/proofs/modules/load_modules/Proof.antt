@@ -16,18 +16,18 @@ use Rattle.setup.proofs.modules.load_modules.Statement.{statement}
 use Rattle.setup.proofs.modules.load_modules.Tie as tie
 
 abbrev Inv-loop : tie.InvT-loop
-Inv-loop s n criticality₀ good₀ skew₀ j₀ criticality good skew j =
+Inv-loop s front n criticality₀ good₀ skew₀ j₀ criticality good skew j =
     (j ≤ n)
-    × (good ≡ all j (λ k. moduleRight n k (wordAt s (3 + k))))
-    × (skew ≡ any j (λ k. not (eqb (markedPlace k (wordAt s (3 + k))) n)))
-    × (criticality ≡ array j (λ k. criticalityIn (wordAt s (3 + k))))
+    × (good ≡ all j (λ k. moduleRight n k (wordAt s (front + k))))
+    × (skew ≡ any j (λ k. not (eqb (markedPlace k (wordAt s (front + k))) n)))
+    × (criticality ≡ array j (λ k. criticalityIn (wordAt s (front + k))))
 
 abbrev μ-loop : tie.MeasureT-loop
-μ-loop s n criticality₀ good₀ skew₀ j₀ criticality good skew j = n - j
+μ-loop s front n criticality₀ good₀ skew₀ j₀ criticality good skew j = n - j
 
 loop-holds : tie.Need-loop-holds Inv-loop μ-loop
 unfolding all any array
-loop-holds c = (omega arith, refl, refl, c .before .pre .2)
+loop-holds c = (omega arith, refl, refl, c .before .pre .3)
 
 add-word-at : tie.Need-add-word-at Inv-loop μ-loop
 add-word-at c = omega arith
@@ -64,7 +64,7 @@ loop-again c =
     let p = c .before .marked-place .ensures in
     let hw : w .result < 2 ^ 32 = omega arith in (
       omega arith,
-      all-step _ _ (l .inv .1) (word-by (a .n) (l .j) (a .s .now) (omega arith) (omega arith) hw (w .ensures) p (c .fields-fit .ensures)),
+      all-step _ _ (l .inv .1) (word-by (a .front) (a .n) (l .j) (a .s .now) (omega arith) (omega arith) hw (w .ensures) p (c .fields-fit .ensures)),
       any-step _ _ (l .inv .2) (ap (λ (x : ℕ). not (eqb x (a .n))) (p ∙ ap (markedPlace (l .j)) (w .ensures))),
       array-step _ _ (l .inv .3) (ap criticalityIn (w .ensures)),
     )
@@ -75,7 +75,7 @@ returns c =
     let l = c .before .loop in
     let i = l .inv in
     let e : l .j ≡ a .n = omega arith in
-    (all-end _ e (i .1), array-end _ e (i .3), skew-by (a .n) (a .s .now) (omega arith) e (i .1) (i .2))
+    (all-end _ e (i .1), array-end _ e (i .3), skew-by (a .front) (a .n) (a .s .now) (omega arith) e (i .1) (i .2))
 
 pub load-modules-spec : {M : Type 1} → statement M
 load-modules-spec =

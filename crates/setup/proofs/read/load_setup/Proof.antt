@@ -9,34 +9,31 @@ use Rattle.words.specs.Array.{array}
 use Rattle.words.specs.Count.{all}
 use Rattle.words.proofs.BitLaws.{packed-lt}
 use Rattle.words.proofs.CountLaws.{all-step, all-end}
-use Rattle.setup.specs.Check.{limitOk, moduleOk, markOk}
+use Rattle.setup.specs.Check.{moduleOk, markOk}
+use Rattle.setup.specs.Modules.{moduleRight}
 use Rattle.setup.proofs.SetupReadLaws.{ModulesRead, modules-step, setup-by, words-good}
 use Rattle.setup.proofs.read.load_setup.Statement.{statement}
 use Rattle.setup.proofs.read.load_setup.Tie as tie
 
 abbrev Inv-loop : tie.InvT-loop
-Inv-loop s n head p r limits good₀ marks₀ places₀ criticality₀ j₀ good marks places criticality j =
-    (j ≤ n)
-    × (good ≡ all j (λ k. moduleOk n k (wordAt s (3 + k)) && markOk k (wordAt s (3 + k))))
-    × ModulesRead s j marks places criticality
+Inv-loop s fades n head front right limits good₀ marks₀ places₀ criticality₀ j₀ good marks places criticality j =
+    (j ≤ n) × (good ≡ all j (λ k. moduleRight n k (wordAt s (front + k)))) × ModulesRead s front j marks places criticality
 
 abbrev μ-loop : tie.MeasureT-loop
-μ-loop s n head p r limits good₀ marks₀ places₀ criticality₀ j₀ good marks places criticality j = n - j
+μ-loop s fades n head front right limits good₀ marks₀ places₀ criticality₀ j₀ good marks places criticality j =
+    n - j
 
 word-at-requires : tie.Need-word-at-requires Inv-loop μ-loop
 word-at-requires c κs = omega arith
 
-word-at-requires-2 : tie.Need-word-at-requires-2 Inv-loop μ-loop
-word-at-requires-2 c κs = omega arith
+front-words-requires : tie.Need-front-words-requires Inv-loop μ-loop
+front-words-requires c κs = tt
 
-word-at-requires-3 : tie.Need-word-at-requires-3 Inv-loop μ-loop
-word-at-requires-3 c κs = omega arith
+limits-right-requires : tie.Need-limits-right-requires Inv-loop μ-loop
+limits-right-requires c κs = omega arith
 
-limit-ok-requires : tie.Need-limit-ok-requires Inv-loop μ-loop
-limit-ok-requires c κs = omega arith
-
-limit-ok-requires-2 : tie.Need-limit-ok-requires-2 Inv-loop μ-loop
-limit-ok-requires-2 c κs = omega arith
+limits-at-requires : tie.Need-limits-at-requires Inv-loop μ-loop
+limits-at-requires c κs = omega arith
 
 loop-holds : tie.Need-loop-holds Inv-loop μ-loop
 unfolding all pack array
@@ -45,8 +42,8 @@ loop-holds c = (omega arith, refl, (refl, refl, refl))
 add-word-at : tie.Need-add-word-at Inv-loop μ-loop
 add-word-at c = omega arith
 
-word-at-requires-4 : tie.Need-word-at-requires-4 Inv-loop μ-loop
-word-at-requires-4 c κs = omega arith
+word-at-requires-2 : tie.Need-word-at-requires-2 Inv-loop μ-loop
+word-at-requires-2 c κs = omega arith
 
 module-ok-requires : tie.Need-module-ok-requires Inv-loop μ-loop
 module-ok-requires c κs = omega arith
@@ -75,9 +72,6 @@ mul-criticality c = omega arith
 array-write-criticality : tie.Need-array-write-criticality Inv-loop μ-loop
 array-write-criticality c = omega arith
 
-field-requires-2 : tie.Need-field-requires-2 Inv-loop μ-loop
-field-requires-2 c κs = omega arith
-
 add-j : tie.Need-add-j Inv-loop μ-loop
 add-j c = omega arith
 
@@ -88,25 +82,26 @@ loop-again : tie.Need-loop-again Inv-loop μ-loop
 loop-again c =
     let g = c .before .before .before .before in
     let l = g .before .before .before .loop in
-    let e = g .before .word-at4 .ensures in (
+    let e = g .before .word-at2 .ensures in (
       omega arith,
       all-step _ _ (l .inv .1)
           (ap₂ _&&_ (g .module-ok .ensures ∙ ap (moduleOk _ _) e) (c .before .before .before .mark-ok .ensures ∙ ap (markOk _) e)),
-      modules-step _ _ (l .inv .2) e (c .before .before .bit-at .ensures) (c .before .with-bit .ensures) (c .field .ensures),
+      modules-step _ _ _ (l .inv .2) e (c .before .before .bit-at .ensures) (c .before .with-bit .ensures) (c .field .ensures),
     )
+
+field-requires-2 : tie.Need-field-requires-2 Inv-loop μ-loop
+field-requires-2 c κs = omega arith
 
 returns : tie.Need-returns Inv-loop μ-loop
 returns c =
     let l = c .before .before .loop in
     let i = l .inv in
-    let b = c .before .before .before in
-    let p = b .before .before .before .word-at2 .ensures in
-    let r = b .before .before .word-at3 .ensures in
-    let h = b .before .before .before .before .word-at .ensures in
-    let a = b .before .before .before .before .before .before in
+    let t = c .before .before .before in
+    let f = t .before .before in
+    let a = f .before .before .before in
     let e : l .j ≡ a .args .n = omega arith in (
-      words-good _ _ (b .before .limit-ok .ensures ∙ ap (limitOk _ _) p) (b .limit-ok2 .ensures ∙ ap (limitOk _ _) r) (all-end _ e (i .1)),
-      setup-by _ e (a .pre .2) h (c .field2 .ensures) p r (i .2),
+      words-good _ (a .pre .3) (f .front-words .ensures .0) _ (t .before .limits-right .ensures) (all-end _ e (i .1)),
+      setup-by _ (a .pre .3) (f .front-words .ensures .0) e (a .pre .2) (f .before .word-at .ensures) (c .field2 .ensures) (t .limits-at .ensures) (i .2),
     )
 
 pub load-setup-spec : {M : Type 1} → statement M
@@ -116,13 +111,12 @@ load-setup-spec =
     Inv-loop
     μ-loop
     word-at-requires
-    word-at-requires-2
-    word-at-requires-3
-    limit-ok-requires
-    limit-ok-requires-2
+    front-words-requires
+    limits-right-requires
+    limits-at-requires
     loop-holds
     add-word-at
-    word-at-requires-4
+    word-at-requires-2
     module-ok-requires
     mark-ok-requires
     bit-at-requires

@@ -1,21 +1,13 @@
--- The top four bits are compared with kind 1, and the two fields are handed on.
-use Rattle.setup.specs.Check.{headOk}
+-- Kind and Q by one comparison, then N.
+use native.Mathlib.Omega.{arith}
+use Rattle.setup.proofs.WordFields.{head-one}
 use borrow.Author.Needs.{needs}
 use Rattle.setup.proofs.word.head_ok.Statement.{statement}
 use Rattle.setup.proofs.word.head_ok.Tie as tie
 
-field-requires : tie.Need-field-requires
-field-requires c κs = search needs
-
-cast-head-fits : tie.Need-cast-head-fits
-cast-head-fits c = search needs
-
-head-fits-requires : tie.Need-head-fits-requires
-head-fits-requires c κs = search needs
-
 returns : tie.Need-returns
-unfolding headOk
-returns c = rw (c .head-fits .ensures, c .before .field .ensures)
+returns c = head-one _ (c .wrapping-sub-u32 .result) (omega arith) (c .wrapping-sub-u32 .ensures)
 
 pub head-ok-spec : {M : Type 1} → statement M
-head-ok-spec = tie.close (tie.spec field-requires cast-head-fits head-fits-requires returns)
+head-ok-spec =
+    tie.close (tie.spec (λ c. search needs) (λ c κs. search needs) (λ c. search needs) (λ c. search needs) returns)

@@ -2,6 +2,8 @@
 use native.Mathlib.Omega.{arith}
 use mathlib.Core.Path.{ap, _∙_}
 use Rattle.words.specs.Word.{putWord}
+use Rattle.words.specs.declared.Verdict.{Verdict}
+use Rattle.setup.proofs.BoundLaws.{room-limits}
 use Rattle.setup.proofs.SetupWords.{room-pass, words-written}
 use borrow.Author.Needs.{needs}
 use Rattle.setup.proofs.write.write_words.Statement.{statement}
@@ -15,27 +17,11 @@ head-word-requires c κs =
 put-word-requires : tie.Need-put-word-requires
 put-word-requires c κs = search needs
 
-mul-put-word : tie.Need-mul-put-word
-mul-put-word c = search needs
-
-add-put-word : tie.Need-add-put-word
-add-put-word c =
-    let f = room-pass _ (c .before .before .before .before .before .before .before .before .pre .0) in
-    omega arith
-
-put-word-requires-2 : tie.Need-put-word-requires-2
-put-word-requires-2 c κs = search needs
-
-mul-put-word-2 : tie.Need-mul-put-word-2
-mul-put-word-2 c = search needs
-
-add-put-word-2 : tie.Need-add-put-word-2
-add-put-word-2 c =
-    let f = room-pass _ (c .before .before .before .before .before .before .before .before .before .before .before .before .before .pre .0) in
-    omega arith
-
-put-word-requires-3 : tie.Need-put-word-requires-3
-put-word-requires-3 c κs = search needs
+put-limits-requires : tie.Need-put-limits-requires
+put-limits-requires c κs =
+    let a = c .before .before .before .before .before .before .before in
+    let f = room-pass _ (a .pre .0) in
+    (ap (λ (v : Verdict). v .number) (room-limits (a .args .setup .limits) (f .limits)), omega arith)
 
 write-modules-requires : tie.Need-write-modules-requires
 write-modules-requires c κs = search needs
@@ -45,11 +31,10 @@ same-length c = search needs
 
 returns : tie.Need-returns
 returns c =
-    let r = c .before .before .before .before .before .before in
-    let p = r .before .before .before .before .before in
-    let h = p .before .before .before .before .before in
+    let l = c .before .before .before .before .before .before in
+    let h = l .before .before .before .before in
     let a = h .before .before .before .before in
-    words-written _ _ (a .pre .1) (h .put-word .ensures ∙ ap (putWord _ 0) (h .before .head-word .ensures)) (p .put-word2 .ensures) (r .put-word3 .ensures) (c .before .before .write-modules .ensures)
+    words-written _ _ (a .pre .1) (h .put-word .ensures ∙ ap (putWord _ 0) (h .before .head-word .ensures)) (l .put-limits .ensures) (c .before .before .write-modules .ensures)
 
 pub write-words-spec : {M : Type 1} → statement M
 write-words-spec =
@@ -57,12 +42,7 @@ write-words-spec =
     (tie.spec
     head-word-requires
     put-word-requires
-    mul-put-word
-    add-put-word
-    put-word-requires-2
-    mul-put-word-2
-    add-put-word-2
-    put-word-requires-3
+    put-limits-requires
     write-modules-requires
     same-length
     returns)

@@ -6,7 +6,8 @@ use lib.Pow.{pow-pos}
 use Rattle.words.specs.Bits.{pack}
 use Rattle.words.proofs.BitLaws.{pack-lt}
 use Rattle.vote.specs.Lanes.{decidedBy}
-use Rattle.vote.proofs.FourLaws.{pack-add, countable, health-cut}
+use Rattle.vote.proofs.FourLaws.{countable, health-cut}
+use Rattle.words.proofs.BitLaws.{pack-add}
 use Rattle.vote.proofs.health.health_by.Statement.{statement}
 use Rattle.vote.proofs.health.health_by.Tie as tie
 

@@ -1,0 +1,10 @@
+pub mod AwaitedLaws
+pub mod AccountLaws
+pub mod FadeLaws
+pub mod RoundLaws
+pub mod CounterLoopLaws
+pub mod CountedLaws
+pub mod FadedLaws
+pub mod TakenBack
+pub mod Charges
+pub mod Cases
