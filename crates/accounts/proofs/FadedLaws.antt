@@ -12,7 +12,6 @@ use Rattle.words.proofs.BitLaws.{pack-end, pack-ext}
 use Rattle.words.proofs.ArrayLaws.{array-ext, replaced-array}
 use Rattle.doubles.specs.Double.{ofWords, highWord, lowWord}
 use Rattle.doubles.specs.Array.{entry, doubles}
-use Rattle.doubles.proofs.DoubleLaws.{held, read-fits, read-of-written}
 use Rattle.doubles.proofs.DoubleArrayLaws.{doubles-ext}
 use Rattle.setup.specs.declared.Setup.{Setup}
 use Rattle.setup.specs.declared.Limits.the-variants.{Fading}
@@ -22,7 +21,6 @@ use Rattle.accounts.specs.Fading.{faded}
 use Rattle.accounts.specs.Round.{accountAt, accountedAt, countersOf}
 use Rattle.accounts.specs.Lent.{scoreIn, fadedAt}
 use Rattle.accounts.specs.Range.{CountRange}
-use Rattle.accounts.proofs.FadeLaws.{faded-exact}
 use Rattle.accounts.proofs.RoundLaws.{fading-at, penalties-none, rewards-none}
 use Rattle.accounts.proofs.CountedLaws.{ahead}
 
@@ -59,14 +57,6 @@ module _ (n m : ℕ) (e : m ≡ n) (small : n ≤ 16) (f : ℕ → Account) wher
     turned y (λ a. lowWord (a .score)) fy ey,
     turned z (λ a. a .returns) fz ez,
   )
-
--- the score of a module after a round is the double of the halves that are written
-pub faded-halves : (factor limit : Float) (q health : ℕ) (x y z : List ℕ) (j : ℕ)
-    → (let score = fadedAt factor limit q health x y z j .score in ofWords (highWord score) (lowWord score) ≡ score)
-unfolding fadedAt scoreIn ofWords
-faded-halves factor limit q health x y z j =
-    read-of-written (fadedAt factor limit q health x y z j .score)
-    (held _ (faded-exact factor limit q (bit health j) (scoreIn limit x y z j) (read-fits (getD x j 0) (getD y j 0))))
 
 -- ---- counters
 

@@ -83,16 +83,7 @@ accounted-at s health c small j h = λ i. record {
   returns = array-at (s .n) (λ k. accountedAt s health c k .returns) j h small i;
 }
 
--- every account is kept
-pub counters-kept : (s : Setup) (health : ℕ) (c : Counters) → s .n ≤ 16 → LimitsFit (s .limits)
-    → ((j : ℕ) → j < s .n → Kept (s .limits) (getD (s .criticality) j 0) (accountAt c j))
-    → (j : ℕ) → j < s .n → Kept (s .limits) (getD (s .criticality) j 0) (accountAt (countersOf s health c) j)
-unfolding accountedAt
-counters-kept s health c small fits f j h =
-    subst (Kept (s .limits) (getD (s .criticality) j 0)) (sym (accounted-at s health c small j h))
-    (accounted-kept (s .limits) (s .q) (getD (s .criticality) j 0) (bit health j) (accountAt c j) fits (f j h))
-
--- and so are return counts, whatever the accounts were
+-- return counts fit, whatever the accounts were
 pub counts-fit : (s : Setup) (health : ℕ) (c : Counters) → s .n ≤ 16 → (j : ℕ) → j < s .n → CountFits (s .q) (accountAt (countersOf s health c) j)
 unfolding accountedAt
 counts-fit s health c small j h =

@@ -15,8 +15,7 @@ pub struct Account {
     pub returns: u32,
 }
 
-// The accounts of all modules, and the view. It stands between the arrays since three of them in a row were copied by calls of memcpy, which
-// the library does not have.
+// The accounts of all modules, and the view.
 pub struct Counters {
     pub penalty: [u32; 16],
     pub score: [f64; 16],

@@ -2,10 +2,10 @@
 use mathlib.Core.Path.{_≡_, refl, ap, ap₂, _∙_, sym}
 use mathlib.Core.Bool.{Bool, true, false, cond, _||_}
 use mathlib.Core.List.{List, [], _∷_, _++_}
-use Prim.Native.Nat.{ℕ, _+_, _*_, _^_, _<_, _≤_}
+use Prim.Native.Nat.{ℕ, _*_, _^_, _<_, _≤_}
 use native.Mathlib.Omega.{arith}
 use lib.Pow.{pow-mono}
-use lib.Dec.{eqb, ltb}
+use lib.Dec.{ltb}
 use lib.ListN.{getD, length, drop, replicate, getD-replicate}
 use borrow.Author.Tests.{eq-eqb, ne-eqb}
 use Rattle.words.specs.Word.{wordAt, bytesOf}
@@ -21,14 +21,14 @@ use Rattle.words.proofs.RunLaws.{put-run}
 use Rattle.words.proofs.VerdictLaws.{between-of}
 use lib.Ieee.{ofInt, toBits}
 use Rattle.doubles.specs.Double.{double, highWord, lowWord}
-use Rattle.doubles.specs.Array.{entry, zeros}
+use Rattle.doubles.specs.Array.{zeros}
 use Rattle.doubles.proofs.DoubleArrayLaws.{zeros-at}
 use Rattle.setup.specs.Layout.{frontWords, setupWords, setupLength}
 use Rattle.setup.specs.Limits.{fades}
 use Rattle.setup.specs.Setup.{sizeIn, fadesIn, frontIn, frontOf, setupOf, setupBytes}
 use Rattle.setup.specs.Check.{checkSetup}
 use Rattle.setup.specs.declared.Setup.{Setup}
-use Rattle.setup.proofs.BoundLaws.{read-fades, front-least}
+use Rattle.setup.proofs.BoundLaws.{read-fades}
 use Rattle.setup.proofs.SetupCheckLaws.{BytesFit, setup-pass}
 use Rattle.setup.proofs.FrontLaws.{setup-written}
 use Rattle.image.specs.Layout.{ownAt, imageLength}
@@ -43,7 +43,7 @@ use Rattle.presence.proofs.StateRoundLaws.{not-between, is-between}
 use Rattle.calls.specs.Calls.{answer, called, wrote, refusedCall, openCall}
 use Rattle.calls.specs.Refusals.{sizeOf, hasRoom, openVerdict, answering}
 use Rattle.calls.specs.declared.Answer.{Answer}
-use Rattle.calls.proofs.ModuleCallLaws.{read-front, read-sized}
+use Rattle.calls.proofs.ModuleCallLaws.{read-front}
 use Rattle.calls.proofs.Refusals.{open-verdict, refusals}
 
 -- ---- accounts of a fresh module, lent as zeros

@@ -29,7 +29,7 @@ use Rattle.rules.proofs.SyndromeLaws.{health-lt}
 use Rattle.accounts.specs.Round.{accountAt}
 use Rattle.accounts.proofs.RoundLaws.{Kept}
 use Rattle.image.specs.Layout.{ownAt, imageLength}
-use Rattle.image.specs.Words.{ownWord, viewIn, syndromeWord}
+use Rattle.image.specs.Words.{ownWord, syndromeWord}
 use Rattle.image.specs.Rows.{rowRun, readingIn}
 use Rattle.image.specs.CounterSection.{valuesIn}
 use Rattle.image.specs.Returns.{returnCounts}

@@ -14,14 +14,13 @@ use Rattle.words.specs.declared.Verdict.{Verdict}
 use Rattle.words.proofs.Truth.{which, cond-true, cond-false, and-l, and-r, and-true, cond-both}
 use Rattle.words.proofs.VerdictLaws.{Passed, between-is, between-of, and-then-next, single-refused, tests-ok}
 use Rattle.setup.specs.Layout.{frontWords}
-use Rattle.setup.specs.Setup.{fadesIn, frontIn, frontOf, setupOf}
+use Rattle.setup.specs.Setup.{fadesIn, setupOf}
 use Rattle.setup.specs.Check.{headTests, limitTests, moduleTests, wordTests, checkHead, checkWords, checkSetup, setupVerdict}
 use Rattle.setup.specs.declared.Setup.{Setup}
 use Rattle.setup.proofs.SetupLaws.{SetupFits, fits-verdict as setup-accepted}
 use Rattle.setup.proofs.SetupRoundTrip.{read-fits}
 use Rattle.rules.specs.Hearing.{readingOf, causesOf}
 use Rattle.rules.specs.declared.Reading.{Reading}
-use Rattle.image.specs.Layout.{imageLength}
 use Rattle.image.specs.Check.{imageLengthIn, tailTests, imageTests, checkImage}
 use Rattle.presence.specs.Opening.{fresh, blank, checkOpening, openOf}
 use Rattle.presence.specs.Step.{judgementFor, afterRound, refusedStep, acceptedStep, readStep, stepOf}

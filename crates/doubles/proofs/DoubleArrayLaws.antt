@@ -70,11 +70,6 @@ pub doubles-zeros : (n : ℕ) (f : ℕ → Float) → n ≤ 16 → ((i : ℕ) �
 doubles-zeros n f h z =
     doubles-ext n f (entry zeros) (λ i l. z i l ∙ sym (zeros-at i (omega arith))) ∙ own n zeros h zeros-length (λ i l k. zeros-at i k)
 
--- ---- arrays of which the first n are in use
-
-pub filled-doubles : (n : ℕ) (f : ℕ → Float) → n ≤ 16 → FilledDoubles n (doubles n f)
-filled-doubles n f h = doubles-ext n _ f (λ i l. doubles-at n f i l h)
-
 -- ---- arrays of doubles that are 0.0 from n on, by their bits
 
 zero-pattern : toBits binary64 (double 0) ≡ 0

@@ -1,14 +1,12 @@
 -- Laws of doubles in words: which patterns are those of numbers from 0 up, and that what is written is read back.
-use Prim.Native.Nat.{ℕ, zero, suc, _+_, _-_, _*_, _/_, _%_, _^_, _<_, _≤_}
+use Prim.Native.Nat.{ℕ, zero, suc, _+_, _*_, _/_, _%_, _^_, _<_}
 use mathlib.Core.Path.{_≡_, refl, sym, ap, subst, _∙_}
 use mathlib.Core.Bool.{Bool, true, false, not, cond}
 use native.Mathlib.Omega.{arith}
 use native.Mathlib.Decide.{decLt}
-use native.Mathlib.Nat.{mod-eq-of-lt}
-use mathlib.Core.List.{List}
 use lib.Dec.{T, eqb, leb, ltb}
-use lib.Ieee.{Float, nan, inf, fin, Format, binary64, isNan, fits, ones, prec, hid, low, odd, ofFields, ofBits, toBits}
-use lib.Ieee.Bits.{ofBits-toBits, toBits-ofBits, toBits-lt, ofBits-fits}
+use lib.Ieee.{Float, nan, inf, fin, binary64, isNan, fits, hid, odd, ofFields, ofBits, toBits}
+use lib.Ieee.Bits.{ofBits-toBits, toBits-ofBits, ofBits-fits}
 use borrow.Author.Tests.{lt-ltb, le-ltb, le-leb, lt-leb, eq-eqb, ne-eqb}
 use Rattle.doubles.specs.Double.{ofWords, highWord, lowWord, nonNegative, isDouble}
 
@@ -98,17 +96,6 @@ read-of-written x h =
     let b = toBits binary64 x in
     let e : b / 2 ^ 32 * 2 ^ 32 + b % 2 ^ 32 ≡ b = omega arith in
     rw e (ofBits-toBits binary64 x h)
-
--- both words are words
-pub high-lt : (x : Float) → T (fits binary64 x) → highWord x < 2 ^ 32
-unfolding highWord
-high-lt x h =
-    let b : toBits binary64 x < 2 ^ 64 = toBits-lt binary64 x h in
-    omega arith
-
-pub low-lt : (x : Float) → lowWord x < 2 ^ 32
-unfolding lowWord
-low-lt x = omega arith
 
 -- what is read is a value of the format
 pub read-fits : (h l : ℕ) → isDouble (ofWords h l) ≡ true

@@ -8,10 +8,10 @@ use lib.ListN.{length}
 use lib.Dec.{eqb}
 use borrow.Author.Tests.{eq-eqb, ne-eqb, eqb-true}
 use Rattle.words.specs.Word.{wordAt, kindUnit}
-use Rattle.words.specs.Verdict.{verdict, accepted, isAccepted, andThen, allRight, firstRefusal}
+use Rattle.words.specs.Verdict.{verdict, isAccepted, allRight, firstRefusal}
 use Rattle.words.specs.declared.Verdict.{Verdict}
 use Rattle.words.proofs.Truth.{cond-true, cond-false}
-use Rattle.words.proofs.VerdictLaws.{tests-accept, and-then-stops, and-then-goes, and-then-accepts, and-end}
+use Rattle.words.proofs.VerdictLaws.{tests-accept, and-then-stops, and-then-goes, and-then-accepts}
 use Rattle.setup.specs.Limits.{mostReturnLimit}
 use Rattle.setup.specs.Layout.{frontWords}
 use Rattle.setup.specs.Setup.{sizeIn, returnLimitIn, fadesIn, frontIn}

@@ -26,7 +26,7 @@ use Rattle.image.specs.Layout.{ownAt, accountsAt, imageLength}
 use Rattle.image.specs.Words.{viewIn}
 use Rattle.image.specs.CounterSection.{counterWord, valuesIn}
 use Rattle.image.specs.Returns.{returnCounts}
-use Rattle.image.specs.Scores.{halfOf, scoreOf}
+use Rattle.image.specs.Scores.{scoreOf}
 use Rattle.image.specs.Counters.{penalties, rewards, counterTests, countersIn, counterRuns}
 use Rattle.image.specs.Part.{firstIn, secondIn, firstOf, secondOf, lentCounters, CountersSmall, lentRuns}
 use Rattle.image.proofs.CounterSectionLaws.{first, later}

@@ -7,20 +7,18 @@ use mathlib.Core.List.{List}
 use Prim.Native.Nat.{ℕ, _+_, _*_, _/_, _%_, _^_, _<_, _≤_}
 use native.Mathlib.Omega.{arith}
 use native.Mathlib.Decide.{decLt}
-use lib.ListN.{getD, length, replicate, getD-replicate}
+use lib.ListN.{getD, replicate, getD-replicate}
 use lib.Dec.{eqb}
 use lib.Ieee.{Float, lt}
-use Rattle.words.specs.Word.{wordAt}
 use Rattle.words.specs.Bits.{bit, full}
 use Rattle.words.proofs.BitLaws.{bit-full}
-use Rattle.words.specs.Array.{array, bounded}
+use Rattle.words.specs.Array.{bounded}
 use Rattle.words.proofs.Truth.{and-l, and-r, and-true, beq-eq, beq-refl}
 use Rattle.words.proofs.ArrayLaws.{clearFrom, clear-at, clear-of, bounded-at, bounded-clear, bounded-of}
-use Rattle.doubles.specs.Double.{double, ofWords, doubleIn, highWord, lowWord, nonNegative, isDouble}
+use Rattle.doubles.specs.Double.{double, ofWords, highWord, lowWord, nonNegative, isDouble}
 use Rattle.doubles.specs.Array.{entry, doubles, clearDoubles}
 use Rattle.doubles.proofs.DoubleLaws.{held, read-of-written, high-of-read, low-of-read}
 use Rattle.doubles.proofs.DoubleArrayLaws.{doubles-at, zeros-at, clear-doubles-are, clear-zeros}
-use Rattle.setup.specs.Layout.{scoreLimitAt}
 use Rattle.setup.specs.declared.Setup.{Setup}
 use Rattle.setup.specs.declared.Limits.the-variants.{Fading}
 use Rattle.setup.specs.Limits.{limitFits}
@@ -30,11 +28,9 @@ use Rattle.accounts.specs.Round.{accountAt, countersOf}
 use Rattle.accounts.specs.declared.Counters.{Counters}
 use Rattle.accounts.proofs.FadeLaws.{FadeFits, nothing-non-negative}
 use Rattle.accounts.proofs.RoundLaws.{scores-fit, penalties-none, rewards-none, scores-clear}
-use Rattle.image.specs.Layout.{ownAt, accountsAt}
-use Rattle.image.specs.Words.{viewIn}
-use Rattle.image.specs.CounterSection.{sectionRoomy}
-use Rattle.image.specs.Returns.{returnFits, returnCounts}
-use Rattle.image.specs.Scores.{scoreFits, halfOf, scoreOf, scoreTest, halfTest, scoreRun}
+use Rattle.image.specs.Layout.{accountsAt}
+use Rattle.image.specs.Returns.{returnFits}
+use Rattle.image.specs.Scores.{scoreFits, halfOf, scoreOf, scoreTest, halfTest}
 use Rattle.image.specs.Counters.{zeroCounters, countersRoomy}
 use Rattle.image.proofs.ReturnLaws.{return-small, return-zero, returns-after, returns-clear}
 

@@ -2,9 +2,9 @@
 use mathlib.Core.Path.{_≡_, refl, ap, ap₂, _∙_, sym, subst}
 use mathlib.Core.Bool.{Bool, true, false}
 use mathlib.Core.List.{List, _++_}
-use Prim.Native.Nat.{ℕ, _+_, _*_, _<_}
+use Prim.Native.Nat.{ℕ, _+_, _<_}
 use native.Mathlib.Omega.{arith}
-use lib.ListN.{getD, length}
+use lib.ListN.{getD}
 use lib.Dec.{eqb}
 use Rattle.words.specs.Word.{wordAt, bytesOf}
 use Rattle.words.specs.Runs.{total, runsOf, runWord}
@@ -28,7 +28,6 @@ use Rattle.setup.proofs.SetupCheckLaws.{WordsFit, setup-pass}
 use Rattle.setup.proofs.SetupRoundTrip.{read-back}
 use Rattle.setup.proofs.FrontLaws.{words-same, setup-same, setup-written}
 use Rattle.rules.specs.Hearing.{readingOf}
-use Rattle.accounts.specs.Round.{countersOf}
 use Rattle.image.specs.Layout.{ownAt, latestAt, earlierAt, endAt, imageLength}
 use Rattle.image.specs.Words.{viewIn}
 use Rattle.image.specs.Rows.{readingIn}

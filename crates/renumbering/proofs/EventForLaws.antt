@@ -15,7 +15,7 @@ use Rattle.words.specs.Word.{wordAt}
 use Rattle.words.specs.Bits.{bit}
 use Rattle.words.proofs.Truth.{which, clash, and-l, and-r, and-true}
 use Rattle.setup.specs.Setup.{sizeIn}
-use Rattle.script.specs.Words.{eventsAt, kindOf, senderIn, receiversIn, roundsIn}
+use Rattle.script.specs.Words.{kindOf, senderIn, receiversIn, roundsIn}
 use Rattle.script.specs.Check.{checkScript}
 use Rattle.script.specs.Rounds.{roundsOf}
 use Rattle.script.specs.Effect.{fateIn, toldIn, afterCast, toldAt, playAt, roundsBefore, Counts, Effect}

@@ -1,6 +1,6 @@
 -- Only the cast lies: in an accepted run script a told word stands only for a sender of the cast, in every round.
 -- Proved in proofs/CastLaws.antt.
-use Prim.Native.Nat.{ℕ, _+_, _%_, _<_}
+use Prim.Native.Nat.{ℕ, _%_, _<_}
 use mathlib.Core.Path.{_≡_}
 use mathlib.Core.Bool.{true}
 use mathlib.Core.List.{List}

@@ -8,10 +8,10 @@ use lib.ListN.{length}
 use lib.Dec.{eqb, leb}
 use borrow.Author.Tests.{eqb-true, eqb-false, eq-eqb, ne-eqb, leb-true, not-true}
 use Rattle.words.specs.Word.{wordAt}
-use Rattle.words.specs.Verdict.{Test, accepted, isAccepted, andThen, allRight}
+use Rattle.words.specs.Verdict.{Test, accepted, andThen, allRight}
 use Rattle.words.specs.declared.Verdict.{Verdict}
 use Rattle.words.proofs.Truth.{and-l, and-r, and-true}
-use Rattle.words.proofs.VerdictLaws.{Passed, numbered, and-then-next, and-then-pass, all-passed, passed-all, tests-pass, tests-ok, tests-accept, right-join, numbers-join}
+use Rattle.words.proofs.VerdictLaws.{Passed, numbered, and-then-next, and-then-pass, all-passed, passed-all, tests-pass, tests-ok, right-join, numbers-join}
 use Rattle.setup.specs.Setup.{sizeIn, fadesIn, frontIn}
 use Rattle.setup.specs.Check.{whole, headOk, moduleOk, markOk, limitTests, moduleTest, moduleTests, headTests, wordTests, lengthIn, checkHead, checkWords, checkSetup, checkFront}
 use Rattle.setup.proofs.WordFields.{head-made}
@@ -84,11 +84,6 @@ words-ok s n f =
     let ts = limitTests (fadesIn (wordAt s)) (wordAt s) in
     let t : allRight (bothTests s n) ≡ true = passed-all (bothTests s n) (f .each, (f .marks, tt)) in
     tests-ok (wordTests s n) (all-passed (wordTests s n) (right-join ts (bothTests s n) ∙ and-true (allRight ts) _ (f .limits) t))
-
--- they accept where all words are right
-pub words-accept : (s : List ℕ) (n : ℕ) → isAccepted (checkWords s n) ≡ allRight (wordTests s n)
-unfolding checkWords
-words-accept s n = tests-accept (wordTests s n) (word-numbers s n)
 
 -- ---- a setup by itself, and one at the front of a script
 

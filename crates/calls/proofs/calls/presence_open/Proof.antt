@@ -1,6 +1,6 @@
 -- The setup, the own number and the length are tested; then its words are copied, and those of a fresh module written after them.
 use native.Mathlib.Omega.{arith}
-use mathlib.Core.Path.{_≡_, ap, _∙_, sym}
+use mathlib.Core.Path.{ap, _∙_, sym}
 use Prim.Native.Nat.{ℕ, _≤_}
 use Rattle.words.specs.declared.Verdict.{Verdict}
 use Rattle.setup.specs.Layout.{frontWords}

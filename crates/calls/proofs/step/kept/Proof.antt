@@ -1,8 +1,8 @@
 -- By the form of the limits: what is asked and given by limits is asked and given of that form.
-use mathlib.Core.Path.{_≡_, subst, sym}
+use mathlib.Core.Path.{subst}
 use Prim.Native.Nat.{ℕ, _<_}
 use Rattle.setup.specs.declared.Limits.{Limits}
-use Rattle.calls.specs.Held.{LentRange, keptAt, keptView, keptFirst, keptSecond, keptReturns}
+use Rattle.calls.specs.Held.{LentRange, keptAt}
 use borrow.Author.Needs.{needs}
 use Rattle.calls.proofs.step.kept.Statement.{statement}
 use Rattle.calls.proofs.step.kept.Tie as tie

@@ -1,8 +1,7 @@
 -- What is lent holds the state; the parts are its round, and what they write is the next image.
 use native.Mathlib.Omega.{arith}
 use Prim.Native.Nat.{ℕ}
-use mathlib.Core.Path.{_≡_, ap, ap₂, _∙_, sym}
-use mathlib.Core.Bool.{Bool}
+use mathlib.Core.Path.{ap, ap₂, _∙_, sym}
 use Rattle.words.proofs.ArrayLaws.{array-none}
 use Rattle.setup.specs.Layout.{frontWords, setupWords}
 use Rattle.rules.specs.Hearing.{readingOf}

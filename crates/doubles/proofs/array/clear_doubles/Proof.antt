@@ -1,8 +1,8 @@
 -- After j turns `good` says whether the entries below j are doubles, and 0.0 where they are not in use.
 use native.Mathlib.Omega.{arith}
 use Prim.Native.Nat.{ℕ, _-_, _≤_}
-use mathlib.Core.Path.{_≡_, refl, ap, ap₂, _∙_}
-use mathlib.Core.Bool.{Bool, _&&_, _||_}
+use mathlib.Core.Path.{_≡_, refl, ap, ap₂}
+use mathlib.Core.Bool.{_&&_, _||_}
 use lib.Dec.{eqb, ltb}
 use lib.Ieee.{binary64, toBits}
 use Rattle.words.specs.Count.{all}

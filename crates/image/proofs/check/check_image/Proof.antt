@@ -1,6 +1,6 @@
 -- Numbers 1 and 2, then the length, then the setup, then the rest: where one refuses, its answer is the whole answer.
 use native.Mathlib.Omega.{arith}
-use mathlib.Core.Path.{_≡_, _∙_, ap, sym}
+use mathlib.Core.Path.{_≡_, _∙_, ap}
 use mathlib.Core.Bool.{Bool}
 use Prim.Native.Nat.{ℕ, _≤_}
 use Rattle.setup.specs.Layout.{frontWords, setupLength}

@@ -1,7 +1,7 @@
 -- By the form of the setup, one section after the other.
 use mathlib.Core.Path.{_≡_, ap, sym, _∙_}
 use mathlib.Core.Bool.{Bool, true, false}
-use Prim.Native.Nat.{ℕ, _≤_}
+use Prim.Native.Nat.{ℕ}
 use native.Mathlib.Omega.{arith}
 use Rattle.words.specs.Verdict.{each, andThen, outcome, thenTests}
 use Rattle.words.specs.declared.Verdict.{Verdict}

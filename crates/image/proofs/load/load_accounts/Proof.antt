@@ -1,6 +1,5 @@
 -- By the form of the limits: what is asked of an image with such limits is asked of it by that form.
-use native.Mathlib.Omega.{arith}
-use mathlib.Core.Path.{ap, _∙_, sym, subst}
+use mathlib.Core.Path.{ap, sym, subst}
 use Rattle.words.specs.Word.{wordAt}
 use Rattle.setup.specs.Setup.{limitsIn}
 use Rattle.image.proofs.ReadLaws.{limits-within}

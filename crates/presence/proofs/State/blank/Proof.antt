@@ -1,5 +1,4 @@
 -- All zeros.
-use mathlib.Core.Path.{_∙_}
 use Rattle.presence.specs.Opening.{blank}
 use borrow.Author.Needs.{needs}
 use Rattle.presence.proofs.State.blank.Statement.{statement}

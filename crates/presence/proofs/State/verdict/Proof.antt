@@ -1,6 +1,6 @@
 -- The answer for the setup, then the room of the fields, then the answer for the image.
 use native.Mathlib.Omega.{arith}
-use mathlib.Core.Path.{_≡_, _∙_, sym}
+use mathlib.Core.Path.{_∙_, sym}
 use lib.Seq.{length-take-le}
 use Rattle.setup.proofs.SetupAnswerLaws.{struct-fits, struct-verdict}
 use Rattle.presence.proofs.StateAnswers.{length-by, setup-stays, room-lacks, image-answers, room-is}

@@ -1,5 +1,5 @@
 -- The image is written, and checked.
-use mathlib.Core.Path.{_≡_, ap, ap₂, _∙_, sym}
+use mathlib.Core.Path.{ap, ap₂, _∙_, sym}
 use mathlib.Core.Bool.{Bool}
 use mathlib.Core.List.{List}
 use Prim.Native.Nat.{ℕ}
