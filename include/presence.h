@@ -30,9 +30,9 @@
  * Nothing is kept between calls: the result of a call and the bytes it writes
  * follow from its arguments alone.  The functions use no heap, no static
  * variables and no C library calls.  With counts and with fading (see SETUP)
- * an accepted presence_step takes 1,016 bytes of stack (measured, for N = 2,
- * 4, 8 and 16) and a refused one 1,064, presence_page_step 1,272 and 1,320,
- * presence_open 1,592, presence_page_open 1,896; no other call takes more than
+ * an accepted presence_step takes 1,000 bytes of stack (measured, for N = 2,
+ * 4, 8 and 16) and a refused one 1,128, presence_page_step 1,208 and 1,336,
+ * presence_page_open 344, presence_open 216; no other call takes more than
  * 200.
  *
  * Instructions of an accepted presence_step and presence_page_step (page), the
@@ -45,20 +45,20 @@
  * With counts:
  *
  *    N   step   page        N   step   page        N   step   page
- *    2  1,120  1,292        7  2,064  2,286       12  2,272  2,497
- *    3  1,324  1,515        8  1,607  1,804       13  2,631  2,875
- *    4  1,282  1,447        9  1,999  2,216       14  2,844  3,107
- *    5  1,645  1,829       10  2,205  2,441       15  3,048  3,330
- *    6  1,860  2,063       11  2,409  2,664       16  2,554  2,809
+ *    2  1,042  1,227        7  1,926  2,184       12  2,049  2,294
+ *    3  1,241  1,451        8  1,435  1,637       13  2,415  2,684
+ *    4  1,149  1,333        9  1,833  2,059       14  2,622  2,916
+ *    5  1,518  1,726       10  2,033  2,284       15  2,821  3,140
+ *    6  1,727  1,960       11  2,232  2,508       16  2,292  2,553
  *
  * With fading:
  *
  *    N   step   page        N   step   page        N   step   page
- *    2  1,125  1,303        7  2,308  2,549       12  2,766  3,027
- *    3  1,392  1,591        8  1,944  2,165       13  3,132  3,415
- *    4  1,432  1,609        9  2,319  2,563       14  3,380  3,684
- *    5  1,798  1,997       10  2,543  2,808       15  3,640  3,965
- *    6  2,048  2,268       11  2,810  3,096       16  3,239  3,542
+ *    2  1,069  1,254        7  2,220  2,470       12  2,676  2,910
+ *    3  1,334  1,542        8  1,864  2,059       13  3,037  3,294
+ *    4  1,352  1,533        9  2,235  2,453       14  3,284  3,564
+ *    5  1,713  1,917       10  2,460  2,701       15  3,542  3,845
+ *    6  1,962  2,189       11  2,725  2,989       16  3,148  3,394
  *
  *
  * CALLS AT THE SAME TIME

@@ -229,7 +229,7 @@ def steps_as_said(presence, page, form):
 
 # by form and N the most that a step may take of plain C's instructions: what was reached, rounded up
 GOALS = {"counts": {2: 1.0, 4: 0.66, 8: 0.43, 16: 0.32},
-         "fading": {2: 1.15, 4: 0.90, 8: 0.65, 16: 0.49}}
+         "fading": {2: 1.10, 4: 0.86, 8: 0.62, 16: 0.48}}
 ALIKE = {"counts"}  # the forms of which the same number of instructions in every kind of round is asked
 
 
