@@ -47,3 +47,4 @@ mod word;
 pub mod write;
 
 pub use word::head_ok;
+pub use word::limit_ok;

@@ -34,7 +34,7 @@ fn head_word(q: u32, n: usize) -> u32
 }
 
 // The word of module j + 1.
-fn module_word(j: usize, mark: bool, place: u32, criticality: u32) -> u32
+pub fn module_word(j: usize, mark: bool, place: u32, criticality: u32) -> u32
     requires { ⌜ (j < 16) × (place < 2 ^ 5) × (criticality < 2 ^ 17) ⌝ }
     ensures { λ r. ⌜ r ≡ moduleWord j mark place criticality ⌝ }
 {

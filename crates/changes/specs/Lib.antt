@@ -1,0 +1,6 @@
+pub mod Pending
+pub mod Adjust
+pub mod Books
+pub mod Words
+pub mod Frame
+pub mod Lent
