@@ -1,7 +1,8 @@
 -- Where the words of a saved state stand, of n modules and with `front` words before those of the modules, section after section.
--- (document 01, "What runs", kinds 10 to 14; document 02, E6, kind 15, and E9)
+-- (document 01, "What runs", kinds 10 to 14; document 02, E6, kind 15, E9 and E10)
 use Prim.Native.Nat.{ℕ, _+_, _*_}
 use Rattle.setup.specs.Layout.{setupWords}
+use Rattle.changes.specs.Words.{newCount}
 
 -- after the setup's words: own number and view
 abbrev pub ownAt : ℕ → ℕ → ℕ
@@ -31,10 +32,18 @@ rewardsAt front n = accountsAt front n + n
 abbrev pub returnsAt : ℕ → ℕ → ℕ
 returnsAt front n = rewardsAt front n + n
 
--- the end: how many words an image has
-abbrev pub endAt : ℕ → ℕ → ℕ
-endAt front n = returnsAt front n + n
+-- the rounds left until a pending change takes effect, 0 where none is pending; its new words follow
+abbrev pub leftAt : ℕ → ℕ → ℕ
+leftAt front n = returnsAt front n + n
+
+-- how many bytes stand before it
+abbrev pub beforeLeft : ℕ → ℕ → ℕ
+beforeLeft front n = leftAt front n * 4
+
+-- how many words an image has, by the rounds left
+abbrev pub imageWords : ℕ → ℕ → ℕ → ℕ
+imageWords front n left = leftAt front n + 1 + newCount n left
 
 -- and how many bytes
-abbrev pub imageLength : ℕ → ℕ → ℕ
-imageLength front n = endAt front n * 4
+abbrev pub imageLength : ℕ → ℕ → ℕ → ℕ
+imageLength front n left = imageWords front n left * 4

@@ -17,7 +17,7 @@ use Rattle.doubles.specs.Array.{entry, zeros, doubles}
 use Rattle.setup.specs.Layout.{headAt, frontWords}
 use Rattle.setup.specs.Setup.{returnLimitIn, limitsIn, placeIn, criticalityIn}
 use Rattle.accounts.specs.declared.Counters.{Counters}
-use Rattle.image.specs.Layout.{ownAt, latestAt, earlierAt, accountsAt}
+use Rattle.image.specs.Layout.{ownAt, latestAt, earlierAt, accountsAt, leftAt}
 use Rattle.image.specs.Words.{ownIn, viewIn, syndromeIn}
 use Rattle.image.specs.Rows.{readingIn}
 use Rattle.image.specs.CounterSection.{counterWord, valuesIn}
@@ -87,3 +87,4 @@ pub record PartOf (s : List ℕ) (fades : Bool) (n : ℕ) (part : ImagePart) (k 
   pub first : x ≡ firstIn fades s n
   pub second : y ≡ secondIn fades s n
   pub returns : z ≡ valuesIn s (frontWords fades) n returnCounts
+  pub left : part .left ≡ wordAt s (leftAt (frontWords fades) n)

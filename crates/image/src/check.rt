@@ -4,6 +4,7 @@ use crate::layout::accounts_at;
 use crate::layout::earlier_at;
 use crate::layout::image_length;
 use crate::layout::latest_at;
+use crate::layout::left_at;
 use crate::layout::own_at;
 use crate::layout::returns_at;
 use crate::layout::rewards_at;
@@ -13,6 +14,7 @@ use crate::scores::half_right;
 use crate::word::own_number_ok;
 use crate::word::own_ok;
 use crate::word::syndrome_ok;
+use changes::section::check_change;
 use setup::bounds::fades_at;
 use setup::bounds::front_words;
 use setup::check::check_head;
@@ -33,7 +35,8 @@ ghost use Rattle.words.specs.Word.{wordAt};
 ghost use Rattle.words.specs.Count.{lowest};
 ghost use Rattle.words.specs.Verdict.{andThen, outcome, single, each, firstRefusal, thenTests};
 ghost use Rattle.setup.specs.Layout.{frontWords};
-ghost use Rattle.image.specs.Layout.{ownAt, endAt, imageLength};
+ghost use Rattle.changes.specs.Words.{newCount, changeTests};
+ghost use Rattle.image.specs.Layout.{ownAt, leftAt, beforeLeft, imageLength};
 ghost use Rattle.image.specs.Words.{ownNumberOk, ownOk, syndromeOk};
 ghost use Rattle.image.specs.Scores.{halfTest, scoreTests};
 ghost use Rattle.image.specs.Counters.{counterTests};
@@ -41,7 +44,7 @@ ghost use Rattle.image.specs.Check.{wordTest, checkTail, imageSize, chec
 
 // Whether the word of module j + 1 is right in the section of a kind that begins at `at`.
 fn word_right(s: &[u8], front: usize, n: usize, kind: u32, at: usize, j: usize) -> bool
-    requires { ⌜ (front ≤ 6) × (n ≤ 16) × (length (now s) ≡ imageLength front n) × (2 < front) × (kind < 16) × (at + n ≤ endAt front n) × (j < n) ⌝ }
+    requires { ⌜ (front ≤ 6) × (n ≤ 16) × (beforeLeft front n ≤ length (now s)) × (2 < front) × (kind < 16) × (at + n ≤ leftAt front n) × (j < n) ⌝ }
     ensures { λ r. ⌜ r ≡ wordTest (wordAt (now (s .entry))) front n kind at j ⌝ }
 {
     match kind {
@@ -52,7 +55,7 @@ fn word_right(s: &[u8], front: usize, n: usize, kind: u32, at: usize, j: usize) 
 
 // One more than the first word of such a section that is wrong, or 0.
 fn wrong_word(s: &[u8], front: usize, n: usize, kind: u32, at: usize) -> usize
-    requires { ⌜ (front ≤ 6) × (n ≤ 16) × (length (now s) ≡ imageLength front n) × (2 < front) × (kind < 16) × (at + n ≤ endAt front n) ⌝ }
+    requires { ⌜ (front ≤ 6) × (n ≤ 16) × (beforeLeft front n ≤ length (now s)) × (2 < front) × (kind < 16) × (at + n ≤ leftAt front n) ⌝ }
     ensures { λ r. ⌜ (r ≡ lowest n (λ j. not (wordTest (wordAt (now (s .entry))) front n kind at j))) × (r ≤ n) ⌝ }
 {
     let mut j: usize = 0;
@@ -69,7 +72,7 @@ fn wrong_word(s: &[u8], front: usize, n: usize, kind: u32, at: usize) -> usize
 
 // The answer v, then number 8 at the first wrong word of a section with one word a module.
 fn then_section(v: Verdict, s: &[u8], front: usize, n: usize, kind: u32, at: usize) -> Verdict
-    requires { ⌜ (front ≤ 6) × (n ≤ 16) × (length (now s) ≡ imageLength front n) × (2 < front) × (kind < 16) × (at + n ≤ endAt front n) ⌝ }
+    requires { ⌜ (front ≤ 6) × (n ≤ 16) × (beforeLeft front n ≤ length (now s)) × (2 < front) × (kind < 16) × (at + n ≤ leftAt front n) ⌝ }
     ensures { λ r. ⌜ r ≡ andThen v (outcome (each n (wordTest (wordAt (now (s .entry))) front n kind at) 8 at)) ⌝ }
 {
     if v.number != 0 {
@@ -84,7 +87,7 @@ fn then_section(v: Verdict, s: &[u8], front: usize, n: usize, kind: u32, at: usi
 
 // The answer v, then number 8 for a wrong syndrome.
 fn then_syndrome(v: Verdict, s: &[u8], front: usize, n: usize, at: usize) -> Verdict
-    requires { ⌜ (front ≤ 6) × (n ≤ 16) × (length (now s) ≡ imageLength front n) × (at < endAt front n) ⌝ }
+    requires { ⌜ (front ≤ 6) × (n ≤ 16) × (beforeLeft front n ≤ length (now s)) × (at < leftAt front n) ⌝ }
     ensures { λ r. ⌜ r ≡ andThen v (outcome (single (syndromeOk n (wordAt (now (s .entry)) at)) 8 at)) ⌝ }
 {
     if v.number != 0 {
@@ -98,7 +101,7 @@ fn then_syndrome(v: Verdict, s: &[u8], front: usize, n: usize, at: usize) -> Ver
 
 // Numbers 7 and 8 of the word of the own number and the view.
 fn check_own(s: &[u8], front: usize, n: usize) -> Verdict
-    requires { ⌜ (front ≤ 6) × (n ≤ 16) × (length (now s) ≡ imageLength front n) ⌝ }
+    requires { ⌜ (front ≤ 6) × (n ≤ 16) × (beforeLeft front n ≤ length (now s)) ⌝ }
     ensures { λ r. ⌜ r
         ≡ firstRefusal (single (ownNumberOk n (wordAt (now (s .entry)) (ownAt front n))) 7 (ownAt front n)
         ∷ single (ownOk n (wordAt (now (s .entry)) (ownAt front n))) 8 (ownAt front n)
@@ -117,7 +120,7 @@ fn check_own(s: &[u8], front: usize, n: usize) -> Verdict
 
 // The answer v, then number 8 for the counters of a setup that counts.
 fn then_counters(v: Verdict, s: &[u8], n: usize) -> Verdict
-    requires { ⌜ (n ≤ 16) × (length (now s) ≡ imageLength (frontWords false) n) ⌝ }
+    requires { ⌜ (n ≤ 16) × (beforeLeft (frontWords false) n ≤ length (now s)) ⌝ }
     ensures { λ r. ⌜ r ≡ thenTests v (counterTests false (wordAt (now (s .entry))) n) ⌝ }
 {
     let penalties = then_section(v, s, 3, n, 13, accounts_at(3, n));
@@ -127,7 +130,7 @@ fn then_counters(v: Verdict, s: &[u8], n: usize) -> Verdict
 
 // One more than the first word of the scores that is wrong, or 0.
 fn wrong_half(s: &[u8], n: usize) -> usize
-    requires { ⌜ (n ≤ 16) × (length (now s) ≡ imageLength (frontWords true) n) ⌝ }
+    requires { ⌜ (n ≤ 16) × (beforeLeft (frontWords true) n ≤ length (now s)) ⌝ }
     ensures { λ r. ⌜ (r ≡ lowest (n + n) (λ i. not (halfTest (wordAt (now (s .entry))) (frontWords true) n i))) × (r ≤ n + n) ⌝ }
 {
     let mut i: usize = 0;
@@ -144,7 +147,7 @@ fn wrong_half(s: &[u8], n: usize) -> usize
 
 // The answer v, then number 8 for the scores.
 fn then_scores(v: Verdict, s: &[u8], n: usize) -> Verdict
-    requires { ⌜ (n ≤ 16) × (length (now s) ≡ imageLength (frontWords true) n) ⌝ }
+    requires { ⌜ (n ≤ 16) × (beforeLeft (frontWords true) n ≤ length (now s)) ⌝ }
     ensures { λ r. ⌜ r ≡ andThen v (outcome (scoreTests (wordAt (now (s .entry))) (frontWords true) n)) ⌝ }
 {
     if v.number != 0 {
@@ -159,7 +162,7 @@ fn then_scores(v: Verdict, s: &[u8], n: usize) -> Verdict
 
 // The answer v, then number 8 for the accounts, of a setup that fades or counts.
 fn then_accounts(v: Verdict, s: &[u8], fades: bool, n: usize) -> Verdict
-    requires { ⌜ (n ≤ 16) × (length (now s) ≡ imageLength (frontWords fades) n) ⌝ }
+    requires { ⌜ (n ≤ 16) × (beforeLeft (frontWords fades) n ≤ length (now s)) ⌝ }
     ensures { λ r. ⌜ r ≡ thenTests v (counterTests fades (wordAt (now (s .entry))) n) ⌝ }
 {
     if fades {
@@ -169,9 +172,20 @@ fn then_accounts(v: Verdict, s: &[u8], fades: bool, n: usize) -> Verdict
     then_counters(v, s, n)
 }
 
+// The answer v, then number 8 for the pending change.
+fn then_change(v: Verdict, s: &[u8], fades: bool, n: usize, at: usize) -> Verdict
+    requires { ⌜ (n ≤ 16) × (at < 2 ^ 16) × ((at + 1 + newCount n (wordAt (now s) at)) * 4 ≤ length (now s)) ⌝ }
+    ensures { λ r. ⌜ r ≡ thenTests v (changeTests fades (wordAt (now (s .entry))) n at) ⌝ }
+{
+    if v.number != 0 {
+        return v;
+    }
+    check_change(s, fades, n, at)
+}
+
 // Numbers 7 and 8.
 pub fn check_tail(s: &[u8], fades: bool, n: usize) -> Verdict
-    requires { ⌜ (n ≤ 16) × (length (now s) ≡ imageLength (frontWords fades) n) ⌝ }
+    requires { ⌜ (n ≤ 16) × (length (now s) ≡ imageLength (frontWords fades) n (wordAt (now s) (leftAt (frontWords fades) n))) ⌝ }
     ensures { λ r. ⌜ r ≡ checkTail fades (wordAt (now (s .entry))) n ⌝ }
 {
     let front = front_words(fades);
@@ -179,7 +193,20 @@ pub fn check_tail(s: &[u8], fades: bool, n: usize) -> Verdict
     let rows = then_section(own, s, front, n, 11, rows_at(front, n));
     let latest = then_syndrome(rows, s, front, n, latest_at(front, n));
     let earlier = then_syndrome(latest, s, front, n, earlier_at(front, n));
-    then_accounts(earlier, s, fades, n)
+    let accounts = then_accounts(earlier, s, fades, n);
+    then_change(accounts, s, fades, n, left_at(front, n))
+}
+
+// Whether the length is the one that the rounds left ask for.
+fn length_right(s: &[u8], front: usize, n: usize) -> bool
+    requires { ⌜ (front ≤ 6) × (n ≤ 16) ⌝ }
+    ensures { λ r. ⌜ r ≡ eqb (length (now (s .entry))) (imageLength front n (wordAt (now (s .entry)) (leftAt front n))) ⌝ }
+{
+    let at = left_at(front, n);
+    if s.len() < (at + 1) * 4 {
+        return false;
+    }
+    s.len() == image_length(front, n, word_at(s, at))
 }
 
 // N where head and length are right, else 0. Only whether they are counts: a right length is a whole number of words.
@@ -193,13 +220,7 @@ pub fn image_size(s: &[u8]) -> usize
         return 0;
     }
     let n = size_at(s);
-    if word_at(s, 1) / KIND == 0 {
-        if image_length(6, n) != s.len() {
-            return 0;
-        }
-        return n;
-    }
-    if image_length(3, n) != s.len() {
+    if !length_right(s, front_words(word_at(s, 1) / KIND == 0), n) {
         return 0;
     }
     n
@@ -215,7 +236,7 @@ pub fn check_image(s: &[u8]) -> Verdict
     }
     let n = size_at(s);
     let fades = fades_at(s);
-    if s.len() != image_length(front_words(fades), n) {
+    if !length_right(s, front_words(fades), n) {
         return refusal(3, 0);
     }
     let front = check_words(s, fades, n);

@@ -30,7 +30,7 @@ ghost use Rattle.words.specs.Runs.{putRun};
 ghost use Rattle.setup.specs.Layout.{headAt, penaltyLimitAt, rewardLimitAt, frontWords};
 ghost use Rattle.setup.specs.Setup.{returnLimitIn, limitIn, criticalityIn};
 ghost use Rattle.setup.specs.Limits.{mostReturnLimit, mostPenaltyLimit, mostRewardLimit};
-ghost use Rattle.image.specs.Layout.{ownAt, accountsAt, rewardsAt, returnsAt, endAt, imageLength};
+ghost use Rattle.image.specs.Layout.{ownAt, accountsAt, rewardsAt, returnsAt, leftAt, beforeLeft};
 ghost use Rattle.image.specs.Words.{viewIn};
 ghost use Rattle.image.specs.CounterSection.{counterWord, counterIn, counterOf, basisIn, valuesIn};
 ghost use Rattle.image.specs.Returns.{returnCounts};
@@ -64,7 +64,7 @@ fn reward_fits(limit: u32, penalty: u32, reward: u32) -> bool
 
 // What the counters of module j + 1 are tested by.
 fn basis_in(s: &[u8], front: usize, n: usize, j: usize) -> Basis
-    requires { ⌜ (front ≤ 6) × (n ≤ 16) × (length (now s) ≡ imageLength front n) × (2 < front) × (j < n) ⌝ }
+    requires { ⌜ (front ≤ 6) × (n ≤ 16) × (beforeLeft front n ≤ length (now s)) × (2 < front) × (j < n) ⌝ }
     ensures { λ r. ⌜ r ≡ basisIn (wordAt (now (s .entry))) front n j ⌝ }
 {
     Basis {
@@ -92,7 +92,7 @@ fn counter_fits(kind: u32, b: Basis, v: u32) -> bool
 
 // Whether the word of module j + 1 is right in the section of a kind that begins at `at`.
 pub fn counter_right(s: &[u8], front: usize, n: usize, kind: u32, at: usize, j: usize) -> bool
-    requires { ⌜ (front ≤ 6) × (n ≤ 16) × (length (now s) ≡ imageLength front n) × (2 < front) × (kind < 16) × (at + n ≤ endAt front n) × (j < n) ⌝ }
+    requires { ⌜ (front ≤ 6) × (n ≤ 16) × (beforeLeft front n ≤ length (now s)) × (2 < front) × (kind < 16) × (at + n ≤ leftAt front n) × (j < n) ⌝ }
     ensures { λ r. ⌜ r ≡ counterOf kind j (wordAt (now (s .entry)) (at + j))
         && fitsBy kind (basisIn (wordAt (now (s .entry))) front n j) (counterIn (wordAt (now (s .entry)) (at + j))) ⌝ }
 {
@@ -115,7 +115,7 @@ pub fn load_counters(
     reward: &mut [u32; 16],
     returns: &mut [u32; 16],
 ) -> bool
-    requires { ⌜ (n ≤ 16) × (length (now s) ≡ imageLength (frontWords false) n) ⌝ }
+    requires { ⌜ (n ≤ 16) × (beforeLeft (frontWords false) n ≤ length (now s)) ⌝ }
     requires { ⌜ (p ≡ limitIn (wordAt (now s) penaltyLimitAt)) × (limit ≡ limitIn (wordAt (now s) rewardLimitAt)) × (view ≡ viewIn (wordAt (now s) (ownAt (frontWords false) n)))
         × (now criticality ≡ array n (λ j. criticalityIn (wordAt (now s) (frontWords false + j)))) × (q ≡ returnLimitIn (wordAt (now s) headAt)) ⌝ }
     requires { ⌜ (p ≤ mostPenaltyLimit) × (limit ≤ mostRewardLimit) × (q ≤ mostReturnLimit) ⌝ }
@@ -175,7 +175,7 @@ pub fn save_counters(
     returns: &[u32; 16],
     out: &mut [u8],
 )
-    requires { ⌜ (n ≤ 16) × (length (now out) ≡ imageLength (frontWords false) n) × ((j : ℕ) → j < n → getD (now penalty) j 0 < numberUnit)
+    requires { ⌜ (n ≤ 16) × (beforeLeft (frontWords false) n ≤ length (now out)) × ((j : ℕ) → j < n → getD (now penalty) j 0 < numberUnit)
         × ((j : ℕ) → j < n → getD (now reward) j 0 < numberUnit) × ((j : ℕ) → j < n → getD (now returns) j 0 < numberUnit) ⌝ }
     ensures { λ _. ⌜ now (out .exit) ≡ putRun (putRun (putRun (now (out .entry)) (accountsAt (frontWords false) n) n (λ j. counterWord 13 j (getD (now (penalty .entry)) j 0)))
         (rewardsAt (frontWords false) n) n (λ j. counterWord 14 j (getD (now (reward .entry)) j 0))) (returnsAt (frontWords false) n) n (λ j. counterWord 15 j (getD (now (returns .entry)) j 0)) ⌝ }

@@ -1,8 +1,9 @@
 // Where the words of a saved state stand, of n modules and with `front` words before those of the modules, section after section.
+use changes::section::new_count;
 use setup::layout::setup_words;
 ghost use mathlib.Core.Path.{_≡_};
 ghost use Prim.Native.Nat.{_≤_};
-ghost use Rattle.image.specs.Layout.{ownAt, rowsAt, latestAt, earlierAt, accountsAt, rewardsAt, returnsAt, imageLength};
+ghost use Rattle.image.specs.Layout.{ownAt, rowsAt, latestAt, earlierAt, accountsAt, rewardsAt, returnsAt, leftAt, imageLength};
 
 // Own number and view, after the setup's words.
 pub fn own_at(front: usize, n: usize) -> usize
@@ -60,10 +61,18 @@ pub fn returns_at(front: usize, n: usize) -> usize
     rewards_at(front, n) + n
 }
 
-// How many bytes an image has.
-pub fn image_length(front: usize, n: usize) -> usize
+// The rounds left.
+pub fn left_at(front: usize, n: usize) -> usize
     requires { ⌜ (front ≤ 6) × (n ≤ 16) ⌝ }
-    ensures { λ r. ⌜ r ≡ imageLength front n ⌝ }
+    ensures { λ r. ⌜ r ≡ leftAt front n ⌝ }
 {
-    (returns_at(front, n) + n) * 4
+    returns_at(front, n) + n
+}
+
+// How many bytes an image has, by the rounds left.
+pub fn image_length(front: usize, n: usize, left: u32) -> usize
+    requires { ⌜ (front ≤ 6) × (n ≤ 16) ⌝ }
+    ensures { λ r. ⌜ r ≡ imageLength front n left ⌝ }
+{
+    (left_at(front, n) + 1 + new_count(n, left)) * 4
 }

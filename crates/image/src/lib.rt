@@ -26,7 +26,7 @@ pub struct Basis {
 }
 
 // What a step needs of an image besides the lent arrays, and whether its words are right: whether reads are skewed, the limits, the own number, the
-// view, who was heard in the previous read, and the two latest syndromes.
+// view, who was heard in the previous read, the two latest syndromes, and the rounds left until a pending change takes effect.
 pub struct ImagePart {
     pub good: bool,
     pub skew: bool,
@@ -37,6 +37,7 @@ pub struct ImagePart {
     pub heard: u32,
     pub latest: u32,
     pub earlier: u32,
+    pub left: u32,
 }
 
 pub mod check;
@@ -57,6 +58,7 @@ use setup::Limits;
 pub use counters::counters_roomy;
 pub use counters::zero_counters;
 pub use layout::image_length;
+pub use layout::left_at;
 pub use lent::first_of;
 pub use lent::lent_counters;
 pub use lent::second_of;

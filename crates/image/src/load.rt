@@ -1,9 +1,11 @@
 // Reading an image in one pass: what a step needs of it, and whether all its words are right.
 use crate::ImagePart;
 use crate::counters::load_counters;
+use crate::layout::left_at;
 use crate::read::load_words;
 use crate::rows::load_rows;
 use crate::scores::load_scores;
+use changes::section::check_change;
 use setup::Limits;
 use setup::bounds::front_words;
 use setup::bounds::limits_at;
@@ -22,7 +24,7 @@ ghost use Rattle.setup.specs.Layout.{headAt, frontWords};
 ghost use Rattle.setup.specs.Limits.{mostReturnLimit, fades as fadesOf};
 ghost use Rattle.setup.specs.Setup.{sizeIn, returnLimitIn, criticalityIn, fadesIn, limitsIn};
 ghost use Rattle.setup.specs.Check.{limitTests};
-ghost use Rattle.image.specs.Layout.{ownAt, imageLength};
+ghost use Rattle.image.specs.Layout.{ownAt, leftAt, beforeLeft, imageLength};
 ghost use Rattle.image.specs.Words.{viewIn};
 ghost use Rattle.image.specs.CounterSection.{valuesIn};
 ghost use Rattle.image.specs.Returns.{returnCounts};
@@ -43,7 +45,7 @@ pub fn load_accounts(
     second: &mut [u32; 16],
     returns: &mut [u32; 16],
 ) -> bool
-    requires { ⌜ (n ≤ 16) × (length (now s) ≡ imageLength (frontWords (fadesOf limits)) n) × (limits ≡ limitsIn (fadesOf limits) (wordAt (now s)))
+    requires { ⌜ (n ≤ 16) × (beforeLeft (frontWords (fadesOf limits)) n ≤ length (now s)) × (limits ≡ limitsIn (fadesOf limits) (wordAt (now s)))
         × (allRight (limitTests (fadesOf limits) (wordAt (now s))) ≡ true) × (q ≡ returnLimitIn (wordAt (now s) headAt)) × (q ≤ mostReturnLimit)
         × (now criticality ≡ array n (λ j. criticalityIn (wordAt (now s) (frontWords (fadesOf limits) + j))))
         × (view ≡ viewIn (wordAt (now s) (ownAt (frontWords (fadesOf limits)) n))) ⌝ }
@@ -74,6 +76,7 @@ fn no_part() -> ImagePart
         heard: 0,
         latest: 0,
         earlier: 0,
+        left: 0,
     }
 }
 
@@ -89,7 +92,7 @@ pub fn load_image(
     second: &mut [u32; 16],
     returns: &mut [u32; 16],
 ) -> ImagePart
-    requires { ⌜ (n ≤ 16) × (length (now s) ≡ imageLength (frontWords fades) n) × (n ≡ sizeIn (wordAt (now s) 0)) × (fades ≡ fadesIn (wordAt (now s)))
+    requires { ⌜ (n ≤ 16) × (length (now s) ≡ imageLength (frontWords fades) n (wordAt (now s) (leftAt (frontWords fades) n))) × (n ≡ sizeIn (wordAt (now s) 0)) × (fades ≡ fadesIn (wordAt (now s)))
         × (returnLimitIn (wordAt (now s) 0) ≤ mostReturnLimit) ⌝ }
     requires { ⌜ (now criticality ≡ array 0 (λ _. 0)) × (now rows ≡ array 0 (λ _. 0)) × (now first ≡ array 0 (λ _. 0)) × (now second ≡ array 0 (λ _. 0))
         × (now returns ≡ array 0 (λ _. 0)) ⌝ }
@@ -101,6 +104,8 @@ pub fn load_image(
     let modules = load_modules(s, front, n, criticality);
     let alone = load_words(s, front, n);
     let read = load_rows(s, front, n, rows);
+    let at = left_at(front, n);
+    let change = check_change(s, fades, n, at);
     if !limits_right(s, fades) {
         return no_part();
     }
@@ -117,7 +122,7 @@ pub fn load_image(
         returns,
     );
     ImagePart {
-        good: modules.good & (alone.good & (read.good & right)),
+        good: modules.good & (alone.good & (read.good & (right & (change.number == 0)))),
         skew: modules.skew,
         q,
         limits,
@@ -126,5 +131,6 @@ pub fn load_image(
         heard: read.heard,
         latest: alone.latest,
         earlier: alone.earlier,
+        left: word_at(s, at),
     }
 }

@@ -15,7 +15,7 @@ ghost use Prim.Native.Nat.{_+_, _*_, _≤_, _<_};
 ghost use lib.ListN.{length};
 ghost use Rattle.words.specs.Word.{wordAt};
 ghost use Rattle.setup.specs.Setup.{limitIn, placeIn, criticalityIn};
-ghost use Rattle.image.specs.Layout.{ownAt, latestAt, earlierAt, imageLength};
+ghost use Rattle.image.specs.Layout.{ownAt, latestAt, earlierAt, beforeLeft};
 ghost use Rattle.image.specs.Words.{ownIn, viewIn, syndromeIn};
 ghost use Rattle.image.specs.Check.{wordsRight};
 
@@ -45,7 +45,7 @@ pub fn place_in(s: &[u8], front: usize, j: usize) -> u32
 
 // The own number.
 pub fn own_in(s: &[u8], front: usize, n: usize) -> usize
-    requires { ⌜ (front ≤ 6) × (n ≤ 16) × (length (now s) ≡ imageLength front n) ⌝ }
+    requires { ⌜ (front ≤ 6) × (n ≤ 16) × (beforeLeft front n ≤ length (now s)) ⌝ }
     ensures { λ r. ⌜ r ≡ ownIn (wordAt (now (s .entry)) (ownAt front n)) ⌝ }
 {
     field(word_at(s, own_at(front, n)), 16, 5) as usize
@@ -53,7 +53,7 @@ pub fn own_in(s: &[u8], front: usize, n: usize) -> usize
 
 // The view.
 pub fn view_in(s: &[u8], front: usize, n: usize) -> u32
-    requires { ⌜ (front ≤ 6) × (n ≤ 16) × (length (now s) ≡ imageLength front n) ⌝ }
+    requires { ⌜ (front ≤ 6) × (n ≤ 16) × (beforeLeft front n ≤ length (now s)) ⌝ }
     ensures { λ r. ⌜ r ≡ viewIn (wordAt (now (s .entry)) (ownAt front n)) ⌝ }
 {
     word_at(s, own_at(front, n)) % VECTOR
@@ -61,7 +61,7 @@ pub fn view_in(s: &[u8], front: usize, n: usize) -> u32
 
 // The latest syndrome.
 pub fn latest_in(s: &[u8], front: usize, n: usize) -> u32
-    requires { ⌜ (front ≤ 6) × (n ≤ 16) × (length (now s) ≡ imageLength front n) ⌝ }
+    requires { ⌜ (front ≤ 6) × (n ≤ 16) × (beforeLeft front n ≤ length (now s)) ⌝ }
     ensures { λ r. ⌜ r ≡ syndromeIn (wordAt (now (s .entry)) (latestAt front n)) ⌝ }
 {
     word_at(s, latest_at(front, n)) % KIND
@@ -69,7 +69,7 @@ pub fn latest_in(s: &[u8], front: usize, n: usize) -> u32
 
 // The syndrome before it.
 pub fn earlier_in(s: &[u8], front: usize, n: usize) -> u32
-    requires { ⌜ (front ≤ 6) × (n ≤ 16) × (length (now s) ≡ imageLength front n) ⌝ }
+    requires { ⌜ (front ≤ 6) × (n ≤ 16) × (beforeLeft front n ≤ length (now s)) ⌝ }
     ensures { λ r. ⌜ r ≡ syndromeIn (wordAt (now (s .entry)) (earlierAt front n)) ⌝ }
 {
     word_at(s, earlier_at(front, n)) % KIND
@@ -77,7 +77,7 @@ pub fn earlier_in(s: &[u8], front: usize, n: usize) -> u32
 
 // The words that stand alone, and whether they are right.
 pub fn load_words(s: &[u8], front: usize, n: usize) -> WordsPart
-    requires { ⌜ (front ≤ 6) × (n ≤ 16) × (length (now s) ≡ imageLength front n) ⌝ }
+    requires { ⌜ (front ≤ 6) × (n ≤ 16) × (beforeLeft front n ≤ length (now s)) ⌝ }
     ensures { λ r. ⌜ (r .good ≡ wordsRight (wordAt (now (s .entry))) front n)
         × (r .own ≡ ownIn (wordAt (now (s .entry)) (ownAt front n)))
         × (r .view ≡ viewIn (wordAt (now (s .entry)) (ownAt front n)))

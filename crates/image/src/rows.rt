@@ -22,7 +22,7 @@ ghost use Rattle.words.specs.Bits.{bit};
 ghost use Rattle.words.specs.Array.{array};
 ghost use Rattle.words.specs.Count.{all};
 ghost use Rattle.words.specs.Runs.{putRun};
-ghost use Rattle.image.specs.Layout.{imageLength};
+ghost use Rattle.image.specs.Layout.{beforeLeft};
 ghost use Rattle.image.specs.Rows.{rowWord, rowOk, rowTest, readingIn, rowsRoomy};
 
 // 2^22: the bit that says whether the sender was heard, and the row below it.
@@ -39,7 +39,7 @@ fn row_ok(n: usize, j: usize, w: u32) -> bool
 
 // Whether the row of module j + 1 is right.
 pub fn row_right(s: &[u8], front: usize, n: usize, j: usize) -> bool
-    requires { ⌜ (front ≤ 6) × (n ≤ 16) × (length (now s) ≡ imageLength front n) × (j < n) ⌝ }
+    requires { ⌜ (front ≤ 6) × (n ≤ 16) × (beforeLeft front n ≤ length (now s)) × (j < n) ⌝ }
     ensures { λ r. ⌜ r ≡ rowTest (wordAt (now (s .entry))) front n j ⌝ }
 {
     row_ok(n, j, word_at(s, rows_at(front, n) + j))
@@ -47,7 +47,7 @@ pub fn row_right(s: &[u8], front: usize, n: usize, j: usize) -> bool
 
 // The previous read, its rows in a lent array, and whether its words are right.
 pub fn load_rows(s: &[u8], front: usize, n: usize, rows: &mut [u32; 16]) -> RowsPart
-    requires { ⌜ (front ≤ 6) × (n ≤ 16) × (length (now s) ≡ imageLength front n) × (now rows ≡ array 0 (λ _. 0)) ⌝ }
+    requires { ⌜ (front ≤ 6) × (n ≤ 16) × (beforeLeft front n ≤ length (now s)) × (now rows ≡ array 0 (λ _. 0)) ⌝ }
     ensures { λ r. ⌜ (r .good ≡ all n (rowTest (wordAt (now (s .entry))) front n)) × (r .heard ≡ readingIn (now (s .entry)) front n .heard)
         × (now (rows .exit) ≡ readingIn (now (s .entry)) front n .rows) ⌝ }
 {

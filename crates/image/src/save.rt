@@ -17,7 +17,7 @@ ghost use lib.ListN.{length, getD};
 ghost use Rattle.words.specs.Word.{numberUnit};
 ghost use Rattle.words.specs.Runs.{one, putRuns};
 ghost use Rattle.setup.specs.Layout.{frontWords};
-ghost use Rattle.image.specs.Layout.{ownAt, accountsAt, imageLength};
+ghost use Rattle.image.specs.Layout.{ownAt, accountsAt, beforeLeft};
 ghost use Rattle.image.specs.Words.{vectorUnit, ownWord, syndromeWord};
 ghost use Rattle.image.specs.Rows.{rowRun};
 ghost use Rattle.image.specs.Part.{CountersSmall, lentRuns};
@@ -31,7 +31,7 @@ pub fn save_accounts(
     returns: &[u32; 16],
     out: &mut [u8],
 )
-    requires { ⌜ (n ≤ 16) × (length (now out) ≡ imageLength (frontWords fades) n) × CountersSmall fades n (now first) (now second) (now returns) ⌝ }
+    requires { ⌜ (n ≤ 16) × (beforeLeft (frontWords fades) n ≤ length (now out)) × CountersSmall fades n (now first) (now second) (now returns) ⌝ }
     ensures { λ _. ⌜ now (out .exit)
         ≡ putRuns (now (out .entry)) (accountsAt (frontWords fades) n) (lentRuns fades n (now (first .entry)) (now (second .entry)) (now (returns .entry))) ⌝ }
 {
@@ -53,7 +53,7 @@ pub fn save_sections(
     earlier: u32,
     out: &mut [u8],
 )
-    requires { ⌜ (n ≤ 16) × (length (now out) ≡ imageLength (frontWords fades) n) × (own ≤ 16) × (view < vectorUnit) × (latest < vectorUnit) × (earlier < vectorUnit) ⌝ }
+    requires { ⌜ (n ≤ 16) × (beforeLeft (frontWords fades) n ≤ length (now out)) × (own ≤ 16) × (view < vectorUnit) × (latest < vectorUnit) × (earlier < vectorUnit) ⌝ }
     requires { ⌜ ((j : ℕ) → j < n → getD (now rows) j 0 < vectorUnit) ⌝ }
     ensures { λ _. ⌜ now (out .exit) ≡ putRuns (now (out .entry)) (ownAt (frontWords fades) n)
         (one (ownWord own view) ∷ rowRun n (record { heard = heard; rows = now (rows .entry) }) ∷ one (syndromeWord latest) ∷ one (syndromeWord earlier) ∷ []) ⌝ }

@@ -25,7 +25,7 @@ ghost use Rattle.doubles.specs.Double.{doubleIn};
 ghost use Rattle.setup.specs.Layout.{headAt, scoreLimitAt, frontWords};
 ghost use Rattle.setup.specs.Setup.{returnLimitIn};
 ghost use Rattle.setup.specs.Limits.{mostReturnLimit};
-ghost use Rattle.image.specs.Layout.{ownAt, accountsAt, returnsAt, imageLength};
+ghost use Rattle.image.specs.Layout.{ownAt, accountsAt, returnsAt, beforeLeft};
 ghost use Rattle.image.specs.Words.{viewIn};
 ghost use Rattle.image.specs.CounterSection.{counterWord, valuesIn};
 ghost use Rattle.image.specs.Returns.{returnCounts};
@@ -42,7 +42,7 @@ fn score_fits(limit: f64, present: bool, score: f64) -> bool
 
 // Whether word i of the scores is right: a high half where its score is, a low half always.
 pub fn half_right(s: &[u8], n: usize, i: usize) -> bool
-    requires { ⌜ (n ≤ 16) × (length (now s) ≡ imageLength (frontWords true) n) × (i < n + n) ⌝ }
+    requires { ⌜ (n ≤ 16) × (beforeLeft (frontWords true) n ≤ length (now s)) × (i < n + n) ⌝ }
     ensures { λ r. ⌜ r ≡ halfTest (wordAt (now (s .entry))) (frontWords true) n i ⌝ }
 {
     if i % 2 != 0 {
@@ -65,7 +65,7 @@ pub fn load_scores(
     low: &mut [u32; 16],
     returns: &mut [u32; 16],
 ) -> bool
-    requires { ⌜ (n ≤ 16) × (length (now s) ≡ imageLength (frontWords true) n) ⌝ }
+    requires { ⌜ (n ≤ 16) × (beforeLeft (frontWords true) n ≤ length (now s)) ⌝ }
     requires { ⌜ (limit ≡ doubleIn (wordAt (now s)) scoreLimitAt) × (view ≡ viewIn (wordAt (now s) (ownAt (frontWords true) n)))
         × (q ≡ returnLimitIn (wordAt (now s) headAt)) × (q ≤ mostReturnLimit) ⌝ }
     requires { ⌜ (now high ≡ array 0 (λ _. 0)) × (now low ≡ array 0 (λ _. 0)) × (now returns ≡ array 0 (λ _. 0)) ⌝ }
@@ -93,7 +93,7 @@ pub fn load_scores(
 
 // Writes the scores and the return counts, module by module.
 pub fn save_scores(n: usize, high: &[u32; 16], low: &[u32; 16], returns: &[u32; 16], out: &mut [u8])
-    requires { ⌜ (n ≤ 16) × (length (now out) ≡ imageLength (frontWords true) n) × ((j : ℕ) → j < n → getD (now returns) j 0 < numberUnit) ⌝ }
+    requires { ⌜ (n ≤ 16) × (beforeLeft (frontWords true) n ≤ length (now out)) × ((j : ℕ) → j < n → getD (now returns) j 0 < numberUnit) ⌝ }
     ensures { λ _. ⌜ now (out .exit) ≡ putRun (putRun (now (out .entry)) (accountsAt (frontWords true) n) (n + n)
         (λ i. cond (eqb (i % 2) 0) (getD (now (high .entry)) (i / 2) 0) (getD (now (low .entry)) (i / 2) 0)))
         (returnsAt (frontWords true) n) n (λ j. counterWord 15 j (getD (now (returns .entry)) j 0)) ⌝ }
