@@ -22,7 +22,7 @@ use Rattle.setup.specs.Setup.{returnLimitIn, criticalityIn, limitsIn}
 use Rattle.setup.specs.Check.{limitTests}
 use Rattle.setup.specs.declared.Limits.{Limits}
 use Rattle.accounts.specs.declared.Counters.{Counters}
-use Rattle.image.specs.Layout.{ownAt, accountsAt, imageLength}
+use Rattle.image.specs.Layout.{ownAt, accountsAt, beforeLeft}
 use Rattle.image.specs.Words.{viewIn}
 use Rattle.image.specs.CounterSection.{counterWord, valuesIn}
 use Rattle.image.specs.Returns.{returnCounts}
@@ -92,7 +92,7 @@ filled-lent false s n l = (array-filled n _ l, array-filled n _ l, array-filled 
 
 abbrev pub Asked : List ℕ → ℕ → ℕ → List ℕ → ℕ → Limits → Type 0
 Asked s n q k view l =
-    (n ≤ 16) × (length s ≡ imageLength (frontWords (fades l)) n) × (l ≡ limitsIn (fades l) (wordAt s))
+    (n ≤ 16) × (beforeLeft (frontWords (fades l)) n ≤ length s) × (l ≡ limitsIn (fades l) (wordAt s))
     × (allRight (limitTests (fades l) (wordAt s)) ≡ true) × (q ≡ returnLimitIn (wordAt s headAt)) × (q ≤ mostReturnLimit)
     × (k ≡ array n (λ j. criticalityIn (wordAt s (frontWords (fades l) + j)))) × (view ≡ viewIn (wordAt s (ownAt (frontWords (fades l)) n)))
 
@@ -103,7 +103,7 @@ Given s n r x y z l =
 
 -- of limits that were read from the words, by the form of the words
 module _ (s : List ℕ) (n : ℕ) where
-  pub asked-by : {l : Limits} {front q view : ℕ} {k : List ℕ} (b : Bool) → l ≡ limitsIn b (wordAt s) → front ≡ frontWords b → n ≤ 16 → length s ≡ imageLength (frontWords b) n
+  pub asked-by : {l : Limits} {front q view : ℕ} {k : List ℕ} (b : Bool) → l ≡ limitsIn b (wordAt s) → front ≡ frontWords b → n ≤ 16 → beforeLeft (frontWords b) n ≤ length s
       → allRight (limitTests b (wordAt s)) ≡ true → q ≡ returnLimitIn (wordAt s headAt) → q ≤ mostReturnLimit
       → k ≡ array n (λ j. criticalityIn (wordAt s (front + j))) → view ≡ viewIn (wordAt s (ownAt front n)) → Asked s n q k view l
   unfolding limitsIn

@@ -1,5 +1,5 @@
 -- The answers of the sections, each after those before it, and the sections as they are written.
-use mathlib.Core.Path.{_≡_, refl, subst, _∙_, sym}
+use mathlib.Core.Path.{_≡_, refl, ap, subst, _∙_, sym}
 use mathlib.Core.Bool.{Bool, true, false, cond, not}
 use mathlib.Core.List.{List, [], _∷_, _++_}
 use Prim.Native.Nat.{ℕ, _+_, _/_, _%_}
@@ -10,11 +10,12 @@ use Rattle.words.specs.Bits.{bit}
 use Rattle.words.specs.Verdict.{verdict, accepted, Test, single, each, andThen, outcome, thenTests, firstRefusal}
 use Rattle.words.specs.declared.Verdict.{Verdict}
 use Rattle.words.specs.Runs.{one, putRun, putRuns}
-use Rattle.words.proofs.VerdictLaws.{and-then-next, single-ok, single-refused}
+use Rattle.words.proofs.VerdictLaws.{and-then-next, and-then-stays, single-ok, single-refused, then-tests, then-join}
 use Rattle.words.proofs.SearchLaws.{begins-refused, begins-well}
 use Rattle.setup.specs.Layout.{frontWords}
 use Rattle.rules.specs.declared.Reading.{Reading}
-use Rattle.image.specs.Layout.{ownAt, rowsAt, latestAt, earlierAt, accountsAt, rewardsAt, returnsAt}
+use Rattle.changes.specs.Words.{changeTests}
+use Rattle.image.specs.Layout.{ownAt, rowsAt, latestAt, earlierAt, accountsAt, rewardsAt, returnsAt, leftAt}
 use Rattle.image.specs.Words.{ownWord, syndromeWord, ownNumberOk, ownOk, syndromeOk}
 use Rattle.image.specs.Rows.{rowWord, rowRun}
 use Rattle.image.specs.CounterSection.{counterWord, CounterSection, counterTest, sectionTest}
@@ -44,14 +45,25 @@ module _ {b ok c fit : Bool} {r : Verdict} {at place : ℕ} (e : b ≡ ok) (d : 
   own-fails f t a = word-fails accepted 8 refl d p t a ∙ begins-well 7 place (single fit 8 place ∷ []) e f
 
 module _ (fades : Bool) (w : ℕ → ℕ) (n : ℕ) where
-  pub tail-joined : {v₀ v₁ v₂ v₃ v₄ : Verdict} {front a b c : ℕ} → front ≡ frontWords fades
+  pub tail-joined : {v₀ v₁ v₂ v₃ v₄ v₅ : Verdict} {front a b c d : ℕ} → front ≡ frontWords fades
       → v₀ ≡ firstRefusal (single (ownNumberOk n (w (ownAt front n))) 7 (ownAt front n) ∷ single (ownOk n (w (ownAt front n))) 8 (ownAt front n) ∷ [])
       → a ≡ rowsAt front n → v₁ ≡ andThen v₀ (outcome (each n (wordTest w front n 11 a) 8 a))
       → b ≡ latestAt front n → v₂ ≡ andThen v₁ (outcome (single (syndromeOk n (w b)) 8 b))
       → c ≡ earlierAt front n → v₃ ≡ andThen v₂ (outcome (single (syndromeOk n (w c)) 8 c))
-      → v₄ ≡ thenTests v₃ (counterTests fades w n) → v₄ ≡ checkTail fades w n
+      → v₄ ≡ thenTests v₃ (counterTests fades w n) → d ≡ leftAt front n → v₅ ≡ thenTests v₄ (changeTests fades w n d) → v₅ ≡ checkTail fades w n
   unfolding checkTail thenTests wordTest
-  tail-joined f e₀ a e₁ b e₂ c e₃ e₄ = rw (e₄, e₃, e₂, e₁, e₀, a, b, c, f)
+  tail-joined f e₀ a e₁ b e₂ c e₃ e₄ d e₅ =
+      rw (e₅, e₄, e₃, e₂, e₁, e₀, a, b, c, d, f) (sym (then-join _ (counterTests fades w n) (changeTests fades w n (leftAt (frontWords fades) n))))
+
+-- ---- tests after the answer v
+
+pub tests-skipped : (v : Verdict) (ts : List Test) → (v .number ≡ 0 → ⊥) → v ≡ thenTests v ts
+unfolding thenTests
+tests-skipped v [] f = refl
+tests-skipped v (t ∷ ts) f = tests-skipped v ts f ∙ ap (λ (x : Verdict). thenTests x ts) (sym (and-then-stays v (outcome t) f))
+
+pub tests-made : {r : Verdict} (v : Verdict) (ts : List Test) → v .number ≡ 0 → r ≡ thenTests accepted ts → (t : Test) (us : List Test) → ts ≡ t ∷ us → r ≡ thenTests v ts
+tests-made v ts z e t us q = e ∙ rw q (sym (then-tests v t us ∙ and-then-next v _ z))
 
 -- ---- one section of counters after others
 

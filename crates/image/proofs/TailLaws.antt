@@ -10,12 +10,13 @@ use borrow.Author.Tests.{eqb-true, eq-eqb}
 use Rattle.words.specs.Word.{wordAt}
 use Rattle.words.specs.Verdict.{accepted, andThen, firstRefusal}
 use Rattle.words.specs.declared.Verdict.{Verdict}
-use Rattle.words.proofs.VerdictLaws.{numbered, Passed, tests-pass, tests-ok, tests-join, numbers-join, and-then-pass, and-then-next}
+use Rattle.words.proofs.VerdictLaws.{numbered, Passed, tests-pass, tests-ok, tests-join, numbers-join, and-then-pass, and-then-next, passed-join, passed-split}
 use Rattle.setup.specs.Layout.{frontWords}
 use Rattle.setup.specs.Setup.{sizeIn, fadesIn}
 use Rattle.setup.specs.Check.{wordTests, checkHead, checkWords}
 use Rattle.setup.proofs.SetupCheckLaws.{HeadFits, WordsFit, word-numbers, head-pass, head-ok, words-pass, words-ok}
-use Rattle.image.specs.Layout.{ownAt, latestAt, earlierAt}
+use Rattle.changes.specs.Words.{changeTests}
+use Rattle.image.specs.Layout.{ownAt, latestAt, earlierAt, leftAt}
 use Rattle.image.specs.Words.{ownNumberOk, ownOk, syndromeOk}
 use Rattle.image.specs.Rows.{rowTest}
 use Rattle.image.specs.Counters.{counterTests}
@@ -35,11 +36,13 @@ pub record TailFits (fades : Bool) (w : ℕ → ℕ) (n : ℕ) : Type 0 where
   pub latest : syndromeOk n (w (latestAt (frontWords fades) n)) ≡ true
   pub earlier : syndromeOk n (w (earlierAt (frontWords fades) n)) ≡ true
   pub counters : Passed (counterTests fades w n)
+  pub change : Passed (changeTests fades w n (leftAt (frontWords fades) n))
 
 pub tail-pass : (fades : Bool) (w : ℕ → ℕ) (n : ℕ) → checkTail fades w n .number ≡ 0 → TailFits fades w n
 unfolding checkTail Passed
 tail-pass fades w n e =
-    let (number, (own, (rows, (latest, (earlier, counters))))) = tests-pass (tailTests fades w n) (numbers fades w n) e in
+    let (number, (own, (rows, (latest, (earlier, rest))))) = tests-pass (tailTests fades w n) (numbers fades w n) e in
+    let (counters, change) = passed-split (counterTests fades w n) _ rest in
     record {
       number = number 0 (omega arith);
       own = own 0 (omega arith);
@@ -47,12 +50,14 @@ tail-pass fades w n e =
       latest = latest 0 (omega arith);
       earlier = earlier 0 (omega arith);
       counters = counters;
+      change = change;
     }
 
 pub tail-ok : (fades : Bool) (w : ℕ → ℕ) (n : ℕ) → TailFits fades w n → checkTail fades w n ≡ accepted
 unfolding checkTail Passed
 tail-ok fades w n f =
-    tests-ok (tailTests fades w n) (λ _ _. f .number, (λ _ _. f .own, (f .rows, (λ _ _. f .latest, (λ _ _. f .earlier, f .counters)))))
+    tests-ok (tailTests fades w n)
+    (λ _ _. f .number, (λ _ _. f .own, (f .rows, (λ _ _. f .latest, (λ _ _. f .earlier, passed-join (counterTests fades w n) _ (f .counters) (f .change))))))
 
 -- ---- all of an image
 

@@ -105,6 +105,7 @@ pub fn load_image(
     let alone = load_words(s, front, n);
     let read = load_rows(s, front, n, rows);
     let at = left_at(front, n);
+    let left = word_at(s, at);
     let change = check_change(s, fades, n, at);
     if !limits_right(s, fades) {
         return no_part();
@@ -131,6 +132,6 @@ pub fn load_image(
         heard: read.heard,
         latest: alone.latest,
         earlier: alone.earlier,
-        left: word_at(s, at),
+        left,
     }
 }

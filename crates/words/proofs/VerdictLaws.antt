@@ -188,3 +188,14 @@ unfolding numbered
 numbers-join [] us p q = q
 numbers-join (t ∷ ts) us p q =
     and-true (not (eqb (t .number) 0)) _ (and-l (not (eqb (t .number) 0)) _ p) (numbers-join ts us (and-r (not (eqb (t .number) 0)) _ p) q)
+
+-- tests that passed, and others after them
+pub passed-join : (ts us : List Test) → Passed ts → Passed us → Passed (ts ++ us)
+unfolding Passed
+passed-join [] us p q = q
+passed-join (t ∷ ts) us (p, ps) q = (p, passed-join ts us ps q)
+
+pub passed-split : (ts us : List Test) → Passed (ts ++ us) → Passed ts × Passed us
+unfolding Passed
+passed-split [] us q = (tt, q)
+passed-split (t ∷ ts) us (p, ps) = let (a, b) = passed-split ts us ps in ((p, a), b)

@@ -1,12 +1,12 @@
 -- By the form of the setup, one section after the other.
 use mathlib.Core.Path.{_≡_, ap, sym, _∙_}
 use mathlib.Core.Bool.{Bool, true, false}
-use Prim.Native.Nat.{ℕ}
+use Prim.Native.Nat.{ℕ, _≤_}
 use native.Mathlib.Omega.{arith}
 use Rattle.words.specs.Verdict.{each, andThen, outcome, thenTests}
 use Rattle.words.specs.declared.Verdict.{Verdict}
 use Rattle.setup.specs.Layout.{frontWords}
-use Rattle.image.specs.Layout.{returnsAt, imageLength}
+use Rattle.image.specs.Layout.{returnsAt, beforeLeft}
 use Rattle.image.specs.CounterSection.{counterOk}
 use Rattle.image.specs.Scores.{scoreTests}
 use Rattle.image.specs.Counters.{counterTests}
@@ -16,8 +16,8 @@ use Rattle.image.proofs.check.then_accounts.Statement.{statement}
 use Rattle.image.proofs.check.then_accounts.Tie as tie
 
 -- the length where the form is known
-length-of : {b t : Bool} {k : ℕ} (n : ℕ) → b ≡ t → k ≡ imageLength (frontWords b) n → k ≡ imageLength (frontWords t) n
-length-of n e h = h ∙ ap (λ (x : Bool). imageLength (frontWords x) n) e
+length-of : {b t : Bool} {k : ℕ} (n : ℕ) → b ≡ t → beforeLeft (frontWords b) n ≤ k → beforeLeft (frontWords t) n ≤ k
+length-of n e h = rw e at h
 
 by-scores : {v₁ v₂ : Verdict} {b : Bool} {a : ℕ} (w : ℕ → ℕ) (n : ℕ) (v : Verdict) → b ≡ true → v₁ ≡ andThen v (outcome (scoreTests w (frontWords true) n))
     → a ≡ returnsAt (frontWords true) n → v₂ ≡ andThen v₁ (outcome (each n (wordTest w (frontWords true) n 15 a) 8 a)) → v₂ ≡ thenTests v (counterTests b w n)
