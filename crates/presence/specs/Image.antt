@@ -1,7 +1,8 @@
--- The image of a state: the words that it is written as, and the state that words hold. (document 01, "What runs", kinds 10 to 14)
+-- The image of a state: the words that it is written as, and the state that words hold. (document 01, "What runs", kinds 10 to 14;
+-- document 02, E10)
 use mathlib.Core.Bool.{Bool, cond}
 use mathlib.Core.List.{List, _++_}
-use Prim.Native.Nat.{ℕ}
+use Prim.Native.Nat.{ℕ, _-_}
 use lib.ListN.{length}
 use lib.Dec.{eqb}
 use Rattle.words.specs.Word.{wordAt}
@@ -10,7 +11,8 @@ use Rattle.words.specs.Runs.{Run, runsOf}
 use Rattle.setup.specs.Layout.{headAt}
 use Rattle.setup.specs.Limits.{fades}
 use Rattle.setup.specs.Setup.{sizeIn, fadesIn, frontIn, frontOf, setupOf, setupRuns}
-use Rattle.image.specs.Layout.{ownAt, latestAt, earlierAt, imageLength}
+use Rattle.changes.specs.Words.{changeRuns, pendingIn}
+use Rattle.image.specs.Layout.{ownAt, latestAt, earlierAt, leftAt, imageLength}
 use Rattle.image.specs.Words.{ownIn, syndromeIn}
 use Rattle.image.specs.Rows.{readingIn}
 use Rattle.image.specs.Counters.{countersIn}
@@ -22,9 +24,11 @@ use Rattle.presence.specs.declared.Opened.{Opened}
 
 -- ---- written
 
--- the words after the setup's, section by section
+-- the words after the setup's, section by section, then the pending change
 abbrev pub stateRuns : State → List Run
-stateRuns st = sectionRuns (fades (st .setup .limits)) (st .setup .n) (st .own) (st .counters) (st .previous) (st .latest) (st .earlier)
+stateRuns st =
+    sectionRuns (fades (st .setup .limits)) (st .setup .n) (st .own) (st .counters) (st .previous) (st .latest) (st .earlier)
+    ++ changeRuns (st .setup) (st .pending)
 
 -- all words: those of its setup, then the others
 abbrev pub imageRuns : State → List Run
@@ -48,6 +52,7 @@ stateOf s =
       previous = readingIn s front n;
       latest = syndromeIn (wordAt s (latestAt front n));
       earlier = syndromeIn (wordAt s (earlierAt front n));
+      pending = pendingIn s n (leftAt front n);
     }
 
 -- ---- reading as a call, and the room that saving needs
@@ -58,6 +63,14 @@ loadOf image =
     let v = checkImage image in
     record { number = v .number; index = v .index; state = cond (isAccepted v) (stateOf image) blank }
 
+-- how long the image of a state is, with so many rounds left
+abbrev pub stateLength : State → ℕ → ℕ
+stateLength st left = imageLength (frontOf (st .setup)) (st .setup .n) left
+
 -- the output has the length of the state's image
 unfoldable pub roomFor : State → List ℕ → Bool
-roomFor st out = eqb (length out) (imageLength (frontOf (st .setup)) (st .setup .n))
+roomFor st out = eqb (length out) (stateLength st (st .pending .left))
+
+-- the output has the length of the image after a step, with one round less to go: shorter where the change takes effect in that step
+unfoldable pub roomAfter : State → List ℕ → Bool
+roomAfter st out = eqb (length out) (stateLength st (st .pending .left - 1))

@@ -10,11 +10,12 @@ use Rattle.setup.specs.Setup.{blankSetup}
 use Rattle.setup.specs.Check.{setupVerdict}
 use Rattle.words.specs.declared.Verdict.{Verdict}
 use Rattle.setup.specs.declared.Setup.{Setup}
+use Rattle.changes.specs.Pending.{nothing}
 use Rattle.image.specs.Counters.{zeroCounters}
 use Rattle.presence.specs.declared.State.{State}
 use Rattle.presence.specs.declared.Opened.{Opened}
 
--- a fresh module: all-ones syndromes and rows, all heard, zero counters, full view
+-- a fresh module: all-ones syndromes and rows, all heard, zero counters, full view, no pending change
 unfoldable pub fresh : Setup → ℕ → State
 fresh s own = record {
   setup = s;
@@ -23,6 +24,7 @@ fresh s own = record {
   previous = record { heard = full (s .n); rows = array (s .n) (λ j. full (s .n)) };
   latest = full (s .n);
   earlier = full (s .n);
+  pending = nothing;
 }
 
 -- What a refused opening or reading holds, which document 01 leaves free: all zeros. A step of it is refused by 2 at 0, since no setup has N = 0.
@@ -36,6 +38,7 @@ blank =
       previous = record { heard = 0; rows = zeros };
       latest = 0;
       earlier = 0;
+      pending = nothing;
     }
 
 -- numbers 2, 4 to 6 and 22 of the setup, then 7 with index 0

@@ -11,6 +11,7 @@ use Rattle.image.specs.Check.{checkImage}
 use Rattle.presence.specs.Valid.{Valid}
 use Rattle.presence.specs.Opening.{openOf}
 use Rattle.presence.specs.Step.{stepOf}
+use Rattle.presence.specs.Change.{changeOf}
 use Rattle.presence.specs.Image.{imageOf, stateOf}
 use Rattle.presence.specs.declared.State.{State}
 
@@ -19,6 +20,7 @@ pub record Shaped (st : State) : Type 0 where
   pub setup : ShapedSetup (st .setup)
   pub rows : length (st .previous .rows) ≡ 16
   pub counters : ShapedCounters (st .counters)
+  pub pending : length (st .pending .criticality) ≡ 16
 
 -- of every state, and of all bytes
 pub record RoundTrip : Type 0 where
@@ -31,3 +33,6 @@ pub record RoundTrip : Type 0 where
   pub opens : (s : Setup) (own : ℕ) → ShapedSetup s → openOf s own .number ≡ 0 → Valid (openOf s own .state) × Shaped (openOf s own .state)
   pub keeps : (st : State) (read : List ℕ) (controller : ℕ) → Shaped st → stepOf st read controller .number ≡ 0
       → Valid (stepOf st read controller .state) × Shaped (stepOf st read controller .state)
+  -- and so does an accepted change
+  pub changes : (st : State) (new : Setup) (lead : ℕ) → Shaped st → ShapedSetup new → changeOf st new lead .number ≡ 0
+      → Valid (changeOf st new lead .state) × Shaped (changeOf st new lead .state)

@@ -1,4 +1,5 @@
--- One step of a module: rules 1 to 8 in their order, and the answers 9 and 10. (document 01, "One step, round k"; document 02, E7: no rule 9)
+-- One step of a module: rules 1 to 8 in their order, and the answers 9 and 10. (document 01, "One step, round k"; document 02, E7: no rule 9, and
+-- E10: a change that is due takes effect at the start of rule 8)
 use Prim.Native.Nat.{ℕ, _-_, _*_, _^_}
 use mathlib.Core.Bool.{Bool, cond}
 use mathlib.Core.List.{List}
@@ -10,7 +11,8 @@ use Rattle.rules.specs.Lag.{skewed}
 use Rattle.rules.specs.Hearing.{readingOf, causesOf}
 use Rattle.rules.specs.Alignment.{alignedOf}
 use Rattle.rules.specs.Syndrome.{judgementOf, outgoingOf}
-use Rattle.accounts.specs.Round.{countersOf}
+use Rattle.changes.specs.Books.{turned, booksAfter}
+use Rattle.changes.specs.declared.Books.{Books}
 use Rattle.presence.specs.Valid.{stateVerdict}
 use Rattle.rules.specs.declared.Reading.{Reading}
 use Rattle.rules.specs.declared.Judgement.{Judgement}
@@ -49,16 +51,27 @@ judgementFor st this = judgementOf (st .setup .n) (st .counters .view) (alignedF
 unfoldable pub outgoingFor : State → Reading → ℕ
 outgoingFor st this = outgoingOf (markOf st) (st .latest) (judgementFor st this .syndrome)
 
--- rule 8, and what the next step needs: this read, and the syndromes of this round and the one before
+-- what rule 8 counts with and what it counts
+abbrev pub booksOf : State → Books
+booksOf st = record { setup = st .setup; counters = st .counters; pending = st .pending }
+
+-- the view that rule 8 finds, after a change that is due has taken effect
+unfoldable pub foundView : State → ℕ
+foundView st = turned (booksOf st) .counters .view
+
+-- rule 8 with the pending change, and what the next step needs: this read, and the syndromes of this round and the one before
 unfoldable pub afterRound : State → Reading → State
-afterRound st this = record {
-  setup = st .setup;
-  own = st .own;
-  counters = countersOf (st .setup) (judgementFor st this .health) (st .counters);
-  previous = this;
-  latest = judgementFor st this .syndrome;
-  earlier = st .latest;
-}
+afterRound st this =
+    let books = booksAfter (booksOf st) (judgementFor st this .health) in
+    record {
+      setup = books .setup;
+      own = st .own;
+      counters = books .counters;
+      previous = this;
+      latest = judgementFor st this .syndrome;
+      earlier = st .latest;
+      pending = books .pending;
+    }
 
 -- ---- the answer
 

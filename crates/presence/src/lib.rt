@@ -1,7 +1,8 @@
-// A module of the backplane: opened from a setup and its own number, stepped once a round, saved and read back.
+// A module of the backplane: opened from a setup and its own number, stepped once a round, given new limits, saved and read back.
 //
 // This file has what a module holds and what its opening and its step answer. Entries and bits of module j + 1 stand at j;
 // those from n on are 0.
+mod change;
 pub mod load;
 mod open;
 pub mod save;
@@ -10,10 +11,12 @@ mod verdict;
 mod view;
 
 use accounts::Counters;
+use changes::Pending;
 use rules::Reading;
 use setup::Setup;
 
-// A module's state: its setup, its own number, its counters, its previous read, and the last two syndromes that it computed.
+// A module's state: its setup, its own number, its counters, its previous read, the last two syndromes that it computed, and the change of limits that
+// is pending.
 pub struct State {
     setup: Setup,
     own: usize,
@@ -21,10 +24,18 @@ pub struct State {
     previous: Reading,
     latest: u32,
     earlier: u32,
+    pending: Pending,
 }
 
 // What an opening answers.
 pub struct Opened {
+    pub number: u32,
+    pub index: u32,
+    pub state: State,
+}
+
+// What a change answers; where it is refused the state is as it was.
+pub struct Changed {
     pub number: u32,
     pub index: u32,
     pub state: State,

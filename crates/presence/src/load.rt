@@ -1,8 +1,11 @@
 // Reading a saved state: one pass gives the state and whether all its words are right.
 use crate::Opened;
 use crate::State;
+use changes::section::check_change;
+use changes::section::load_change;
 use image::check::check_image;
 use image::check::image_size;
+use image::left_at;
 use image::lent_counters;
 use image::load_accounts;
 use image::load_rows;
@@ -20,7 +23,7 @@ ghost use Rattle.words.specs.Verdict.{allRight};
 ghost use Rattle.setup.specs.Layout.{frontWords};
 ghost use Rattle.setup.specs.Limits.{mostReturnLimit};
 ghost use Rattle.setup.specs.Setup.{sizeIn, fadesIn, returnLimitIn};
-ghost use Rattle.image.specs.Layout.{imageLength};
+ghost use Rattle.image.specs.Layout.{leftAt, imageLength};
 ghost use Rattle.image.specs.Check.{imageTests, checkImage};
 ghost use Rattle.presence.specs.Opening.{blank as blankState};
 ghost use Rattle.presence.specs.Image.{stateOf, loadOf};
@@ -33,7 +36,7 @@ struct Loaded {
 
 // Whether all words are right, and then the state, in an image whose head and length are.
 fn load(s: &[u8], fades: bool, n: usize) -> Loaded
-    requires { ⌜ (n ≤ 16) × (length (now s) ≡ imageLength (frontWords fades) n) × (n ≡ sizeIn (wordAt (now s) 0)) × (fades ≡ fadesIn (wordAt (now s)))
+    requires { ⌜ (n ≤ 16) × (length (now s) ≡ imageLength (frontWords fades) n (wordAt (now s) (leftAt (frontWords fades) n))) × (n ≡ sizeIn (wordAt (now s) 0)) × (fades ≡ fadesIn (wordAt (now s)))
         × (returnLimitIn (wordAt (now s) 0) ≤ mostReturnLimit) ⌝ }
     ensures { λ r. ⌜ (r .good ≡ allRight (imageTests (now (s .entry)) n)) × (r .good ≡ true → r .state ≡ stateOf (now (s .entry))) ⌝ }
 {
@@ -64,8 +67,11 @@ fn load(s: &[u8], fades: bool, n: usize) -> Loaded
         &mut returns,
     );
     let counters = lent_counters(fades, n, alone.view, x, y, returns);
+    let at = left_at(front, n);
+    let change = check_change(s, fades, n, at);
+    let pending = load_change(s, n, at);
     Loaded {
-        good: alone.good & (read.good & right),
+        good: alone.good & (read.good & (right & (change.number == 0))),
         state: State {
             setup,
             own: alone.own,
@@ -76,6 +82,7 @@ fn load(s: &[u8], fades: bool, n: usize) -> Loaded
             },
             latest: alone.latest,
             earlier: alone.earlier,
+            pending,
         },
     }
 }

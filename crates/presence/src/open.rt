@@ -1,6 +1,7 @@
 // Opening a module from a setup and its own number.
 use crate::Opened;
 use crate::State;
+use changes::change::nothing;
 use image::zero_counters;
 use rules::Reading;
 use setup::Setup;
@@ -11,7 +12,7 @@ ghost use Prim.Native.Nat.{_≤_};
 ghost use Rattle.presence.specs.Opening.{fresh, blank, openOf};
 
 impl State {
-    // A fresh module: all-ones syndromes and rows, all heard, zero counters, full view.
+    // A fresh module: all-ones syndromes and rows, all heard, zero counters, full view, no pending change.
     fn fresh(setup: Setup, own: usize) -> State
         requires { ⌜ setup .n ≤ 16 ⌝ }
         ensures { λ r. ⌜ r ≡ fresh setup own ⌝ }
@@ -20,6 +21,7 @@ impl State {
         let full = full_of(n);
         let counters = zero_counters(full);
         let rows = filled(n, full);
+        let pending = nothing();
         State {
             setup,
             own,
@@ -27,6 +29,7 @@ impl State {
             previous: Reading { heard: full, rows },
             latest: full,
             earlier: full,
+            pending,
         }
     }
 
@@ -37,6 +40,7 @@ impl State {
         let setup = setup::read::blank();
         let counters = zero_counters(0);
         let zeros = [0u32; 16];
+        let pending = nothing();
         State {
             setup,
             own: 0,
@@ -47,6 +51,7 @@ impl State {
             },
             latest: 0,
             earlier: 0,
+            pending,
         }
     }
 

@@ -1,7 +1,9 @@
 // Writing a state as words.
 use crate::State;
+use changes::section::save_change;
 use image::first_of;
 use image::image_length;
+use image::left_at;
 use image::save_accounts;
 use image::save_sections;
 use image::second_of;
@@ -15,15 +17,13 @@ use words::check::refusal;
 ghost use mathlib.Core.Path.{_≡_};
 ghost use mathlib.Core.Bool.{true};
 ghost use lib.ListN.{length};
-ghost use Rattle.setup.specs.Setup.{frontOf};
 ghost use Rattle.setup.specs.Check.{setupVerdict};
-ghost use Rattle.image.specs.Layout.{imageLength};
-ghost use Rattle.presence.specs.Image.{imageOf};
+ghost use Rattle.presence.specs.Image.{imageOf, stateLength};
 ghost use Rattle.presence.specs.Valid.{roomy, saveVerdict, savedOut};
 
 // Writes all words of a state.
 pub(crate) fn save_words(state: State, out: &mut [u8])
-    requires { ⌜ (setupVerdict (state .setup) .number ≡ 0) × (roomy state ≡ true) × (length (now out) ≡ imageLength (frontOf (state .setup)) (state .setup .n)) ⌝ }
+    requires { ⌜ (setupVerdict (state .setup) .number ≡ 0) × (roomy state ≡ true) × (length (now out) ≡ stateLength state (state .pending .left)) ⌝ }
     ensures { λ _. ⌜ now (out .exit) ≡ imageOf state ⌝ }
 {
     let setup = state.setup;
@@ -49,6 +49,8 @@ pub(crate) fn save_words(state: State, out: &mut [u8])
         out,
     );
     save_accounts(form, setup.n, &first, &second, &returns, out);
+    let pending = state.pending;
+    save_change(setup, pending, out, left_at(front_words(form), setup.n));
 }
 
 impl State {
@@ -62,7 +64,8 @@ impl State {
         }
         let setup = self.setup;
         let limits = setup.limits;
-        if out.len() != image_length(front_words(fades(limits)), setup.n) {
+        let pending = self.pending;
+        if out.len() != image_length(front_words(fades(limits)), setup.n, pending.left) {
             return refusal(9, 0);
         }
         save_words(self, out);

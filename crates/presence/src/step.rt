@@ -1,14 +1,17 @@
 // One round at a module: rules 1 to 8 in their order.
 use crate::State;
 use crate::Stepped;
+use changes::Books;
+use changes::turn::turned;
 use rules::Judgement;
 use rules::Reading;
 use words::bits::bit_at;
 use words::bits::pick;
 use words::bits::power;
 ghost use mathlib.Core.Path.{_≡_};
+ghost use Rattle.changes.specs.Books.{turned as turnedOf};
 ghost use Rattle.presence.specs.Valid.{Valid};
-ghost use Rattle.presence.specs.Step.{placeOf, markOf, judgementFor, outgoingFor, afterRound, refusedStep, acceptedStep, readStep, stepOf};
+ghost use Rattle.presence.specs.Step.{placeOf, markOf, judgementFor, outgoingFor, booksOf, foundView, afterRound, refusedStep, acceptedStep, readStep, stepOf};
 
 impl State {
     // The module's own read place.
@@ -56,14 +59,41 @@ impl State {
         rules::judge::outgoing(self.marked(), self.latest, j.syndrome)
     }
 
+    // What rule 8 counts with and what it counts, after a change that is due has taken effect.
+    fn turned(self) -> Books
+        requires { ⌜ Valid self ⌝ }
+        ensures { λ r. ⌜ r ≡ turnedOf (booksOf self) ⌝ }
+    {
+        let setup = self.setup;
+        let counters = self.counters;
+        let pending = self.pending;
+        turned(Books {
+            setup,
+            counters,
+            pending,
+        })
+    }
+
+    // The view that rule 8 finds in the next step.
+    pub fn found_view(self) -> u32
+        requires { ⌜ Valid self ⌝ }
+        ensures { λ r. ⌜ r ≡ foundView self ⌝ }
+    {
+        let books = self.turned();
+        let counters = books.counters;
+        counters.view
+    }
+
     // Rule 8, and what the next step needs.
     fn after(self, this: Reading, j: Judgement) -> State
         requires { ⌜ Valid self ⌝ }
         requires { ⌜ j ≡ judgementFor self this ⌝ }
         ensures { λ r. ⌜ r ≡ afterRound self this ⌝ }
     {
-        let setup = self.setup;
-        let counters = self.counters;
+        let books = self.turned();
+        let setup = books.setup;
+        let counters = books.counters;
+        let pending = books.pending;
         let counted = accounts::round::counters(setup, j.health, counters);
         State {
             setup,
@@ -72,6 +102,7 @@ impl State {
             previous: this,
             latest: j.syndrome,
             earlier: self.latest,
+            pending,
         }
     }
 

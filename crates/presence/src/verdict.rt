@@ -1,6 +1,7 @@
 // The check of a state that is already a struct: by its image, and by what no image shows.
 use crate::State;
 use crate::save::save_words;
+use changes::change::pending_roomy;
 use image::VECTOR;
 use image::check::check_tail;
 use image::counters_roomy;
@@ -17,11 +18,9 @@ ghost use Prim.Native.Nat.{_≤_};
 ghost use lib.ListN.{length};
 ghost use Rattle.words.specs.Runs.{runWord};
 ghost use Rattle.setup.specs.Limits.{fades as fadesOf};
-ghost use Rattle.setup.specs.Setup.{frontOf};
 ghost use Rattle.setup.specs.Check.{setupVerdict};
-ghost use Rattle.image.specs.Layout.{imageLength};
 ghost use Rattle.image.specs.Check.{checkTail};
-ghost use Rattle.presence.specs.Image.{imageRuns};
+ghost use Rattle.presence.specs.Image.{imageRuns, stateLength};
 ghost use Rattle.presence.specs.Valid.{roomy as roomyOf, stateVerdict};
 
 // Whether every field has room in its word, and nothing stands in the entries from n on.
@@ -36,12 +35,14 @@ fn roomy(state: State) -> bool
     let counters = state.counters;
     let own = (state.own <= MOST_MODULES) & (counters.view < VECTOR);
     let alone = own & ((state.latest < VECTOR) & (state.earlier < VECTOR));
-    alone & (rows_roomy(n, previous) & counters_roomy(fades(limits), n, counters))
+    let pending = state.pending;
+    let counted = counters_roomy(fades(limits), n, counters) & pending_roomy(n, pending);
+    alone & (rows_roomy(n, previous) & counted)
 }
 
 // Numbers 7 and 8 of a state's image, which is written to `out`.
 fn image_verdict(state: State, out: &mut [u8]) -> Verdict
-    requires { ⌜ (setupVerdict (state .setup) .number ≡ 0) × (roomyOf state ≡ true) × (length (now out) ≡ imageLength (frontOf (state .setup)) (state .setup .n)) ⌝ }
+    requires { ⌜ (setupVerdict (state .setup) .number ≡ 0) × (roomyOf state ≡ true) × (length (now out) ≡ stateLength state (state .pending .left)) ⌝ }
     ensures { λ r. ⌜ r ≡ checkTail (fadesOf (state .setup .limits)) (runWord (imageRuns state)) (state .setup .n) ⌝ }
 {
     let setup = state.setup;
@@ -65,8 +66,9 @@ impl State {
         }
         // room for the longest image
         let limits = setup.limits;
-        let mut out = [0u8; 356];
-        let k = image_length(front_words(fades(limits)), setup.n);
+        let mut out = [0u8; 432];
+        let pending = self.pending;
+        let k = image_length(front_words(fades(limits)), setup.n, pending.left);
         image_verdict(self, &mut out[..k])
     }
 }
