@@ -58,7 +58,7 @@ fn new_module_ok(own: u32, new: u32) -> bool
 
 // Whether new word i is right.
 fn new_right(s: &[u8], at: usize, i: usize) -> bool
-    requires { ⌜ (at < 2 ^ 16) × (i < 18) × (19 ≤ at) × ((at + 2 + i) * 4 ≤ length (now s)) ⌝ }
+    requires { ⌜ (at < 2 ^ 16) × (i < 18) × ((at + 2 + i) * 4 ≤ length (now s)) ⌝ }
     ensures { λ t. ⌜ t ≡ newTest (wordAt (now (s .entry))) at i ⌝ }
 {
     let w = word_at(s, at + 1 + i);
@@ -73,7 +73,7 @@ fn new_right(s: &[u8], at: usize, i: usize) -> bool
 
 // One more than the first new word that is wrong, or 0.
 fn wrong_new(s: &[u8], n: usize, at: usize) -> usize
-    requires { ⌜ (n ≤ 16) × (at < 2 ^ 16) × (19 ≤ at) × ((at + 3 + n) * 4 ≤ length (now s)) ⌝ }
+    requires { ⌜ (n ≤ 16) × (at < 2 ^ 16) × ((at + 3 + n) * 4 ≤ length (now s)) ⌝ }
     ensures { λ t. ⌜ (t ≡ lowest (n + 2) (λ i. not (newTest (wordAt (now (s .entry))) at i))) × (t ≤ n + 2) ⌝ }
 {
     let mut i: usize = 0;
@@ -90,7 +90,7 @@ fn wrong_new(s: &[u8], n: usize, at: usize) -> usize
 
 // Number 8.
 pub fn check_change(s: &[u8], fades: bool, n: usize, at: usize) -> Verdict
-    requires { ⌜ (n ≤ 16) × (at < 2 ^ 16) × (19 ≤ at) × ((at + 1 + newCount n (wordAt (now s) at)) * 4 ≤ length (now s)) ⌝ }
+    requires { ⌜ (n ≤ 16) × (at < 2 ^ 16) × ((at + 1 + newCount n (wordAt (now s) at)) * 4 ≤ length (now s)) ⌝ }
     ensures { λ t. ⌜ t ≡ firstRefusal (changeTests fades (wordAt (now (s .entry))) n at) ⌝ }
 {
     let left = word_at(s, at);
