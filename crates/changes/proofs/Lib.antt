@@ -1,1 +1,4 @@
 pub mod AdjustLaws
+pub mod PendingLaws
+pub mod TurnLaws
+pub mod SectionTests
