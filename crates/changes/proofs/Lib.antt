@@ -2,3 +2,4 @@ pub mod AdjustLaws
 pub mod PendingLaws
 pub mod TurnLaws
 pub mod SectionTests
+pub mod LentLaws

@@ -242,3 +242,17 @@ down-shaped c e = go (leb 2 (c .left))
 pub read-shaped : (x : List ℕ) (n at : ℕ) → length (pendingIn x n at .criticality) ≡ 16
 unfolding pendingIn
 read-shaped x n at = cond-both (λ (c : Pending). length (c .criticality) ≡ 16) (eqb (wordAt x at) 0) _ _ nothing-shaped (array-length n _)
+
+-- ---- its tests, as the code joins them
+
+pub roomy-by : {room many : ℕ} {b : Bool} (n : ℕ) (c : Pending) → room ≡ cond (eqb (c .left) 0) 1 kindUnit → many ≡ cond (eqb (c .left) 0) 0 n
+    → b ≡ bounded many (placeUnit - 1) (c .criticality) → (ltb (c .p) room && ltb (c .r) room) && b ≡ pendingRoomy n c
+unfolding pendingRoomy
+roomy-by n c e m h = rw (h, e, m)
+
+pub frame-by : {old asked places : Bool} (s new : Setup) → old ≡ fades (s .limits) → asked ≡ fades (new .limits)
+    → places ≡ all (s .n) (λ j. eqb (getD (s .places) j 0) (getD (new .places) j 0))
+    → (not old && not asked) && ((eqb (s .n) (new .n) && eqb (s .q) (new .q)) && (eqb (s .marks) (new .marks) && places)) ≡ sameFrame s new
+unfolding sameFrame
+frame-by s new o a p =
+    λ i. (not (o i) && not (a i)) && ((eqb (s .n) (new .n) && eqb (s .q) (new .q)) && (eqb (s .marks) (new .marks) && p i))
