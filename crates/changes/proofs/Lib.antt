@@ -3,3 +3,4 @@ pub mod PendingLaws
 pub mod TurnLaws
 pub mod SectionTests
 pub mod LentLaws
+pub mod NewWords
