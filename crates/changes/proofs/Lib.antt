@@ -4,3 +4,4 @@ pub mod TurnLaws
 pub mod SectionTests
 pub mod LentLaws
 pub mod NewWords
+pub mod NewMeaning
