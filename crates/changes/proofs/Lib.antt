@@ -5,3 +5,4 @@ pub mod SectionTests
 pub mod LentLaws
 pub mod NewWords
 pub mod NewMeaning
+pub mod SectionLaws

@@ -106,6 +106,10 @@ nothing-fits s = record {
   some = λ pos. absurd (omega arith);
 }
 
+pub nothing-small : (n : ℕ) → n ≤ 16 → PendingSmall n nothing
+unfolding nothing
+nothing-small n small = empty-small n nothing small (refl, refl, clear-of 0 (replicate 16 0) (λ i h l. getD-replicate {A = ℕ} 16 i 0 0 l))
+
 -- one round less
 pub down-fits : (s : Setup) (c : Pending) → PendingFits s c → PendingFits s (countedDown c)
 unfolding countedDown
