@@ -4,3 +4,4 @@ pub mod Books
 pub mod Words
 pub mod Frame
 pub mod Lent
+pub mod Meaning

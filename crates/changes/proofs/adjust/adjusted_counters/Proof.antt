@@ -1,104 +1,109 @@
+-- After j turns the view and both arrays hold the accounts below j.
+use Prim.Native.Nat.{_-_, _≤_, _<_}
+use mathlib.Core.Path.{_≡_, refl, ap}
+use native.Mathlib.Omega.{arith}
+use Rattle.words.specs.Bits.{pack}
+use Rattle.words.specs.Array.{array}
+use Rattle.words.proofs.BitLaws.{pack-step, packed-lt}
+use Rattle.words.proofs.ArrayLaws.{array-step}
+use Rattle.accounts.specs.declared.Account.{Account}
+use Rattle.changes.specs.Adjust.{adjustedAt}
+use Rattle.changes.proofs.AdjustLaws.{adjusted-read, counters-by}
 use Rattle.changes.proofs.adjust.adjusted_counters.Statement.{statement}
 use Rattle.changes.proofs.adjust.adjusted_counters.Tie as tie
-use Rattle.changes.proofs.adjust.adjusted_counters.Reads as reads
-use Rattle.changes.proofs.adjust.adjusted_counters.Lts as lts
-use Rattle.changes.proofs.adjust.adjusted.Reads as adjusted-reads
-use Rattle.words.proofs.bits.bit_at.Reads as bit-at-reads
-use Rattle.words.proofs.bits.with_bit.Reads as with-bit-reads
 
 abbrev Inv-loop : tie.InvT-loop
-Inv-loop n new c view₀ penalty₀ reward₀ j₀ view penalty reward j = ?
+Inv-loop n new c view₀ penalty₀ reward₀ j₀ view penalty reward j =
+    (j ≤ n) × (view ≡ pack j (λ k. adjustedAt new c k .present))
+    × (penalty ≡ array j (λ k. adjustedAt new c k .penalty))
+    × (reward ≡ array j (λ k. adjustedAt new c k .reward))
 
 abbrev μ-loop : tie.MeasureT-loop
-μ-loop n new c view₀ penalty₀ reward₀ j₀ view penalty reward j = ?
+μ-loop n new c view₀ penalty₀ reward₀ j₀ view penalty reward j = n - j
 
--- src/adjust.rt:51:5
 loop-holds : tie.Need-loop-holds Inv-loop μ-loop
-loop-holds c = ?
+unfolding pack array
+loop-holds c = (omega arith, refl, refl, refl)
 
--- src/adjust.rt:52:13
 bit-at-requires : tie.Need-bit-at-requires Inv-loop μ-loop
-bit-at-requires c κs = ?
+bit-at-requires c κs = omega arith
 
--- src/adjust.rt:53:20
 mul-owed : tie.Need-mul-owed Inv-loop μ-loop
-mul-owed c = ?
+mul-owed c = omega arith
 
--- src/adjust.rt:53:20
 element-copy-out-owed : tie.Need-element-copy-out-owed Inv-loop μ-loop
-element-copy-out-owed c = ?
+element-copy-out-owed c = omega arith
 
--- src/adjust.rt:54:22
 mul-earned : tie.Need-mul-earned Inv-loop μ-loop
-mul-earned c = ?
+mul-earned c = omega arith
 
--- src/adjust.rt:54:22
 element-copy-out-earned : tie.Need-element-copy-out-earned Inv-loop μ-loop
-element-copy-out-earned c = ?
+element-copy-out-earned c = omega arith
 
--- src/adjust.rt:55:20
 mul-held : tie.Need-mul-held Inv-loop μ-loop
-mul-held c = ?
+mul-held c = omega arith
 
--- src/adjust.rt:55:20
 element-copy-out-held : tie.Need-element-copy-out-held Inv-loop μ-loop
-element-copy-out-held c = ?
+element-copy-out-held c = omega arith
 
--- src/adjust.rt:56:23
 mul-counted : tie.Need-mul-counted Inv-loop μ-loop
-mul-counted c = ?
+mul-counted c = omega arith
 
--- src/adjust.rt:56:23
 element-copy-out-counted : tie.Need-element-copy-out-counted Inv-loop μ-loop
-element-copy-out-counted c = ?
+element-copy-out-counted c = omega arith
 
--- src/adjust.rt:64:27
 mul-criticality : tie.Need-mul-criticality Inv-loop μ-loop
-mul-criticality c = ?
+mul-criticality c = omega arith
 
--- src/adjust.rt:64:27
 element-copy-out-criticality : tie.Need-element-copy-out-criticality Inv-loop μ-loop
-element-copy-out-criticality c = ?
+element-copy-out-criticality c = omega arith
 
--- src/adjust.rt:65:13
 adjusted-requires : tie.Need-adjusted-requires Inv-loop μ-loop
-adjusted-requires c κs = ?
+adjusted-requires c κs =
+    let g = c .before .before .before .before .before .before .before in
+    let a = g .before in
+    let l : g .loop .j < a .args .n = omega arith in
+    (a .pre .0 .1, a .pre .1 (g .loop .j) l)
 
--- src/adjust.rt:66:9
 with-bit-requires : tie.Need-with-bit-requires Inv-loop μ-loop
-with-bit-requires c κs = ?
+with-bit-requires c κs = (packed-lt _ _ (c .before .before .before .before .before .before .before .before .loop .inv .1), omega arith)
 
--- src/adjust.rt:67:9
 mul-penalty : tie.Need-mul-penalty Inv-loop μ-loop
-mul-penalty c = ?
+mul-penalty c = omega arith
 
--- src/adjust.rt:67:9
 array-write-penalty : tie.Need-array-write-penalty Inv-loop μ-loop
-array-write-penalty c = ?
+array-write-penalty c = omega arith
 
--- src/adjust.rt:68:9
 mul-reward : tie.Need-mul-reward Inv-loop μ-loop
-mul-reward c = ?
+mul-reward c = omega arith
 
--- src/adjust.rt:68:9
 array-write-reward : tie.Need-array-write-reward Inv-loop μ-loop
-array-write-reward c = ?
+array-write-reward c = omega arith
 
--- src/adjust.rt:51:9
 add-j : tie.Need-add-j Inv-loop μ-loop
-add-j c = ?
+add-j c = omega arith
 
--- src/adjust.rt:51:5
 loop-less : tie.Need-loop-less Inv-loop μ-loop
-loop-less c = ?
+loop-less c = omega arith
 
--- src/adjust.rt:51:5
 loop-again : tie.Need-loop-again Inv-loop μ-loop
-loop-again c = ?
+loop-again c =
+    let g = c .before .before .before .before .before .before .before .before .before in
+    let a = g .before .args in
+    let i = g .loop .inv in
+    let q : c .before .adjusted .result ≡ adjustedAt (a .t2) (a .t3) (g .loop .j) =
+    adjusted-read (a .t2) (a .t3) (g .loop .j) _ (c .before .before .before .before .before .before .before .bit-at .ensures) (c .before .adjusted .ensures)
+    in (
+      omega arith,
+      pack-step _ _ (i .1) (ap (λ (x : Account). x .present) q) (c .with-bit .ensures),
+      array-step _ _ (i .2) (ap (λ (x : Account). x .penalty) q),
+      array-step _ _ (i .3) (ap (λ (x : Account). x .reward) q),
+    )
 
--- src/adjust.rt:43:1
 returns : tie.Need-returns Inv-loop μ-loop
-returns c = ?
+returns c =
+    let i = c .before .before .before .loop .inv in
+    counters-by _ _ _ _ (omega arith) (i .1) (i .2) (i .3)
 
 pub adjusted-counters-spec : {M : Type 1} → statement M
 adjusted-counters-spec =

@@ -1,54 +1,52 @@
+-- After j turns the first j entries are read.
+use Prim.Native.Nat.{_+_, _-_, _≤_}
+use mathlib.Core.Path.{_≡_, ap}
+use native.Mathlib.Omega.{arith}
+use Rattle.words.specs.Word.{wordAt}
+use Rattle.words.specs.Array.{array}
+use Rattle.words.proofs.ArrayLaws.{array-none, array-step, array-end}
+use Rattle.setup.specs.Setup.{criticalityIn}
 use Rattle.changes.proofs.section.new_criticality.Statement.{statement}
 use Rattle.changes.proofs.section.new_criticality.Tie as tie
-use Rattle.changes.proofs.section.new_criticality.Reads as reads
-use Rattle.changes.proofs.section.new_criticality.Lts as lts
-use Rattle.words.proofs.word.word_at.Reads as word-at-reads
 
 abbrev Inv-loop : tie.InvT-loop
-Inv-loop s n at criticality₀ j₀ criticality j = ?
+Inv-loop s n at criticality₀ j₀ criticality j =
+    (j ≤ n) × (criticality ≡ array j (λ k. criticalityIn (wordAt s (at + 3 + k))))
 
 abbrev μ-loop : tie.MeasureT-loop
-μ-loop s n at criticality₀ j₀ criticality j = ?
+μ-loop s n at criticality₀ j₀ criticality j = n - j
 
--- src/section.rt:118:5
 loop-holds : tie.Need-loop-holds Inv-loop μ-loop
-loop-holds c = ?
+loop-holds c = (omega arith, array-none _)
 
--- src/section.rt:119:37
 add-word-at : tie.Need-add-word-at Inv-loop μ-loop
-add-word-at c = ?
+add-word-at c = omega arith
 
--- src/section.rt:119:37
 add-word-at-2 : tie.Need-add-word-at-2 Inv-loop μ-loop
-add-word-at-2 c = ?
+add-word-at-2 c = omega arith
 
--- src/section.rt:119:26
 word-at-requires : tie.Need-word-at-requires Inv-loop μ-loop
-word-at-requires c κs = ?
+word-at-requires c κs = omega arith
 
--- src/section.rt:119:9
 mul-criticality : tie.Need-mul-criticality Inv-loop μ-loop
-mul-criticality c = ?
+mul-criticality c = omega arith
 
--- src/section.rt:119:9
 array-write-criticality : tie.Need-array-write-criticality Inv-loop μ-loop
-array-write-criticality c = ?
+array-write-criticality c = omega arith
 
--- src/section.rt:118:9
 add-j : tie.Need-add-j Inv-loop μ-loop
-add-j c = ?
+add-j c = omega arith
 
--- src/section.rt:118:5
 loop-less : tie.Need-loop-less Inv-loop μ-loop
-loop-less c = ?
+loop-less c = omega arith
 
--- src/section.rt:118:5
 loop-again : tie.Need-loop-again Inv-loop μ-loop
-loop-again c = ?
+loop-again c =
+    let l = c .before .before .loop in
+    (omega arith, array-step _ _ (l .inv .1) (ap criticalityIn (c .word-at .ensures)))
 
--- src/section.rt:113:1
 returns : tie.Need-returns Inv-loop μ-loop
-returns c = ?
+returns c = array-end _ (omega arith) (c .before .loop .inv .1)
 
 pub new-criticality-spec : {M : Type 1} → statement M
 new-criticality-spec =

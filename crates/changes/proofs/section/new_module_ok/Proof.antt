@@ -1,11 +1,12 @@
+-- The tests of the definition.
+use mathlib.Core.Path.{refl}
+use Rattle.changes.specs.Words.{newModuleOk}
 use Rattle.changes.proofs.section.new_module_ok.Statement.{statement}
 use Rattle.changes.proofs.section.new_module_ok.Tie as tie
-use Rattle.changes.proofs.section.new_module_ok.Reads as reads
-use Rattle.changes.proofs.section.new_module_ok.Lts as lts
 
--- src/section.rt:53:1
 returns : tie.Need-returns
-returns c = ?
+unfolding newModuleOk
+returns c = refl
 
 pub new-module-ok-spec : {M : Type 1} → statement M
 new-module-ok-spec = tie.close (tie.spec returns)
