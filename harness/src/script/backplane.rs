@@ -83,7 +83,7 @@ impl Backplane {
             order,
             round: 0,
             states,
-            outcomes: [Outcome { causes: [0; MAX], health: 0, accused: [0; MAX], syndrome: 0, word: 0 }; MAX],
+            outcomes: [Outcome { causes: [0; MAX], health: 0, accused: [0; MAX], syndrome: 0, found: 0, word: 0 }; MAX],
             handed_out: handed,
             arrivals,
             hearings: [faultless; 3],
