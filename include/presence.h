@@ -330,9 +330,9 @@
  * step, and where Q is 1 it is back at once, with penalty P.  The image after
  * this step has the new setup and no pending change.
  *
- * Only one change can be pending.  Nothing else of a setup can be changed: N, Q,
- * read places and send marks have to be those of the image's setup, and neither
- * side may fade (23).  P, R and criticalities that are the old ones are
+ * Only one change can be pending.  Nothing else of a setup can be changed: N,
+ * Q, read places and send marks have to be those of the image's setup, and
+ * neither side may fade (23).  P, R and criticalities that are the old ones are
  * accepted.
  *
  * Lengths.  A change makes the image longer by N+2 words, and the step that
@@ -375,8 +375,8 @@
  *     another one.
  *   - A refused offer changes nothing.
  *
- * A saved image keeps the pending change and its rounds left.  The register page
- * shows of a change what it does to the view.
+ * A saved image keeps the pending change and its rounds left.  The register
+ * page shows of a change what it does to the view.
  *
  *
  * READ: N words
@@ -415,11 +415,12 @@
  * page that it is lent, and flag 1 if a module has health 0 that was in the
  * view before the step and that no change applied in it has put out.  Flags
  * stay until the host clears them: a write of word 2 clears the flags that are
- * written as ones.  A write of word 3 is stored whole.  A step leaves enable, words 8 to 15 and the other bits of
- * word 2 as they are.  The interrupt is on exactly while flags and enable
- * share a set bit.  So a flag is lost only by a write that names it, or when
- * the page is opened anew; and while a flag is set the interrupt is on whenever
- * its bit of enable is set, be it set before the change or later.
+ * written as ones.  A write of word 3 is stored whole.  A step leaves enable,
+ * words 8 to 15 and the other bits of word 2 as they are.  The interrupt is on
+ * exactly while flags and enable share a set bit.  So a flag is lost only by a
+ * write that names it, or when the page is opened anew; and while a flag is set
+ * the interrupt is on whenever its bit of enable is set, be it set before the
+ * flag or later.
  *
  * Words 4 to 7 hold four modules each, one byte a module, module 1 topmost:
  * the cause of module j stands in word 4+(j-1)/4, in bit 31-8*((j-1)%4) and the
