@@ -8,9 +8,10 @@
 use harness::ffi::Library;
 use harness::model::calls::Functions;
 use harness::model::setup::{Form, Setup};
-use harness::model::state::{image_words, read_image, State};
+use harness::model::state::{image_words, read_image, stepped_length, State};
 use harness::model::step::{read_word, Reading};
 use harness::model::words::{bytes_of, full, words_of, MAX};
+use harness::random::changes::pending_state;
 use harness::random::pages::page;
 use harness::random::reads::read;
 use harness::random::scripts::script_with_u_0;
@@ -152,10 +153,14 @@ fn same_images(script: &Script, renumbering: &Renumbering) -> Result<u32, String
     Ok(at as u32)
 }
 
-/// A step from a random image with a random read and page, and the same renumbered.
+/// A step from a random image with a random read and page, and the same renumbered. In some a change of the limits waits.
 fn same_step(random: &mut Random) -> Result<(), String> {
     let setup = script_with_u_0(random).setup;
-    let before = if random.chance(1, 3) { reached_state(random, &setup) } else { state(random, &setup) };
+    let before = match random.below(3) {
+        0 => reached_state(random, &setup),
+        1 => pending_state(random, &setup),
+        _ => state(random, &setup),
+    };
     let (read, controller) = read(random, &setup, &before);
     let page = page(random);
     let renumbering = Renumbering::random(random, setup.n);
@@ -184,7 +189,7 @@ fn same_step(random: &mut Random) -> Result<(), String> {
 /// Health, image and page after a step by the library.
 fn stepped(setup: &Setup, state: &State, read: &[u32], controller: u32, page: &[u8]) -> Result<(u32, Vec<u8>, Vec<u8>), String> {
     let image = bytes_of(&image_words(setup, state));
-    let (mut out, mut page) = (vec![0; image.len()], page.to_vec());
+    let (mut out, mut page) = (vec![0; 4 * stepped_length(setup, state)], page.to_vec());
     let answer = Library.page_step(&image, &bytes_of(read), controller, &mut out, &mut page);
     if answer.number != 0 {
         return Err(format!("refused {} at {}", answer.number, answer.index));

@@ -3,7 +3,7 @@
 use super::change::{accept, setup_after};
 use super::page::Page;
 use super::setup::{read_setup, Holds, Setup};
-use super::state::{fresh, handed_out, image_length, image_words, read_image, State};
+use super::state::{fresh, handed_out, image_length, image_words, read_image, stepped_length, State};
 use super::step::{read_word, step, Outcome, Reading};
 use super::words::{bytes_of, words_of};
 use super::{refusal, Refusal};
@@ -127,8 +127,7 @@ fn try_open(setup: &[u8], own: u32, out: &mut [u8]) -> Result<u32, Refusal> {
 fn try_step(state: &[u8], read: &[u8], controller: u32, out: &mut [u8]) -> Result<Outcome, Refusal> {
     let (setup, mut state) = read_image(state)?;
     let read = words_of(read).filter(|words| words.len() == setup.n).ok_or(refusal(9, 0))?;
-    let left_pending = state.pending.filter(|pending| pending.left > 1);
-    if out.len() != 4 * image_length(&setup, &left_pending) {
+    if out.len() != 4 * stepped_length(&setup, &state) {
         return Err(refusal(9, 0));
     }
     let after = *setup_after(&setup, &state);

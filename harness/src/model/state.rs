@@ -106,6 +106,12 @@ pub fn image_length(setup: &Setup, pending: &Option<Pending>) -> usize {
     }
 }
 
+/// Words of the image after a step.
+pub fn stepped_length(setup: &Setup, state: &State) -> usize {
+    let waits = state.pending.filter(|pending| pending.left > 1);
+    image_length(setup, &waits)
+}
+
 /// Numbers 1 to 8. Words are tested in their order, so the first wrong one is named.
 pub fn read_image(bytes: &[u8]) -> Result<(Setup, State), Refusal> {
     let (setup, words) = read_setup(bytes, Holds::State)?;
