@@ -90,6 +90,7 @@ static void move_image(uint8_t *to, const struct renumbering *r,
                                    moved(r, own & 0xFFFF)));
     put(to, latest_at(f, n), moved(r, get(from, latest_at(f, n))));
     put(to, before_at(f, n), moved(r, get(from, before_at(f, n))));
+    put(to, left_at(f, n), get(from, left_at(f, n)));
     for (j = 1; j <= n; j++) {
         i = r->number[j - 1];
         put(to, module_at(f, i), numbered(get(from, module_at(f, j)), i));
