@@ -18,12 +18,14 @@ pub struct Pending {
     pub setup: Setup,
 }
 
+/// The new setup, if the next step counts by it.
+pub fn next_setup(state: &State) -> Option<&Setup> {
+    state.pending.as_ref().filter(|pending| pending.left == 1).map(|pending| &pending.setup)
+}
+
 /// The setup of the image after the next step.
 pub fn setup_after<'a>(setup: &'a Setup, state: &'a State) -> &'a Setup {
-    match &state.pending {
-        Some(pending) if pending.left == 1 => &pending.setup,
-        _ => setup,
-    }
+    next_setup(state).unwrap_or(setup)
 }
 
 /// The new setup by its own numbers, then 23 and 24. Answers the state in which the change waits.
