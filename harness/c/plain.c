@@ -14,6 +14,8 @@
  * load_setup, load_state and plain_step are longer than 40 lines.  They stay
  * so because `make measure` counts their instructions, and gcc -O2 makes other
  * code of them when parts move into functions, static inline ones too.
+ * load_limits and store_limits, which a step goes through, have two callers
+ * each; they are inline so that gcc makes no calls of them there.
  */
 #include <float.h>
 #include <math.h>
@@ -195,8 +197,9 @@ static presence_answer load_fading(struct setup *s, const uint8_t *bytes)
 
 /* P and R of counts, which begin at a word.  The refusal is 4 in a setup and 8
    in a pending change. */
-static presence_answer load_limits(struct limits *l, const uint8_t *bytes,
-                                   uint32_t first, uint32_t refusal)
+static inline presence_answer load_limits(struct limits *l,
+                                          const uint8_t *bytes, uint32_t first,
+                                          uint32_t refusal)
 {
     uint32_t word = get_word(bytes, first);
 
@@ -414,7 +417,8 @@ static presence_answer load_state(struct state *s, const uint8_t *bytes,
 }
 
 /* P and R of counts, from a word on. */
-static void store_limits(const struct limits *l, uint8_t *out, uint32_t first)
+static inline void store_limits(const struct limits *l, uint8_t *out,
+                                uint32_t first)
 {
     put_word(out, first, (uint32_t)PENALTY_LIMIT << 28 | l->penalty);
     put_word(out, first + 1, (uint32_t)REWARD_LIMIT << 28 | l->reward);
