@@ -13,8 +13,8 @@
  * Build, with libgirmaut.a in the folder LIB:
  *   gcc -std=c99 -O2 -Iinclude examples/firmware/card.c -LLIB -lgirmaut -o card
  *
- * Prints what happens; exit status 0 if no call but an offer was refused and all
- * cards agreed in every round.
+ * Prints what happens; exit status 0 if no call but an offer was refused and
+ * all cards agreed in every round.
  */
 #include <stdio.h>
 #include <string.h>
@@ -428,9 +428,12 @@ static void disturb(uint32_t round)
                silent(3, round) ? "goes silent" : "sends again");
     if (round == 13 || round == 45) {
         restart(&cards[1]);
-        printf("round %2u: card 2 restarts from its saved state, %u rounds left "
-               "until a change\n", (unsigned)round,
-               (unsigned)card_rounds_left(&cards[1]));
+        printf("round %2u: card 2 restarts from its saved state",
+               (unsigned)round);
+        if (card_rounds_left(&cards[1]) > 0)
+            printf(", with %u rounds left until a change",
+                   (unsigned)card_rounds_left(&cards[1]));
+        printf("\n");
     }
 }
 
@@ -490,7 +493,8 @@ static int all_agree(void)
     return 1;
 }
 
-/* No call but an offer was refused, and each output is driven by one card and no more. */
+/* No call but an offer was refused, and each output is driven by one card and
+   no more. */
 static int all_driven(void)
 {
     uint32_t outputs = 0, i;
