@@ -367,8 +367,8 @@
  *   - While the change is pending at the others, such a module can be offered
  *     the same setup with as many rounds as they have left.  It then changes in
  *     the same round and holds what they hold (tested; what is proved asks for
- *     the same lead between the same two steps).  So does one that is opened
- *     meanwhile, from the old setup.
+ *     the same lead between the same two steps).  One that is opened meanwhile,
+ *     from the old setup, is offered it in the same way.
  *   - Afterwards open it anew, from the new setup.  HOW A CARD LEAVES AND COMES
  *     BACK says what it does then.
  *   - A pending change can not be taken back.  After it has been applied, offer
