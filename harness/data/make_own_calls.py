@@ -1597,6 +1597,13 @@ def changes_refused_by_23():
         change_refused(SHEET_1, new, 1, 132, 23, 0)
     for q in (0, 2, 4):
         change_refused(AWAY, setup_words(4, q=q), 1, 132, 23, 0)
+    also("23: N alone, with the same l and marks of the modules that both have: one more with l = 4 or 0, one less; 2 and 16.")
+    for l in (0, 4, 5):
+        change_refused(SHEET_1, setup_words(5, l=[4] * 4 + [l]), 1, 132, 23, 0)
+    early = State(setup_words(4, l=[0, 0, 1, 2], marks=[2, 3]), 1)
+    change_refused(early, setup_words(3, l=[0, 0, 1], marks=[2, 3]), 1, 132, 23, 0)
+    change_refused(State(setup_words(16, l=[0] * 16), 1), setup_words(2, l=[0, 0]), 1, 420, 23, 0)
+    change_refused(State(setup_words(2, l=[0, 0]), 1), setup_words(16, l=[0] * 16), 1, 84, 23, 0)
     also("23: a read place, at each module, one less and 0; with u = 1 too. A mark more, a mark less.")
     for j in range(1, 5):
         for l in (0, 3):
@@ -1799,6 +1806,9 @@ def steps_that_lower_p():
     also("Criticality 2: cut to 5, which 3 has; 4 has 4, which is P + 1.")
     two = setup_words(4, p=3, crit=[2] * 4)
     good(applied(two, State(WIDE, 1).but(penalty={3: 5, 4: 4})), view=0x3, setup=two, pending=None)
+    also("Outside with 8, 7 and 6: cut to 5.")
+    for penalty_then in (8, 7, 6):
+        good(applied(two, State(WIDE, 1).but(view=0xB, penalty={3: penalty_then})), penalty={3: 5}, setup=two, pending=None)
     also("Outside with 8: cut to 4; in the view with 4: leaves, and stays at 4. The step charges neither, though 3 has health 0.")
     charged(applied(low, State(WIDE, 1).but(view=0xB, penalty={3: 8, 4: 4}, reward={3: 2})), 3, penalty={3: 4}, reward={3: 0}, view=0x3,
             setup=low, pending=None)
@@ -1896,6 +1906,13 @@ def pages_of_changes():
     rows = [0xB] * 4
     page_stepped(waits, quiet, page_words(0xB, 0xD, 3, 3), buses(*rows), 0xF, 0xB, rows, 0xF, penalty={2: 2, 3: 1}, view=0xD, setup=low,
                  pending=None)
+    also("Penalty 5, reward 2, new P = 1 and R = 2, health 0: cleared first, so it is in the view and charged.")
+    both = setup_words(4, p=1, r=2)
+    page_stepped(applied(both, State(setup_words(4, p=5), 1).but(penalty={2: 5}, reward={2: 2})), quiet, page_words(0xD, 0xF, 2, 3), seen, 0xF,
+                 0xD, lack, 0xF, penalty={2: 1}, reward={2: 0}, setup=both, pending=None)
+    also("Two rounds left: the change does not yet put 2 out, which has health 0. Charged, and it stays, with 6 = P.")
+    page_stepped(State(setup_words(4, p=6), 1).but(penalty={2: 5}, pending=(2, low)), quiet, page_words(0xD, 0xF, 2, 3), seen, 0xF, 0xD, lack, 0xF,
+                 penalty={2: 6}, pending=(1, low))
     also("Q = 1: it leaves by the change and is back in the same step; the page does not see it.")
     quick = setup_words(4, p=1, q=1)
     page_stepped(applied(quick, State(setup_words(4, p=5, q=1), 1).but(penalty={2: 5})), quiet, quiet, ALL_ONES, 0xF, 0xF, full_rows, 0xF,

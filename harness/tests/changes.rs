@@ -410,6 +410,8 @@ fn number_23_if_anything_else_differs() {
     let early_words = early.words();
     for (image, new) in [
         (image(), vec![0x10000003, 0x20000001, 0x30000003, 0x40860001, 0x41060001, 0x41860001]),
+        // N alone: a fifth module, the others as they are.
+        (image(), [&[0x10000005], &SHEET[1..], &[0x42880001]].concat()),
         (image(), with(&SHEET, 0, 0x10000104)),
         (image(), with(&SHEET, 6, 0x42060001)),
         (image(), FADING_SHEET.to_vec()),
@@ -585,6 +587,8 @@ fn the_page_sees_the_view_that_rule_8_finds() {
     assert_eq!(flags(&high, &low, (5, 0, 0, true), BAD), 1);
     assert_eq!(flags(&high, &low, (1, 0, 0, true), BAD), 2);
     assert_eq!(flags(&high, &low, (2, 0, 0, true), BAD), 3);
+    // Cleared first, so it is in the view and charged.
+    assert_eq!(flags(&high, &sheet_with(2, 3, 1, 0), (5, 3, 0, true), BAD), 2);
     assert_eq!(flags(&low, &high, (2, 0, 0, true), BAD), 2);
     assert_eq!(flags(&low, &high, (3, 0, 0, false), BAD), 0);
     // Q = 1: out and back in one step.

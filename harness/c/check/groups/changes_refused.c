@@ -170,6 +170,12 @@ static void setups_differ(const struct given *g)
     modules_differ(g);
     low_setup(COUNTS, other, n == MAX_N ? n - 1 : n + 1, 0);
     differs(g, other, setup_bytes(COUNTS, n == MAX_N ? n - 1 : n + 1));
+    if (n < MAX_N) { /* N alone: one module more, those before as they are */
+        memcpy(other, g->new_setup, setup_bytes(COUNTS, n));
+        put(other, 0, head_word(n + 1, q));
+        put(other, module_at(COUNTS, n + 1), module_word(n + 1, 0, n, 1));
+        differs(g, other, setup_bytes(COUNTS, n + 1));
+    }
     make_fading_setup(other, n, 0.5, 3.0);
     differs(g, other, setup_bytes(FADING, n));
     /* From an image that fades, to counts and to what it has already. */

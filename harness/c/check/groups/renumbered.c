@@ -1,6 +1,6 @@
 /*
- * renumbered.c - the same modules in other slots, u = 0: E8 of document 02; with
- * changes of the limits, E10, between the steps.
+ * renumbered.c - the same modules in other slots, u = 0: E8 of document 02;
+ * with changes of the limits, E10, between the steps.
  */
 #include "check/groups/groups.h"
 
@@ -154,7 +154,8 @@ static void two_changes(const struct renumbering *r, uint8_t *image,
     uint32_t n = r->n, lead = 1 + below(4);
     size_t len = image_bytes(COUNTS, n), setup_len = setup_bytes(COUNTS, n);
 
-    if (r->form == FADING || below(8) != 0 || presence_rounds_left(image, n) > 0)
+    if (r->form == FADING || below(8) != 0 ||
+        presence_rounds_left(image, n) > 0)
         return;
     new_limits(new_setup, image, n);
     move_setup(new_then, r, new_setup);
