@@ -725,6 +725,8 @@ presence_answer presence_save(const uint8_t *state, size_t state_len,
  *   out, out_len       output, PRESENCE_PENDING_IMAGE_BYTES(N)
  * Order of the checks: 1, 2, 3, 4, 5, 6, 7, 8 (image), then 1, 2, 3, 4, 5, 6
  * (new setup), 23, 24, 9 (output).
+ * Numbers 1 to 6 do not tell which of the two is wrong; presence_check_setup of
+ * the new setup does.
  * Accepted: the output holds the image with the new words and lead rounds left.
  * It is the current one, and no step has been made.  Health is 0.
  * Refused: the output stays as it was, and the image that was passed is still
