@@ -7,3 +7,4 @@ pub mod ImageOpenLaws
 pub mod OutgoingImage
 pub mod ReturnCases
 pub mod Cases
+pub mod NewLimitCases
