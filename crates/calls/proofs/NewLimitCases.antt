@@ -3,6 +3,7 @@ use mathlib.Core.Path.{refl}
 use Rattle.words.specs.Word.{wordAt, putWord, bytesOf}
 use Rattle.words.specs.Bits.{bit, pack}
 use Rattle.words.specs.Count.{count, any, all, lowest}
+use Rattle.words.specs.Table.{updated}
 use Rattle.words.specs.Array.{array, bounded}
 use Rattle.rules.specs.Lag.{skewed}
 use Rattle.rules.specs.Hearing.{busWord, receptionOf, isHeard, heardRow, causeIn, entryOf, readingOf, causesOf}
@@ -40,5 +41,5 @@ use Rattle.calls.specs.Calls.{refusedCall, wrote, openCall, stepCall, ch
 use Rattle.calls.specs.NewLimitCases.{NewLimitCasesRight}
 
 pub new-limit-cases-right : NewLimitCasesRight
-unfolding fits ofInt ofBits toBits lt le double ofWords highWord lowWord nonNegative doubles clearDoubles wordAt putWord bytesOf bit pack count any all lowest array bounded andThen outcome thenTests runsOf runWord factorFits limitFits fadesIn limitsIn limitList setupOf setupBytes blankSetup moduleFits markFits whole headFits headOk limitOk moduleOk markOk moduleTest checkHead checkWords checkSetup setupRoomy roomVerdict setupVerdict skewed busWord receptionOf isHeard heardRow causeIn entryOf readingOf causesOf alignedOf decision tally voteOf healthOf differsAt accusationOf accusationsOf syndromeOf votersOf judgementOf outgoingOf charged rewarded awaited accounted accountedBy accountAt accountedAt countersOf rowFits ownNumberOk ownOk rowOk syndromeOk readingIn rowsRoomy scoreFits countersIn counterOk countersRoomy checkTail checkImage roomy stateVerdict fresh blank checkOpening openOf placeOf markOf ownSyndrome alignedFor judgementFor outgoingFor afterRound refusedStep acceptedStep readStep stepOf imageOf stateOf roomFor refusedCall wrote openCall stepCall saveCall nothing pendingOf countedDown pendingRoomy forgiven fitted settled adjusted adjustedAt adjustedOf turned counted booksAfter sameFrame mayFollow frameVerdict leftOk newModuleOk newTest pendingIn newWord newVerdict changeVerdict changeOf roomAfter changeCall
+unfolding fits ofInt ofBits toBits lt le double ofWords highWord lowWord nonNegative updated doubles clearDoubles wordAt putWord bytesOf bit pack count any all lowest array bounded andThen outcome thenTests runsOf runWord factorFits limitFits fadesIn limitsIn limitList setupOf setupBytes blankSetup moduleFits markFits whole headFits headOk limitOk moduleOk markOk moduleTest checkHead checkWords checkSetup setupRoomy roomVerdict setupVerdict skewed busWord receptionOf isHeard heardRow causeIn entryOf readingOf causesOf alignedOf decision tally voteOf healthOf differsAt accusationOf accusationsOf syndromeOf votersOf judgementOf outgoingOf charged rewarded awaited accounted accountedBy accountAt accountedAt countersOf rowFits ownNumberOk ownOk rowOk syndromeOk readingIn rowsRoomy scoreFits countersIn counterOk countersRoomy checkTail checkImage roomy stateVerdict fresh blank checkOpening openOf placeOf markOf ownSyndrome alignedFor judgementFor outgoingFor afterRound refusedStep acceptedStep readStep stepOf imageOf stateOf roomFor refusedCall wrote openCall stepCall saveCall nothing pendingOf countedDown pendingRoomy forgiven fitted settled adjusted adjustedAt adjustedOf turned counted booksAfter sameFrame mayFollow frameVerdict leftOk newModuleOk newTest pendingIn newWord newVerdict changeVerdict changeOf roomAfter changeCall
 new-limit-cases-right = (refl, (refl, refl))
