@@ -7,15 +7,15 @@ use mathlib.Core.List.{List, [], _∷_, _++_, append-nil, append-assoc}
 use Prim.Native.Nat.{ℕ, zero, suc, _+_, _-_, _*_, _<_, _≤_}
 use native.Mathlib.Omega.{arith}
 use lib.Dec.{eqb, leb}
-use lib.ListN.{getD, length, drop, length-drop}
+use lib.ListN.{getD, length, drop, replicate, getD-replicate, length-drop}
 use lib.Seq.{drop-drop}
 use borrow.Author.Tests.{eq-eqb, ne-eqb, le-leb}
 use Rattle.words.specs.Word.{wordAt, putWord, bytesOf}
 use Rattle.words.specs.Bits.{bit}
 use Rattle.words.specs.Array.{array, Filled}
 use Rattle.words.specs.Runs.{putRun, putRuns, runsOf}
-use Rattle.words.proofs.Truth.{cond-true, cond-false}
-use Rattle.words.proofs.ArrayLaws.{array-ext, array-filled}
+use Rattle.words.proofs.Truth.{cond-true, cond-false, cond-both}
+use Rattle.words.proofs.ArrayLaws.{array-ext, array-filled, array-own, clear-of}
 use Rattle.words.proofs.ByteLaws.{bytes-length, bytes-ext, bytes-join, word-of}
 use Rattle.words.proofs.RunLaws.{Follows, put-run, put-ext}
 use Rattle.setup.specs.Layout.{frontWords, setupWords, setupLength}
@@ -30,7 +30,7 @@ use Rattle.accounts.specs.Account.{counts}
 use Rattle.accounts.specs.Round.{accountAt}
 use Rattle.accounts.specs.declared.Account.{Account}
 use Rattle.accounts.specs.declared.Counters.{Counters}
-use Rattle.changes.specs.Pending.{renewed, countedDown}
+use Rattle.changes.specs.Pending.{nothing, renewed, countedDown}
 use Rattle.changes.specs.Adjust.{fitted, adjusted, adjustedAt, adjustedOf}
 use Rattle.changes.specs.Books.{turned}
 use Rattle.changes.specs.Lent.{adjustedIn}
@@ -110,6 +110,13 @@ pub lent-stays : {l : Limits} {m : ℕ} {k x y z : List ℕ} (b : Books) → (b 
 lent-stays {l} {m} {k} {x} {y} {z} b f h =
     subst (λ (t : Books). CountedBy t l m k x y z) (sym (turned-unchanged b f))
     (record { limits = h .limits; q = h .q; criticality = h .criticality; first = h .first; second = h .second; returns = h .returns })
+
+-- the new criticalities that are read
+pub read-filled : (s : List ℕ) (n at : ℕ) → n ≤ 16 → Filled n (pendingIn s n at .criticality)
+unfolding pendingIn nothing
+read-filled s n at few =
+    cond-both (λ (c : Pending). Filled n (c .criticality)) (eqb (wordAt s at) 0) _ _
+    (array-own n (replicate 16 0) few refl (clear-of n (replicate 16 0) (λ i h l. getD-replicate {A = ℕ} 16 i 0 0 l))) (array-filled n _ few)
 
 -- ---- the words of a change that takes effect, and of one that is still to come
 
