@@ -24,6 +24,7 @@ use Rattle.setup.specs.Setup.{headWord, limitIn, moduleWord, criticalityIn, siz
 use Rattle.setup.specs.declared.Setup.{Setup}
 use Rattle.setup.specs.declared.Limits.{Limits}
 use Rattle.setup.specs.declared.Limits.the-variants.{Counts}
+use Rattle.setup.proofs.BoundLaws.{front-most}
 use Rattle.setup.proofs.SetupWords.{stands}
 use Rattle.setup.proofs.FrontLaws.{setup-written}
 use Rattle.accounts.specs.Account.{counts}
@@ -51,7 +52,7 @@ use Rattle.presence.specs.declared.State.{State}
 use Rattle.presence.proofs.ValidLaws.{StateFits}
 use Rattle.presence.proofs.ImageState.{image-state}
 use Rattle.calls.specs.Held.{CountedBy}
-use Rattle.calls.proofs.ModuleCallLaws.{read-front, left-is}
+use Rattle.calls.proofs.ModuleCallLaws.{read-front, left-is, read-length}
 
 -- ---- an adjusted account goes by what is lent of it
 
@@ -221,6 +222,16 @@ module _ (s : List ℕ) (ok : checkImage s .number ≡ 0) where
 
   some-new : (st .pending .left ≡ 0 → ⊥) → newCount size (st .pending .left) ≡ size + 2
   some-new f = cond-false _ _ (ne-eqb (st .pending .left) 0 f)
+
+  -- sizes of an accepted image, and the room of its new words
+  pub sizes : {front n : ℕ} → n ≡ size → front ≡ start → (front ≤ 6) × (n ≤ 16)
+  sizes en ef = (omega (arith, ef, front-most (fades (st .setup .limits))), omega (arith, en, fits .setup .most))
+
+  pub setup-room : {front n : ℕ} → n ≡ size → front ≡ start → setupWords front n * 4 ≤ length s
+  setup-room en ef = omega (arith, read-length s ok, ef, en)
+
+  pub new-room : {front n left at : ℕ} → n ≡ size → front ≡ start → left ≡ st .pending .left → at ≡ leftAt front n → (left ≡ 0 → ⊥) → (at + 1 + (n + 2)) * 4 ≤ length s
+  new-room en ef el ea f = omega (arith, read-length s ok, some-new (λ z. f (el ∙ z)), ea, en, ef)
 
   -- a change that is pending is one of a setup that counts
   counting : 0 < st .pending .left → fades (st .setup .limits) ≡ false

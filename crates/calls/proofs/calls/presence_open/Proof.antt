@@ -14,6 +14,28 @@ use Rattle.calls.proofs.ImageOpenLaws.{fits, full-small, rows-small, ze
 use borrow.Author.Needs.{needs}
 use Rattle.calls.proofs.calls.presence_open.Statement.{statement}
 use Rattle.calls.proofs.calls.presence_open.Tie as tie
+use Rattle.calls.proofs.calls.presence_open.Reads as reads
+use Rattle.calls.proofs.calls.presence_open.Lts as lts
+use Rattle.calls.proofs.calls.refuse.Reads as refuse-reads
+use Rattle.image.proofs.image_length.Reads as image-length-reads
+use Rattle.image.proofs.left_at.Reads as left-at-reads
+use Rattle.image.proofs.save_accounts.Reads as save-accounts-reads
+use Rattle.image.proofs.save_sections.Reads as save-sections-reads
+use Rattle.setup.proofs.bounds.fades_at.Reads as fades-at-reads
+use Rattle.setup.proofs.bounds.front_words.Reads as front-words-reads
+use Rattle.setup.proofs.check.check.Reads as check-reads
+use Rattle.setup.proofs.check.size_at.Reads as size-at-reads
+use Rattle.setup.proofs.layout.setup_words.Reads as setup-words-reads
+use Rattle.words.proofs.array.filled.Reads as filled-reads
+use Rattle.words.proofs.bits.full_of.Reads as full-of-reads
+use Rattle.words.proofs.word.copy_words.Reads as copy-words-reads
+use Rattle.words.proofs.word.put_word.Reads as put-word-reads
+
+check-requires : tie.Need-check-requires
+check-requires c κs = search needs
+
+refuse-requires : tie.Need-refuse-requires
+refuse-requires c κs = search needs
 
 returns : tie.Need-returns
 returns c =
@@ -21,10 +43,18 @@ returns c =
     ap (λ (x : Answer). called x (a .out .now)) (c .refuse .ensures) ∙ open-bad-setup _ _ _ (c .before .before .before .check .ensures) (c .before .if1 .taken)
 
 size-at-requires : tie.Need-size-at-requires
-size-at-requires c κs = fits _ (ap (λ (x : Verdict). x .number) (sym (c .before .before .check .ensures)) ∙ (c .if1 .left)) .front .room
+size-at-requires c κs =
+    fits _ (ap (λ (x : Verdict). x .number) (sym (c .before .before .check .ensures)) ∙ (c .if1 .left)) .front .room
 
 fades-at-requires : tie.Need-fades-at-requires
-fades-at-requires c κs = fits _ (ap (λ (x : Verdict). x .number) (sym (c .before .before .before .check .ensures)) ∙ (c .before .if1 .left)) .front .whole
+fades-at-requires c κs =
+    fits _ (ap (λ (x : Verdict). x .number) (sym (c .before .before .before .check .ensures)) ∙ (c .before .if1 .left)) .front .whole
+
+front-words-requires : tie.Need-front-words-requires
+front-words-requires c κs = search needs
+
+refuse-requires-2 : tie.Need-refuse-requires-2
+refuse-requires-2 c κs = search needs
 
 returns-2 : tie.Need-returns-2
 returns-2 c =
@@ -34,77 +64,101 @@ returns-2 c =
 image-length-requires : tie.Need-image-length-requires
 image-length-requires c κs =
     let few = fits _ (ap (λ (x : Verdict). x .number) (sym (c .before .before .before .before .before .before .check .ensures)) ∙ (c .before .before .before .before .if1 .left)) .front .most in
-    ((c .before .front-words .ensures .2), omega (arith, (c .before .before .before .size-at .ensures)))
+    (c .before .front-words .ensures .2, omega (arith, c .before .before .before .size-at .ensures))
+
+refuse-requires-3 : tie.Need-refuse-requires-3
+refuse-requires-3 c κs = search needs
 
 returns-3 : tie.Need-returns-3
 returns-3 c =
     let a = c .before .before .before .before .before .before .before .before .before .before .before .before .args in
-    let l = (c .before .before .image-length .ensures) in
-    open-nine _ (ap (λ (x : Verdict). x .number) (sym (c .before .before .before .before .before .before .before .before .before .check .ensures)) ∙ (c .before .before .before .before .before .before .before .if1 .left)) (a .own) (a .out .now) (c .before .before .before .before .before .before .size-at .ensures) (c .before .before .before .if2 .left) (c .before .before .before .before .before .fades-at .ensures) (c .before .before .before .before .front-words .ensures .0) (rw l at (c .before .if3 .taken)) (c .refuse3 .ensures)
+    open-nine _ (ap (λ (x : Verdict). x .number) (sym (c .before .before .before .before .before .before .before .before .before .check .ensures)) ∙ (c .before .before .before .before .before .before .before .if1 .left)) (a .own) (a .out .now) (c .before .before .before .before .before .before .size-at .ensures) (c .before .before .before .if2 .left) (c .before .before .before .before .before .fades-at .ensures) (c .before .before .before .before .front-words .ensures .0) (rw (c .before .before .image-length .ensures) at (c .before .if3 .taken)) (c .refuse3 .ensures)
+
+full-of-requires : tie.Need-full-of-requires
+full-of-requires c κs = search needs
 
 filled-requires : tie.Need-filled-requires
 filled-requires c κs =
     let few = fits _ (ap (λ (x : Verdict). x .number) (sym (c .before .before .before .before .before .before .before .before .before .check .ensures)) ∙ (c .before .before .before .before .before .before .before .if1 .left)) .front .most in
-    omega (arith, (c .before .before .before .before .before .before .size-at .ensures))
+    omega (arith, c .before .before .before .before .before .before .size-at .ensures)
+
+setup-words-requires : tie.Need-setup-words-requires
+setup-words-requires c κs = search needs
 
 copy-words-requires : tie.Need-copy-words-requires
 copy-words-requires c κs =
     let b = fits _ (ap (λ (x : Verdict). x .number) (sym (c .before .before .before .before .before .before .before .before .before .before .before .before .check .ensures)) ∙ (c .before .before .before .before .before .before .before .before .before .before .if1 .left)) in
-    let n = (c .before .before .before .before .before .before .before .before .before .size-at .ensures) in
+    let n = c .before .before .before .before .before .before .before .before .before .size-at .ensures in
     let e = c .before .setup-words .ensures in
-    let l = (c .before .before .before .before .if3 .left) ∙ (c .before .before .before .before .before .image-length .ensures) in
-    let f = (c .before .before .before .before .before .before .before .front-words .ensures .0) ∙ ap frontWords (c .before .before .before .before .before .before .before .before .fades-at .ensures) in
+    let l = c .before .before .before .before .if3 .left ∙ c .before .before .before .before .before .image-length .ensures in
+    let f = c .before .before .before .before .before .before .before .front-words .ensures .0 ∙ ap frontWords (c .before .before .before .before .before .before .before .before .fades-at .ensures) in
     (omega (arith, b .size), omega arith)
 
 save-sections-requires : tie.Need-save-sections-requires
 save-sections-requires c κs =
     let b = fits _ (ap (λ (x : Verdict). x .number) (sym (c .before .before .before .before .before .before .before .before .before .before .before .before .before .before .before .before .before .check .ensures)) ∙ (c .before .before .before .before .before .before .before .before .before .before .before .before .before .before .before .if1 .left)) in
-    let few : c .before .before .before .before .before .before .before .before .before .before .before .before .before .before .size-at .result ≤ 16 = omega (arith, b .front .most, (c .before .before .before .before .before .before .before .before .before .before .before .before .before .before .size-at .ensures)) in
+    let few : c .before .before .before .before .before .before .before .before .before .before .before .before .before .before .size-at .result ≤ 16 = omega (arith, b .front .most, c .before .before .before .before .before .before .before .before .before .before .before .before .before .before .size-at .ensures) in
     let inside = is-between 1 (c .before .before .before .before .before .before .before .before .before .before .before .before .before .before .size-at .result) (c .before .before .before .before .before .before .before .before .before .before .before .before .before .before .before .before .before .before .before .before .args .own) (c .before .before .before .before .before .before .before .before .before .before .before .if2 .left) in
     let v = c .before .before .before .before .before .before .before .before .full-of .ensures in
     let small = full-small _ few v in
-    let l = (c .before .before .before .before .before .before .before .before .before .if3 .left) ∙ (c .before .before .before .before .before .before .before .before .before .before .image-length .ensures) ∙ ap (λ (x : ℕ). imageLength x (c .before .before .before .before .before .before .before .before .before .before .before .before .before .before .size-at .result)) (c .before .before .before .before .before .before .before .before .before .before .before .before .front-words .ensures .0) in
-    ((few, c .before .before .before .before .copy-words .kept .1 .1 .0 ∙ l, omega (arith, inside .1), small, small, small), rows-small _ few v (c .before .before .before .before .before .before .before .filled .ensures))
+    let l = c .before .before .before .before .copy-words .kept .1 .1 .0 ∙ (c .before .before .before .before .before .before .before .before .before .if3 .left) ∙ (c .before .before .before .before .before .before .before .before .before .before .image-length .ensures) ∙ ap (λ (x : ℕ). imageLength x (c .before .before .before .before .before .before .before .before .before .before .before .before .before .before .size-at .result) 0) (c .before .before .before .before .before .before .before .before .before .before .before .before .front-words .ensures .0) in
+    ((few, omega (arith, l), omega (arith, inside .1), small, small, small), rows-small _ few v (c .before .before .before .before .before .before .before .filled .ensures))
 
 save-accounts-requires : tie.Need-save-accounts-requires
 save-accounts-requires c κs =
     let b = fits _ (ap (λ (x : Verdict). x .number) (sym (c .before .before .before .before .before .before .before .before .before .before .before .before .before .before .before .before .before .before .before .before .before .before .before .before .check .ensures)) ∙ (c .before .before .before .before .before .before .before .before .before .before .before .before .before .before .before .before .before .before .before .before .before .before .if1 .left)) in
-    let few : c .before .before .before .before .before .before .before .before .before .before .before .before .before .before .before .before .before .before .before .before .before .size-at .result ≤ 16 = omega (arith, b .front .most, (c .before .before .before .before .before .before .before .before .before .before .before .before .before .before .before .before .before .before .before .before .before .size-at .ensures)) in
-    let l = (c .before .before .before .before .before .before .before .before .before .before .before .before .before .before .before .before .if3 .left) ∙ (c .before .before .before .before .before .before .before .before .before .before .before .before .before .before .before .before .before .image-length .ensures) ∙ ap (λ (x : ℕ). imageLength x (c .before .before .before .before .before .before .before .before .before .before .before .before .before .before .before .before .before .before .before .before .before .size-at .result)) (c .before .before .before .before .before .before .before .before .before .before .before .before .before .before .before .before .before .before .before .front-words .ensures .0) in
-    (few, c .before .before .before .before .before .before .save-sections .kept .1 .1 .1 .1 .1 .1 .1 .1 .0 ∙ c .before .before .before .before .before .before .before .before .before .before .before .copy-words .kept .1 .1 .0 ∙ l, zeros-small (c .before .before .before .before .before .before .before .before .before .before .before .before .before .before .before .before .before .before .before .before .fades-at .result) _ few)
+    let few : c .before .before .before .before .before .before .before .before .before .before .before .before .before .before .before .before .before .before .before .before .before .size-at .result ≤ 16 = omega (arith, b .front .most, c .before .before .before .before .before .before .before .before .before .before .before .before .before .before .before .before .before .before .before .before .before .size-at .ensures) in
+    let l = c .before .before .before .before .before .before .save-sections .kept .1 .1 .1 .1 .1 .1 .1 .1 .0 ∙ c .before .before .before .before .before .before .before .before .before .before .before .copy-words .kept .1 .1 .0 ∙ (c .before .before .before .before .before .before .before .before .before .before .before .before .before .before .before .before .if3 .left) ∙ (c .before .before .before .before .before .before .before .before .before .before .before .before .before .before .before .before .before .image-length .ensures) ∙ ap (λ (x : ℕ). imageLength x (c .before .before .before .before .before .before .before .before .before .before .before .before .before .before .before .before .before .before .before .before .before .size-at .result) 0) (c .before .before .before .before .before .before .before .before .before .before .before .before .before .before .before .before .before .before .before .front-words .ensures .0) in
+    (few, omega (arith, l), zeros-small (c .before .before .before .before .before .before .before .before .before .before .before .before .before .before .before .before .before .before .before .before .fades-at .result) _ few)
+
+left-at-requires : tie.Need-left-at-requires
+left-at-requires c κs =
+    let few = fits _ (ap (λ (x : Verdict). x .number) (sym (c .before .before .before .before .before .before .before .before .before .before .before .before .before .before .before .before .before .before .before .before .before .before .before .before .before .before .before .before .check .ensures)) ∙ (c .before .before .before .before .before .before .before .before .before .before .before .before .before .before .before .before .before .before .before .before .before .before .before .before .before .before .if1 .left)) .front .most in
+    (c .before .before .before .before .before .before .before .before .before .before .before .before .before .before .before .before .before .before .before .before .before .before .before .front-words .ensures .2, omega (arith, c .before .before .before .before .before .before .before .before .before .before .before .before .before .before .before .before .before .before .before .before .before .before .before .before .before .size-at .ensures))
+
+put-word-requires : tie.Need-put-word-requires
+put-word-requires c κs = search needs
+
+refuse-requires-4 : tie.Need-refuse-requires-4
+refuse-requires-4 c κs = search needs
+
+same-length : tie.Need-same-length
+same-length c = search needs
 
 returns-4 : tie.Need-returns-4
 returns-4 c =
-    let s = c .before .before .before .before .before .before .before .before .before .before .before .before .before .before .before .before .before .before .before .before .before .before .before .before .before .before .before .before .before .before .before in
-    let l = (c .before .before .before .before .before .before .before .before .before .before .before .before .before .before .before .before .before .before .before .before .if3 .left) ∙ (c .before .before .before .before .before .before .before .before .before .before .before .before .before .before .before .before .before .before .before .before .before .image-length .ensures) in
-    let v = c .before .before .before .before .before .before .before .before .before .before .before .before .before .before .before .before .before .before .before .full-of .result in
-    let both = accounts-written (c .before .before .before .before .before .before .before .before .before .before .before .before .before .before .before .before .before .before .before .before .before .before .before .before .fades-at .result) (c .before .before .before .before .before .before .before .before .before .before .before .before .before .before .before .before .before .before .before .before .before .before .before .before .before .size-at .result) (s .args .own) v
-    (record { heard = v; rows = c .before .before .before .before .before .before .before .before .before .before .before .before .before .before .before .before .before .before .filled .result }) v v _ _ _ _ (c .before .before .before .before .before .before .before .before .before .before .save-sections .ensures) (c .before .before .before .save-accounts .ensures)
+    let s = c .before .before .before .before .before .before .before .before .before .before .before .before .before .before .before .before .before .before .before .before .before .before .before .before .before .before .before .before .before .before .before .before .before .before .before .before in
+    let l = c .before .before .before .before .before .before .before .before .before .before .before .before .before .before .before .before .before .before .before .before .before .before .before .before .before .if3 .left ∙ c .before .before .before .before .before .before .before .before .before .before .before .before .before .before .before .before .before .before .before .before .before .before .before .before .before .before .image-length .ensures in
+    let v = c .before .before .before .before .before .before .before .before .before .before .before .before .before .before .before .before .before .before .before .before .before .before .before .before .full-of .result in
+    let both = accounts-written (c .before .before .before .before .before .before .before .before .before .before .before .before .before .before .before .before .before .before .before .before .before .before .before .before .before .before .before .before .before .fades-at .result) (c .before .before .before .before .before .before .before .before .before .before .before .before .before .before .before .before .before .before .before .before .before .before .before .before .before .before .before .before .before .before .size-at .result) (s .args .own) v
+    (record { heard = v; rows = c .before .before .before .before .before .before .before .before .before .before .before .before .before .before .before .before .before .before .before .before .before .before .before .filled .result }) v v _ _ _ _ (c .before .before .before .before .before .before .before .before .before .before .before .before .before .before .before .save-sections .ensures) (c .before .before .before .before .before .before .before .before .save-accounts .ensures)
     in
-    open-made _ (ap (λ (x : Verdict). x .number) (sym (c .before .before .before .before .before .before .before .before .before .before .before .before .before .before .before .before .before .before .before .before .before .before .before .before .before .before .before .before .check .ensures)) ∙ (c .before .before .before .before .before .before .before .before .before .before .before .before .before .before .before .before .before .before .before .before .before .before .before .before .before .before .if1 .left)) (s .args .own) (s .args .out .now) (c .before .before .before .before .before .before .before .before .before .before .before .before .before .before .before .before .before .before .before .before .before .before .before .before .before .size-at .ensures) (c .before .before .before .before .before .before .before .before .before .before .before .before .before .before .before .before .before .before .before .before .before .before .if2 .left) (c .before .before .before .before .before .before .before .before .before .before .before .before .before .before .before .before .before .before .before .before .before .before .before .before .fades-at .ensures) (c .before .before .before .before .before .before .before .before .before .before .before .before .before .before .before .before .before .before .before .before .before .before .before .front-words .ensures .0)
-    (λ i. omega (arith, c .before .before .before .before .before .before .before .before .before .before .before .before .before .before .before .before .before .before .before .before .before .before .before .before .before .before .before .before .before .before .shared-slice-known .given i)) l (c .before .before .before .before .before .before .before .before .before .before .before .before .before .before .before .before .before .before .before .full-of .ensures) (c .before .before .before .before .before .before .before .before .before .before .before .before .before .before .before .before .before .before .filled .ensures) (c .before .before .before .before .before .before .before .before .before .before .before .before .before .before .before .before .before .setup-words .ensures) (c .before .before .before .before .before .before .before .before .before .before .before .before .before .before .before .copy-words .ensures) both (c .refuse4 .ensures)
+    open-made _ (ap (λ (x : Verdict). x .number) (sym (c .before .before .before .before .before .before .before .before .before .before .before .before .before .before .before .before .before .before .before .before .before .before .before .before .before .before .before .before .before .before .before .before .before .check .ensures)) ∙ (c .before .before .before .before .before .before .before .before .before .before .before .before .before .before .before .before .before .before .before .before .before .before .before .before .before .before .before .before .before .before .before .if1 .left)) (s .args .own) (s .args .out .now) (c .before .before .before .before .before .before .before .before .before .before .before .before .before .before .before .before .before .before .before .before .before .before .before .before .before .before .before .before .before .before .size-at .ensures) (c .before .before .before .before .before .before .before .before .before .before .before .before .before .before .before .before .before .before .before .before .before .before .before .before .before .before .before .if2 .left) (c .before .before .before .before .before .before .before .before .before .before .before .before .before .before .before .before .before .before .before .before .before .before .before .before .before .before .before .before .before .fades-at .ensures) (c .before .before .before .before .before .before .before .before .before .before .before .before .before .before .before .before .before .before .before .before .before .before .before .before .before .before .before .before .front-words .ensures .0)
+    (λ i. omega (arith, c .before .before .before .before .before .before .before .before .before .before .before .before .before .before .before .before .before .before .before .before .before .before .before .before .before .before .before .before .before .before .before .before .before .before .before .shared-slice-known .given i)) l (c .before .before .before .before .before .before .before .before .before .before .before .before .before .before .before .before .before .before .before .before .before .before .before .before .full-of .ensures) (c .before .before .before .before .before .before .before .before .before .before .before .before .before .before .before .before .before .before .before .before .before .before .before .filled .ensures) (c .before .before .before .before .before .before .before .before .before .before .before .before .before .before .before .before .before .before .before .before .before .before .setup-words .ensures) (c .before .before .before .before .before .before .before .before .before .before .before .before .before .before .before .before .before .before .before .before .copy-words .ensures) both (c .before .before .before .before .left-at .ensures) (c .before .before .before .put-word .ensures) (c .refuse4 .ensures)
 
 pub presence-open-spec : {M : Type 1} → statement M
 presence-open-spec =
     tie.close
     (tie.spec
-    (λ c κs. search needs)
-    (λ c κs. search needs)
+    check-requires
+    refuse-requires
     returns
     size-at-requires
     fades-at-requires
-    (λ c κs. search needs)
-    (λ c κs. search needs)
+    front-words-requires
+    refuse-requires-2
     returns-2
     image-length-requires
-    (λ c κs. search needs)
+    refuse-requires-3
     returns-3
-    (λ c κs. search needs)
+    full-of-requires
     filled-requires
-    (λ c κs. search needs)
+    setup-words-requires
     copy-words-requires
     save-sections-requires
     save-accounts-requires
-    (λ c κs. search needs)
-    (λ c. search needs)
+    left-at-requires
+    put-word-requires
+    refuse-requires-4
+    same-length
     returns-4)
