@@ -166,6 +166,10 @@ less-put s c o at left f =
     ∙ ap₂ (λ (i m : ℕ). putRun (putWord o i left) (at + 1) m (newWord s (record { left = left; p = c .p; r = c .r; criticality = c .criticality }))) e
     (sym (cond-false _ _ (ne-eqb left 0 f)))
 
+-- as many new words as before, while a change is pending still
+pub still-new : (n left : ℕ) → 2 ≤ left → newCount n (left - 1) ≡ n + 2
+still-new n left h = cond-false _ _ (ne-eqb (left - 1) 0 (λ z. omega arith))
+
 -- where nothing is left, one word is written
 none-put : (s : Setup) (c : Pending) (o : List ℕ) (at : ℕ) → c .left ≡ 0 → putRuns o at (changeRuns s c) ≡ putWord o at 0
 unfolding putRuns putRun
@@ -237,6 +241,9 @@ module _ (s : List ℕ) (ok : checkImage s .number ≡ 0) where
   counting : 0 < st .pending .left → fades (st .setup .limits) ≡ false
   counting pos = fits .pending .counting pos
 
+  pub three-front : {front left : ℕ} → front ≡ start → left ≡ st .pending .left → left ≡ 1 → front ≡ 3
+  three-front ef el due = ef ∙ ap frontWords (counting (omega (arith, el)))
+
   -- the change that is pending, by its words
   by-words : ℕ → Pending
   by-words at = record {
@@ -299,7 +306,7 @@ module _ (s : List ℕ) (ok : checkImage s .number ≡ 0) where
           → o₂ ≡ putRun o₁ 1 (n + 2) (λ j. wordAt s (at + 1 + j)) → o₂ ≡ setupBytes (turned books .setup) ++ drop (setupLength front n) o
       new-copied {at} due room ea e₁ e₂ =
           let pos : 0 < st .pending .left = omega (arith, el) in
-          let three : front ≡ 3 = ef ∙ ap frontWords (counting pos) in
+          let three : front ≡ 3 = three-front ef el due in
           let long : (n + 2 + 1) * 4 ≡ setupLength front n = omega (arith, three) in
           let place : at ≡ leftAt start size = ea ∙ ap₂ leftAt ef en in
           let words : bytesOf (n + 2) (λ j. wordAt s (at + 1 + j)) ≡ bytesOf (size + 2) (newWord (st .setup) (st .pending)) =

@@ -80,7 +80,7 @@ pub after-long : {b : Bool} {n front left rest long : ℕ} (s : List ℕ) → b 
     → rest ≡ left - 1 → long ≡ imageLength front n rest → long ≡ stateLength (stateOf s) (stateOf s .pending .left - 1)
 unfolding stateOf
 after-long s eb en ef el er e =
-    e ∙ (λ i. imageLength ((ef ∙ ap frontWords eb) i) (en i) ((er ∙ ap (λ (x : ℕ). x - 1) el) i)) ∙ read-sized s _
+    e ∙ (λ i. imageLength ((ef ∙ ap frontWords eb) i) (en i) ((er ∙ ap (λ (x : ℕ). x - 1) el) i)) ∙ read-sized s (stateOf s .pending .left - 1)
 
 -- ---- the word to put on the bus
 

@@ -15,11 +15,6 @@ use Rattle.image.proofs.ImageAnswers.{size-refused, size-fits, size-return}
 use Rattle.calls.proofs.ModuleCallLaws.{words-wrong, words-right, read-form, after-long, state-size, step-bad}
 use Rattle.calls.proofs.ImageStepLaws.{part-held, filled-counted, both-lengths, step-nine, step-ten, step-made}
 
--- the length, by the form of the setup
-by-form : {b : Bool} (s : List ℕ) (n : ℕ) → b ≡ fadesIn (wordAt s) → length s ≡ imageLength (frontIn (wordAt s)) n (wordAt s (leftAt (frontIn (wordAt s)) n))
-    → length s ≡ imageLength (frontWords b) n (wordAt s (leftAt (frontWords b) n))
-by-form s n e l = l ∙ ap (λ (x : Bool). imageLength (frontWords x) n (wordAt s (leftAt (frontWords x) n))) (sym e)
-
 use borrow.Author.Needs.{needs}
 use Rattle.calls.proofs.calls.presence_step.Statement.{statement}
 use Rattle.calls.proofs.calls.presence_step.Tie as tie
@@ -36,6 +31,11 @@ use Rattle.image.proofs.load_image.Reads as load-image-reads
 use Rattle.setup.proofs.bounds.fades_at.Reads as fades-at-reads
 use Rattle.setup.proofs.bounds.front_words.Reads as front-words-reads
 use Rattle.words.proofs.bits.power.Reads as power-reads
+
+-- the length, by the form of the setup
+by-form : {b : Bool} (s : List ℕ) (n : ℕ) → b ≡ fadesIn (wordAt s) → length s ≡ imageLength (frontIn (wordAt s)) n (wordAt s (leftAt (frontIn (wordAt s)) n))
+    → length s ≡ imageLength (frontWords b) n (wordAt s (leftAt (frontWords b) n))
+by-form s n e l = l ∙ ap (λ (x : Bool). imageLength (frontWords x) n (wordAt s (leftAt (frontWords x) n))) (sym e)
 
 image-size-requires : tie.Need-image-size-requires
 image-size-requires c κs = search needs
