@@ -1,9 +1,8 @@
 -- A change that is due, from image to image: what is lent then holds the books that rule 8 counts with, and the words that are copied are those of the
 -- setup and of the pending change after the round.
 use mathlib.Core.Path.{_≡_, refl, ap, ap₂, _∙_, sym, subst}
-use mathlib.Core.Bool.{Bool, true, false, cond, _&&_}
-use mathlib.Core.Logic.{⊎-elim}
-use mathlib.Core.List.{List, [], _∷_, _++_, append-nil, append-assoc}
+use mathlib.Core.Bool.{Bool, false, cond, _&&_}
+use mathlib.Core.List.{List, [], _++_, append-nil, append-assoc}
 use Prim.Native.Nat.{ℕ, zero, suc, _+_, _-_, _*_, _<_, _≤_}
 use native.Mathlib.Omega.{arith}
 use lib.Dec.{eqb, leb}
@@ -20,7 +19,7 @@ use Rattle.words.proofs.ByteLaws.{bytes-length, bytes-ext, bytes-join, word-of}
 use Rattle.words.proofs.RunLaws.{Follows, put-run, put-ext}
 use Rattle.setup.specs.Layout.{frontWords, setupWords, setupLength}
 use Rattle.setup.specs.Limits.{fades}
-use Rattle.setup.specs.Setup.{headWord, limitIn, moduleWord, criticalityIn, sizeIn, fadesIn, frontIn, frontOf, limitList, setupOf, setupBytes}
+use Rattle.setup.specs.Setup.{headWord, limitIn, moduleWord, criticalityIn, sizeIn, frontIn, frontOf, limitList, setupOf, setupBytes}
 use Rattle.setup.specs.declared.Setup.{Setup}
 use Rattle.setup.specs.declared.Limits.{Limits}
 use Rattle.setup.specs.declared.Limits.the-variants.{Counts}
@@ -30,7 +29,6 @@ use Rattle.setup.proofs.FrontLaws.{setup-written}
 use Rattle.accounts.specs.Account.{counts}
 use Rattle.accounts.specs.Round.{accountAt}
 use Rattle.accounts.specs.declared.Account.{Account}
-use Rattle.accounts.specs.declared.Counters.{Counters}
 use Rattle.changes.specs.Pending.{nothing, renewed, countedDown}
 use Rattle.changes.specs.Adjust.{fitted, adjusted, adjustedAt, adjustedOf}
 use Rattle.changes.specs.Books.{turned}
@@ -41,7 +39,7 @@ use Rattle.changes.specs.declared.Books.{Books}
 use Rattle.changes.proofs.AdjustLaws.{adjusted-by}
 use Rattle.changes.proofs.NewWords.{first-word, second-word, later-word}
 use Rattle.changes.proofs.SectionLaws.{change-same}
-use Rattle.changes.proofs.TurnLaws.{changed, unchanged, turned-changed, turned-unchanged, turned-left}
+use Rattle.changes.proofs.TurnLaws.{turned-changed, turned-unchanged, turned-left}
 use Rattle.image.specs.Layout.{leftAt}
 use Rattle.image.specs.Check.{leftIn, checkImage}
 use Rattle.image.specs.Part.{firstOf, secondOf}

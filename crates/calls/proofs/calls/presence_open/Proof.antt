@@ -14,28 +14,6 @@ use Rattle.calls.proofs.ImageOpenLaws.{fits, full-small, rows-small, ze
 use borrow.Author.Needs.{needs}
 use Rattle.calls.proofs.calls.presence_open.Statement.{statement}
 use Rattle.calls.proofs.calls.presence_open.Tie as tie
-use Rattle.calls.proofs.calls.presence_open.Reads as reads
-use Rattle.calls.proofs.calls.presence_open.Lts as lts
-use Rattle.calls.proofs.calls.refuse.Reads as refuse-reads
-use Rattle.image.proofs.image_length.Reads as image-length-reads
-use Rattle.image.proofs.left_at.Reads as left-at-reads
-use Rattle.image.proofs.save_accounts.Reads as save-accounts-reads
-use Rattle.image.proofs.save_sections.Reads as save-sections-reads
-use Rattle.setup.proofs.bounds.fades_at.Reads as fades-at-reads
-use Rattle.setup.proofs.bounds.front_words.Reads as front-words-reads
-use Rattle.setup.proofs.check.check.Reads as check-reads
-use Rattle.setup.proofs.check.size_at.Reads as size-at-reads
-use Rattle.setup.proofs.layout.setup_words.Reads as setup-words-reads
-use Rattle.words.proofs.array.filled.Reads as filled-reads
-use Rattle.words.proofs.bits.full_of.Reads as full-of-reads
-use Rattle.words.proofs.word.copy_words.Reads as copy-words-reads
-use Rattle.words.proofs.word.put_word.Reads as put-word-reads
-
-check-requires : tie.Need-check-requires
-check-requires c κs = search needs
-
-refuse-requires : tie.Need-refuse-requires
-refuse-requires c κs = search needs
 
 returns : tie.Need-returns
 returns c =
@@ -50,12 +28,6 @@ fades-at-requires : tie.Need-fades-at-requires
 fades-at-requires c κs =
     fits _ (ap (λ (x : Verdict). x .number) (sym (c .before .before .before .check .ensures)) ∙ (c .before .if1 .left)) .front .whole
 
-front-words-requires : tie.Need-front-words-requires
-front-words-requires c κs = search needs
-
-refuse-requires-2 : tie.Need-refuse-requires-2
-refuse-requires-2 c κs = search needs
-
 returns-2 : tie.Need-returns-2
 returns-2 c =
     let a = c .before .before .before .before .before .before .before .before .before .before .args in
@@ -66,24 +38,15 @@ image-length-requires c κs =
     let few = fits _ (ap (λ (x : Verdict). x .number) (sym (c .before .before .before .before .before .before .check .ensures)) ∙ (c .before .before .before .before .if1 .left)) .front .most in
     (c .before .front-words .ensures .2, omega (arith, c .before .before .before .size-at .ensures))
 
-refuse-requires-3 : tie.Need-refuse-requires-3
-refuse-requires-3 c κs = search needs
-
 returns-3 : tie.Need-returns-3
 returns-3 c =
     let a = c .before .before .before .before .before .before .before .before .before .before .before .before .args in
     open-nine _ (ap (λ (x : Verdict). x .number) (sym (c .before .before .before .before .before .before .before .before .before .check .ensures)) ∙ (c .before .before .before .before .before .before .before .if1 .left)) (a .own) (a .out .now) (c .before .before .before .before .before .before .size-at .ensures) (c .before .before .before .if2 .left) (c .before .before .before .before .before .fades-at .ensures) (c .before .before .before .before .front-words .ensures .0) (rw (c .before .before .image-length .ensures) at (c .before .if3 .taken)) (c .refuse3 .ensures)
 
-full-of-requires : tie.Need-full-of-requires
-full-of-requires c κs = search needs
-
 filled-requires : tie.Need-filled-requires
 filled-requires c κs =
     let few = fits _ (ap (λ (x : Verdict). x .number) (sym (c .before .before .before .before .before .before .before .before .before .check .ensures)) ∙ (c .before .before .before .before .before .before .before .if1 .left)) .front .most in
     omega (arith, c .before .before .before .before .before .before .size-at .ensures)
-
-setup-words-requires : tie.Need-setup-words-requires
-setup-words-requires c κs = search needs
 
 copy-words-requires : tie.Need-copy-words-requires
 copy-words-requires c κs =
@@ -116,15 +79,6 @@ left-at-requires c κs =
     let few = fits _ (ap (λ (x : Verdict). x .number) (sym (c .before .before .before .before .before .before .before .before .before .before .before .before .before .before .before .before .before .before .before .before .before .before .before .before .before .before .before .before .check .ensures)) ∙ (c .before .before .before .before .before .before .before .before .before .before .before .before .before .before .before .before .before .before .before .before .before .before .before .before .before .before .if1 .left)) .front .most in
     (c .before .before .before .before .before .before .before .before .before .before .before .before .before .before .before .before .before .before .before .before .before .before .before .front-words .ensures .2, omega (arith, c .before .before .before .before .before .before .before .before .before .before .before .before .before .before .before .before .before .before .before .before .before .before .before .before .before .size-at .ensures))
 
-put-word-requires : tie.Need-put-word-requires
-put-word-requires c κs = search needs
-
-refuse-requires-4 : tie.Need-refuse-requires-4
-refuse-requires-4 c κs = search needs
-
-same-length : tie.Need-same-length
-same-length c = search needs
-
 returns-4 : tie.Need-returns-4
 returns-4 c =
     let s = c .before .before .before .before .before .before .before .before .before .before .before .before .before .before .before .before .before .before .before .before .before .before .before .before .before .before .before .before .before .before .before .before .before .before .before .before in
@@ -140,25 +94,25 @@ pub presence-open-spec : {M : Type 1} → statement M
 presence-open-spec =
     tie.close
     (tie.spec
-    check-requires
-    refuse-requires
+    (λ c κs. search needs)
+    (λ c κs. search needs)
     returns
     size-at-requires
     fades-at-requires
-    front-words-requires
-    refuse-requires-2
+    (λ c κs. search needs)
+    (λ c κs. search needs)
     returns-2
     image-length-requires
-    refuse-requires-3
+    (λ c κs. search needs)
     returns-3
-    full-of-requires
+    (λ c κs. search needs)
     filled-requires
-    setup-words-requires
+    (λ c κs. search needs)
     copy-words-requires
     save-sections-requires
     save-accounts-requires
     left-at-requires
-    put-word-requires
-    refuse-requires-4
-    same-length
+    (λ c κs. search needs)
+    (λ c κs. search needs)
+    (λ c. search needs)
     returns-4)

@@ -14,34 +14,14 @@ use Rattle.image.specs.Layout.{leftAt, imageLength}
 use Rattle.image.proofs.ImageAnswers.{size-refused, size-fits, size-return}
 use Rattle.calls.proofs.ModuleCallLaws.{words-wrong, words-right, read-form, after-long, state-size, step-bad}
 use Rattle.calls.proofs.ImageStepLaws.{part-held, filled-counted, both-lengths, step-nine, step-ten, step-made}
-
 use borrow.Author.Needs.{needs}
 use Rattle.calls.proofs.calls.presence_step.Statement.{statement}
 use Rattle.calls.proofs.calls.presence_step.Tie as tie
-use Rattle.calls.proofs.calls.presence_step.Reads as reads
-use Rattle.calls.proofs.calls.presence_step.Lts as lts
-use Rattle.calls.proofs.calls.refuse.Reads as refuse-reads
-use Rattle.calls.proofs.calls.refuse_image.Reads as refuse-image-reads
-use Rattle.calls.proofs.step.left_after.Reads as left-after-reads
-use Rattle.calls.proofs.step.played.Reads as played-reads
-use Rattle.calls.proofs.step.turned.Reads as turned-reads
-use Rattle.image.proofs.check.image_size.Reads as image-size-reads
-use Rattle.image.proofs.image_length.Reads as image-length-reads
-use Rattle.image.proofs.load_image.Reads as load-image-reads
-use Rattle.setup.proofs.bounds.fades_at.Reads as fades-at-reads
-use Rattle.setup.proofs.bounds.front_words.Reads as front-words-reads
-use Rattle.words.proofs.bits.power.Reads as power-reads
 
 -- the length, by the form of the setup
 by-form : {b : Bool} (s : List ℕ) (n : ℕ) → b ≡ fadesIn (wordAt s) → length s ≡ imageLength (frontIn (wordAt s)) n (wordAt s (leftAt (frontIn (wordAt s)) n))
     → length s ≡ imageLength (frontWords b) n (wordAt s (leftAt (frontWords b) n))
 by-form s n e l = l ∙ ap (λ (x : Bool). imageLength (frontWords x) n (wordAt s (leftAt (frontWords x) n))) (sym e)
-
-image-size-requires : tie.Need-image-size-requires
-image-size-requires c κs = search needs
-
-refuse-image-requires : tie.Need-refuse-image-requires
-refuse-image-requires c κs = search needs
 
 returns : tie.Need-returns
 returns c =
@@ -60,20 +40,11 @@ load-image-requires c κs =
       (array-none _, array-none _, array-none _, array-none _, array-none _),
     )
 
-refuse-image-requires-2 : tie.Need-refuse-image-requires-2
-refuse-image-requires-2 c κs = search needs
-
 returns-2 : tie.Need-returns-2
 returns-2 c =
     let a = c .before .before .before .before .before .before .before .before .before .before .before .before .before .before .before .args in
     step-bad _ _ _ (a .out .now) (c .refuse-image2 .ensures)
     (words-wrong _ (c .before .before .before .before .before .before .before .before .before .before .before .image-size .ensures) (c .before .before .before .before .before .before .before .before .before .before .if1 .left) (c .before .before .before .load-image .ensures .0) (c .before .if2 .taken))
-
-front-words-requires : tie.Need-front-words-requires
-front-words-requires c κs = search needs
-
-left-after-requires : tie.Need-left-after-requires
-left-after-requires c κs = search needs
 
 image-length-requires : tie.Need-image-length-requires
 image-length-requires c κs =
@@ -83,9 +54,6 @@ mul-if3 : tie.Need-mul-if3
 mul-if3 c =
     let m = size-fits _ (c .before .before .before .before .before .before .before .before .before .before .before .before .before .image-size .ensures) (c .before .before .before .before .before .before .before .before .before .before .before .before .if1 .left) .0 in
     search needs
-
-refuse-requires : tie.Need-refuse-requires
-refuse-requires c κs = search needs
 
 returns-3 : tie.Need-returns-3
 returns-3 c =
@@ -104,9 +72,6 @@ returns-3 c =
 power-requires : tie.Need-power-requires
 power-requires c κs =
     omega (arith, size-fits _ (c .before .before .before .before .before .before .before .before .before .before .before .before .before .before .image-size .ensures) (c .before .before .before .before .before .before .before .before .before .before .before .before .before .if1 .left) .0)
-
-refuse-requires-2 : tie.Need-refuse-requires-2
-refuse-requires-2 c κs = search needs
 
 returns-4 : tie.Need-returns-4
 returns-4 c =
@@ -157,9 +122,6 @@ played-requires c κs =
       ),
     )
 
-same-length : tie.Need-same-length
-same-length c = search needs
-
 returns-5 : tie.Need-returns-5
 returns-5 c =
     let a = c .before .before .before .before .before .before .before .before .before .before .before .before .before .before .before .before .before .before .before .before .before .before .before .before .before .before .before .before .before .before .before .before .before .args in
@@ -181,23 +143,23 @@ pub presence-step-spec : {M : Type 1} → statement M
 presence-step-spec =
     tie.close
     (tie.spec
-    image-size-requires
-    refuse-image-requires
+    (λ c κs. search needs)
+    (λ c κs. search needs)
     returns
     fades-at-requires
     load-image-requires
-    refuse-image-requires-2
+    (λ c κs. search needs)
     returns-2
-    front-words-requires
-    left-after-requires
+    (λ c κs. search needs)
+    (λ c κs. search needs)
     image-length-requires
     mul-if3
-    refuse-requires
+    (λ c κs. search needs)
     returns-3
     power-requires
-    refuse-requires-2
+    (λ c κs. search needs)
     returns-4
     turned-requires
     played-requires
-    same-length
+    (λ c. search needs)
     returns-5)

@@ -14,20 +14,6 @@ use Rattle.calls.proofs.ImageStepLaws.{fits, place-is, own-place, small
 use borrow.Author.Needs.{needs}
 use Rattle.calls.proofs.step.played.Statement.{statement}
 use Rattle.calls.proofs.step.played.Tie as tie
-use Rattle.calls.proofs.step.played.Reads as reads
-use Rattle.calls.proofs.step.played.Lts as lts
-use Rattle.calls.proofs.step.kept.Reads as kept-reads
-use Rattle.calls.proofs.step.save_pending.Reads as save-pending-reads
-use Rattle.calls.proofs.step.save_setup.Reads as save-setup-reads
-use Rattle.image.proofs.place_in.Reads as place-in-reads
-use Rattle.image.proofs.save_accounts.Reads as save-accounts-reads
-use Rattle.image.proofs.save_sections.Reads as save-sections-reads
-use Rattle.rules.proofs.judge.judged_read.Reads as judged-read-reads
-use Rattle.setup.proofs.bounds.front_words.Reads as front-words-reads
-use Rattle.words.proofs.bits.pick.Reads as pick-reads
-
-front-words-requires : tie.Need-front-words-requires
-front-words-requires c κs = search needs
 
 sub-place-in : tie.Need-sub-place-in
 sub-place-in c =
@@ -38,9 +24,6 @@ place-in-requires : tie.Need-place-in-requires
 place-in-requires c κs =
     let a = c .before .before .before .before .before .pre .0 in
     own-place _ (a .0) (a .3) (a .1) (a .2) (c .before .front-words .ensures .0)
-
-pick-requires : tie.Need-pick-requires
-pick-requires c κs = search needs
 
 judged-read-requires : tie.Need-judged-read-requires
 judged-read-requires c κs =
@@ -102,9 +85,6 @@ save-pending-requires c κs =
     let l = c .before .before .before .save-accounts .kept .1 .1 .1 .1 .1 .0 ∙ c .before .before .before .before .before .before .before .before .before .before .save-sections .kept .1 .1 .1 .1 .1 .1 .1 .1 .0 ∙ c .before .before .before .before .before .before .before .before .before .before .before .before .before .before .before .save-setup .kept .1 .1 .1 .1 .0 ∙ s .pre .1 .2 in
     (a .0, a .1, f ∙ ap frontWords (a .2), a .3 .left, omega (arith, l, f))
 
-same-length : tie.Need-same-length
-same-length c = search needs
-
 returns : tie.Need-returns
 returns c =
     let s = c .before .before .before .before .before .before .before .before .before .before .before .before .before .before .before .before .before .before .before .before .before .before .before .before .before .before .before .before .before .before .before .before .before .before in
@@ -130,15 +110,15 @@ pub played-spec : {M : Type 1} → statement M
 played-spec =
     tie.close
     (tie.spec
-    front-words-requires
+    (λ c κs. search needs)
     sub-place-in
     place-in-requires
-    pick-requires
+    (λ c κs. search needs)
     judged-read-requires
     kept-requires
     save-setup-requires
     save-sections-requires
     save-accounts-requires
     save-pending-requires
-    same-length
+    (λ c. search needs)
     returns)

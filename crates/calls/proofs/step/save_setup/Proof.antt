@@ -1,16 +1,9 @@
 -- The words of an accepted image are in their one form, so that copies of them are what is written.
 use native.Mathlib.Omega.{arith}
-use mathlib.Core.Path.{_∙_}
 use Rattle.calls.proofs.ImageTurnLaws.{sizes, setup-room, new-room, three-front, own-copied, new-copied}
 use borrow.Author.Needs.{needs}
 use Rattle.calls.proofs.step.save_setup.Statement.{statement}
 use Rattle.calls.proofs.step.save_setup.Tie as tie
-use Rattle.calls.proofs.step.save_setup.Reads as reads
-use Rattle.calls.proofs.step.save_setup.Lts as lts
-use Rattle.image.proofs.left_at.Reads as left-at-reads
-use Rattle.setup.proofs.layout.setup_words.Reads as setup-words-reads
-use Rattle.words.proofs.word.copy_run.Reads as copy-run-reads
-use Rattle.words.proofs.word.copy_words.Reads as copy-words-reads
 
 copy-words-requires : tie.Need-copy-words-requires
 copy-words-requires c κs =
@@ -23,12 +16,6 @@ left-at-requires c κs =
     let a = c .before .before .before .before .before .before .before .pre in
     sizes _ (a .0) (a .1) (a .2)
 
-add-copy-run : tie.Need-add-copy-run
-add-copy-run c = search needs
-
-add-copy-run-2 : tie.Need-add-copy-run-2
-add-copy-run-2 c = search needs
-
 copy-run-requires : tie.Need-copy-run-requires
 copy-run-requires c κs =
     let a = c .before .before .before .before .before .before .before .before .before .pre in
@@ -36,9 +23,6 @@ copy-run-requires c κs =
     let room = new-room _ (a .0) (a .1) (a .2) (a .3) (c .before .left-at .ensures) (λ z. omega arith) in
     let three = three-front _ (a .0) (a .2) (a .3) due in
     (omega arith, omega (arith, c .before .before .before .before .copy-words .kept .1 .1 .0, a .4))
-
-same-length : tie.Need-same-length
-same-length c = search needs
 
 returns : tie.Need-returns
 returns c =
@@ -58,9 +42,6 @@ copy-words-requires-2 c κs =
     let e = c .before .setup-words .ensures in
     (omega arith, omega arith)
 
-same-length-2 : tie.Need-same-length-2
-same-length-2 c = search needs
-
 returns-2 : tie.Need-returns-2
 returns-2 c =
     let a = c .before .before .before .before .before .before .before .before .pre in
@@ -72,12 +53,12 @@ save-setup-spec =
     (tie.spec
     copy-words-requires
     left-at-requires
-    add-copy-run
-    add-copy-run-2
+    (λ c. search needs)
+    (λ c. search needs)
     copy-run-requires
-    same-length
+    (λ c. search needs)
     returns
     setup-words-requires
     copy-words-requires-2
-    same-length-2
+    (λ c. search needs)
     returns-2)

@@ -1,6 +1,5 @@
 -- A change that is due is made from the words of the image; else what is lent stays.
 use native.Mathlib.Omega.{arith}
-use Prim.Native.Nat.{ℕ}
 use mathlib.Core.Path.{ap, ap₂, _∙_}
 use Rattle.setup.specs.Layout.{frontWords}
 use Rattle.image.specs.Layout.{leftAt}
@@ -8,14 +7,6 @@ use Rattle.calls.proofs.ImageTurnLaws.{sizes, new-room, lent-stays, tur
 use borrow.Author.Needs.{needs}
 use Rattle.calls.proofs.step.turned.Statement.{statement}
 use Rattle.calls.proofs.step.turned.Tie as tie
-use Rattle.calls.proofs.step.turned.Reads as reads
-use Rattle.calls.proofs.step.turned.Lts as lts
-use Rattle.changes.proofs.lent.turn.Reads as turn-reads
-use Rattle.image.proofs.left_at.Reads as left-at-reads
-use Rattle.setup.proofs.bounds.front_words.Reads as front-words-reads
-
-front-words-requires : tie.Need-front-words-requires
-front-words-requires c κs = search needs
 
 left-at-requires : tie.Need-left-at-requires
 left-at-requires c κs =
@@ -47,4 +38,4 @@ returns-2 c = λ q z h. lent-stays _ (λ e. (c .if1 .left) (c .before .before .p
 
 pub turned-spec : {M : Type 1} → statement M
 turned-spec =
-    tie.close (tie.spec front-words-requires left-at-requires turn-requires returns returns-2)
+    tie.close (tie.spec (λ c κs. search needs) left-at-requires turn-requires returns returns-2)
