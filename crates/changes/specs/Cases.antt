@@ -1,16 +1,16 @@
 -- A change, sentence by sentence (document 02, E10): what the definitions give, and what document 02 says. Computed in proofs/Cases.antt.
 use Prim.Native.Nat.{ℕ}
 use mathlib.Core.Path.{_≡_}
-use mathlib.Core.Bool.{Bool, true, false}
+use mathlib.Core.Bool.{Bool, true, false, _&&_}
 use mathlib.Core.List.{List, [], _∷_, _++_}
 use lib.ListN.{getD}
+use lib.Dec.{eqb}
 use Rattle.words.specs.Bits.{b2n}
 use Rattle.words.specs.Array.{array}
 use Rattle.doubles.specs.Array.{zeros}
 use Rattle.setup.specs.declared.Setup.{Setup}
 use Rattle.setup.specs.declared.Limits.the-variants.{Counts}
 use Rattle.accounts.specs.Account.{counts}
-use Rattle.accounts.specs.Cases.{Case, case, right}
 use Rattle.accounts.specs.declared.Account.{Account}
 use Rattle.accounts.specs.declared.Counters.{Counters}
 use Rattle.changes.specs.Pending.{nothing, penaltyLimitOf, rewardLimitOf}
@@ -19,6 +19,22 @@ use Rattle.changes.specs.Books.{turned, booksAfter}
 use Rattle.changes.specs.Frame.{frameVerdict}
 use Rattle.changes.specs.declared.Pending.{Pending}
 use Rattle.changes.specs.declared.Books.{Books}
+
+-- ---- the table
+
+-- one line
+pub record Case : Type 0 where
+  pub gives : ℕ
+  pub says : ℕ
+
+-- such a line
+abbrev pub case : ℕ → ℕ → Case
+case gives says = record { gives = gives; says = says }
+
+-- in every line both are the same
+abbrev pub right : List Case → Bool
+right [] = true
+right (c ∷ cs) = eqb (c .gives) (c .says) && right cs
 
 -- ---- one module
 
