@@ -6,42 +6,50 @@ use mathlib.Core.List.{List}
 use Prim.Native.Nat.{ℕ, _≤_, _<_}
 use native.Mathlib.Omega.{arith}
 use lib.ListN.{length, getD}
-use lib.Dec.{eqb}
+use lib.Dec.{eqb, ltb}
 use borrow.Author.Tests.{eq-eqb, ne-eqb}
 use Rattle.words.specs.Word.{wordAt}
 use Rattle.words.specs.Bits.{bit}
+use Rattle.words.specs.Count.{any}
 use Rattle.words.proofs.Truth.{which, cond-true, cond-false, or-r}
 use Rattle.words.proofs.WordLaws.{read-put, read-put-other}
 use Rattle.words.specs.Verdict.{isAccepted}
 use Rattle.setup.specs.Layout.{frontWords}
 use Rattle.setup.specs.Setup.{sizeIn, fadesIn, setupOf}
 use Rattle.setup.specs.declared.Limits.{Limits}
-use Rattle.accounts.specs.Round.{accountAt}
+use Rattle.setup.specs.declared.Limits.the-variants.{Counts}
+use Rattle.accounts.specs.Round.{accountAt, countersOf}
 use Rattle.accounts.proofs.RoundLaws.{Kept}
 use Rattle.rules.specs.Hearing.{readingOf, causesOf}
 use Rattle.rules.specs.Causes.{causeOf}
 use Rattle.rules.proofs.Causes.{of-read, hears, above as no-module}
+use Rattle.changes.specs.Books.{turned}
+use Rattle.changes.specs.declared.Books.{Books}
+use Rattle.changes.proofs.TurnLaws.{turned-size, turned-setup-fits}
 use Rattle.image.specs.Layout.{ownAt}
 use Rattle.image.specs.Words.{viewIn}
 use Rattle.image.specs.Check.{checkImage}
 use Rattle.image.proofs.CounterLaws.{within-kept}
+use Rattle.image.proofs.BooksLaws.{turned-accounts}
 use Rattle.presence.specs.Valid.{Valid}
 use Rattle.presence.specs.Opening.{openOf}
-use Rattle.presence.specs.Step.{acceptedStep, stepOf}
+use Rattle.presence.specs.Step.{booksOf, foundView, acceptedStep, stepOf}
+use Rattle.presence.specs.Change.{changeOf}
 use Rattle.presence.specs.Image.{imageOf, stateOf}
 use Rattle.calls.specs.Calls.{openCall, stepCall}
 use Rattle.presence.specs.declared.State.{State}
 use Rattle.presence.specs.declared.Stepped.{Stepped}
 use Rattle.presence.proofs.ValidLaws.{valid-fits}
+use Rattle.presence.proofs.StateChangeLaws.{change-taken, change-valid}
 use Rattle.presence.proofs.StateStepLaws.{step-accepted, step-valid, open-valid}
 use Rattle.presence.proofs.ImageState.{view-in, load-valid}
-use Rattle.calls.proofs.CallAnswers.{open-writes, open-passed, step-writes, step-passed, save-writes, save-passed}
+use Rattle.calls.proofs.CallAnswers.{open-writes, open-passed, step-writes, step-passed, change-writes, change-passed, save-writes, save-passed}
 use Rattle.page.specs.Flags.{cleared}
 use Rattle.page.specs.Page.{isPage, pageOpened, causeAt, somebodyCharged, raised, pageStepped, pageWritten, interruptOn}
 use Rattle.page.specs.Host.{writeCall}
 use Rattle.page.specs.Calls.{PageCalled, pageCalled, pageOpenCall, pageStepCall}
 use Rattle.page.specs.Refusals.{page-of-opening}
-use Rattle.page.specs.Promise.{Paged, opens, steps, saves, refused-image, refused-page, writes, Unnamed, here, stepped, not-opened, written, Promise}
+use Rattle.page.specs.Promise.{Paged, opens, steps, changes, saves, refused-image, refused-page, writes, Unnamed, here, stepped, not-opened, written, Promise}
 use Rattle.page.proofs.PageCallLaws.{image-view, image-size, image-form}
 use Rattle.page.proofs.RaisedLaws.{raised-kept, raised-0, raised-1, raised-above, cleared-kept, cleared-bit, turns-on, on-by}
 use Rattle.page.proofs.PageWords.{opened-1, written-1, opened-cause, word-0, word-1, word-2, word-other, cause-of}
@@ -68,7 +76,7 @@ module _ (image read : List ℕ) (controller : ℕ) (out : List ℕ) where
   s = stepOf st read controller
 
   abbrev next : List ℕ → List ℕ
-  next page = pageStepped (st .setup .n) (st .counters .view) (s .health) (s .state .counters .view) (s .causes) page
+  next page = pageStepped (st .setup .n) (foundView st) (s .health) (s .state .counters .view) (s .causes) page
 
   passes : stepCall image read controller out .answer .number ≡ 0 → isAccepted (checkImage image) ≡ true
   passes z = eq-eqb (checkImage image .number) 0 (step-passed image read controller out z .0)
@@ -158,36 +166,36 @@ module _ (image read : List ℕ) (controller : ℕ) (out : List ℕ) where
         (λ c. z .0 (sym e ∙ c), λ c. e ∙ z .1 c)
 
     flags-are : wordAt (after .page) 2 ≡ raised (wordAt page 2) (not (eqb (wordAt page 1) (s .state .counters .view)))
-        (somebodyCharged (st .setup .n) (st .counters .view) (s .health))
+        (somebodyCharged (st .setup .n) (foundView st) (s .health))
     flags-are = ap (λ (x : List ℕ). wordAt x 2) page-is ∙ word-2 _ _ _ _ _ page long
 
     enabled : (j : ℕ) → j < 32 → bit (wordAt (after .page) 2) j ≡ true → bit (wordAt page 3) j ≡ true → interruptOn (after .page) ≡ true
     enabled j h t u = turns-on (after .page) j h t (ap (λ (x : ℕ). bit x j) enable-stays ∙ u)
 
     -- whether the view differs from word 1, and whether somebody was charged
-    abbrev changes : Bool
-    changes = not (eqb (wordAt page 1) (stateOf (after .call .out) .counters .view))
+    abbrev moves : Bool
+    moves = not (eqb (wordAt page 1) (stateOf (after .call .out) .counters .view))
 
     abbrev charges : Bool
-    charges = somebodyCharged (st .setup .n) (st .counters .view) (after .call .answer .health)
+    charges = somebodyCharged (st .setup .n) (foundView st) (after .call .answer .health)
 
-    flags-by : wordAt (after .page) 2 ≡ raised (wordAt page 2) changes charges
+    flags-by : wordAt (after .page) 2 ≡ raised (wordAt page 2) moves charges
     flags-by =
         flags-are
-        ∙ ap₂ (λ (v h : ℕ). raised (wordAt page 2) (not (eqb (wordAt page 1) v)) (somebodyCharged (st .setup .n) (st .counters .view) h)) (sym view-is)
+        ∙ ap₂ (λ (v h : ℕ). raised (wordAt page 2) (not (eqb (wordAt page 1) v)) (somebodyCharged (st .setup .n) (foundView st) h)) (sym view-is)
         (sym health-is)
 
-    change-is : bit (wordAt (after .page) 2) 0 ≡ bit (wordAt page 2) 0 || changes
-    change-is = ap (λ (x : ℕ). bit x 0) flags-by ∙ raised-0 (wordAt page 2) changes charges
+    change-is : bit (wordAt (after .page) 2) 0 ≡ bit (wordAt page 2) 0 || moves
+    change-is = ap (λ (x : ℕ). bit x 0) flags-by ∙ raised-0 (wordAt page 2) moves charges
 
     charge-is : bit (wordAt (after .page) 2) 1 ≡ bit (wordAt page 2) 1 || charges
-    charge-is = ap (λ (x : ℕ). bit x 1) flags-by ∙ raised-1 (wordAt page 2) changes charges
+    charge-is = ap (λ (x : ℕ). bit x 1) flags-by ∙ raised-1 (wordAt page 2) moves charges
 
     others-are : (j : ℕ) → 2 ≤ j → j < 32 → bit (wordAt (after .page) 2) j ≡ bit (wordAt page 2) j
-    others-are j h l = ap (λ (x : ℕ). bit x j) flags-by ∙ raised-above (wordAt page 2) j changes charges h l
+    others-are j h l = ap (λ (x : ℕ). bit x j) flags-by ∙ raised-above (wordAt page 2) j moves charges h l
 
     change-set : wordAt page 1 ≢ stateOf (after .call .out) .counters .view → bit (wordAt (after .page) 2) 0 ≡ true
-    change-set f = change-is ∙ or-r (bit (wordAt page 2) 0) changes (ap not (ne-eqb _ _ f))
+    change-set f = change-is ∙ or-r (bit (wordAt page 2) 0) moves (ap not (ne-eqb _ _ f))
 
     charge-set : charges ≡ true → bit (wordAt (after .page) 2) 1 ≡ true
     charge-set c = charge-is ∙ or-r (bit (wordAt page 2) 1) charges c
@@ -225,6 +233,12 @@ shows : (image page : List ℕ) → Paged image page → wordAt page 1 ≡ state
 unfolding pageStepCall
 shows _ _ (opens setup own out page z) = opened-view setup own out page z
 shows _ _ (steps {image} {page} p read controller out z) = view-word image read controller out page z
+shows _ page (changes {image} p new lead out z) =
+    let (v, w, n) = change-passed image new lead out z in
+    shows image page p
+    ∙ sym (ap (λ (x : List ℕ). stateOf x .counters .view) (change-writes image new lead out z)
+    ∙ view-read (changeOf (stateOf image) (setupOf new) lead .state) (change-valid (stateOf image) (setupOf new) lead n)
+    ∙ ap (λ (x : State). x .counters .view) (change-taken (stateOf image) (setupOf new) lead n .state))
 shows _ page (saves {image} p out z) =
     shows image page p
     ∙ sym (ap (λ (x : List ℕ). stateOf x .counters .view) (save-writes image out z) ∙ view-read (stateOf image) (load-valid image (save-passed image out z)))
@@ -267,6 +281,29 @@ module _ (j : ℕ) (h : j < 32) where
   stays-set page _ (not-opened {now} u setup own out f) t = subst Set (sym (refusals .unaltered now _ (page-of-opening setup own out f))) (stays-set page now u t)
   stays-set page _ (written {now} u offset value f) t = write-kept now offset value f (stays-set page now u t)
 
+-- ---- whom rule 8 charges
+
+grew : (image : List ℕ) (p r health : ℕ) → checkImage image .number ≡ 0
+    → let found : Books = turned (booksOf (stateOf image)) in
+    found .setup .limits ≡ Counts p r
+    → somebodyCharged (stateOf image .setup .n) (foundView (stateOf image)) health
+    ≡ any (stateOf image .setup .n)
+    (λ j. ltb (getD (found .counters .penalty) j 0) (getD (countersOf (found .setup) health (found .counters) .penalty) j 0))
+unfolding foundView
+grew image p r health z e =
+    let books = booksOf (stateOf image) in
+    let found = turned books in
+    let f = valid-fits (stateOf image) (load-valid image z) in
+    let s = turned-setup-fits books (f .pending) (f .setup) in
+    let kept = within-kept (found .setup .limits) (found .setup) (found .counters) (s .most) (turned-accounts books (f .setup) (f .pending) (f .counters)) in
+    subst
+    (λ (n : ℕ).
+    somebodyCharged n (found .counters .view) health
+    ≡ any n (λ j. ltb (getD (found .counters .penalty) j 0) (getD (countersOf (found .setup) health (found .counters) .penalty) j 0)))
+    (turned-size books)
+    (charged-grows (found .setup) p r e (found .counters) health s
+    (λ j h. subst (λ (l : Limits). Kept l (getD (found .setup .criticality) j 0) (accountAt (found .counters) j)) e (kept j h) .0))
+
 pub promise : Promise
 promise = record {
   same-opening = same-opening;
@@ -274,11 +311,7 @@ promise = record {
   health = health-word;
   view = view-word;
   shown = shows;
-  grew = λ image p r health z e.
-      let f = valid-fits (stateOf image) (load-valid image z) in
-      let kept = within-kept (stateOf image .setup .limits) (stateOf image .setup) (stateOf image .counters) (f .setup .most) (f .counters) in
-      charged-grows (stateOf image .setup) p r e (stateOf image .counters) health (f .setup)
-      (λ j h. subst (λ (l : Limits). Kept l (getD (stateOf image .setup .criticality) j 0) (accountAt (stateOf image .counters) j)) e (kept j h) .0);
+  grew = grew;
   change-flag = change-is;
   charge-flag = charge-is;
   other-flags = others-are;
