@@ -5,3 +5,4 @@ pub mod Calls
 pub mod Refusals
 pub mod Promise
 pub mod Cases
+pub mod Turned

@@ -6,18 +6,26 @@ use calls::calls::presence_open;
 use calls::calls::presence_step;
 use image::left_at;
 use image::view_in;
-use presence::State;
 use setup::bounds::fades_at;
 use setup::bounds::front_words;
 use setup::check::size_at;
+use words::bits::bit_at;
+use words::bits::with_bit;
+use words::word::KIND;
+use words::word::NUMBER;
 use words::word::word_at;
 ghost use mathlib.Core.Path.{_≡_};
+ghost use Prim.Native.Nat.{_+_, _*_, _≤_};
+ghost use lib.ListN.{length};
 ghost use Rattle.words.specs.Word.{wordAt};
+ghost use Rattle.words.specs.Bits.{pack};
 ghost use Rattle.setup.specs.Setup.{sizeIn, frontIn};
+ghost use Rattle.image.specs.Layout.{leftAt};
 ghost use Rattle.image.specs.Check.{checkImage};
 ghost use Rattle.presence.specs.Step.{foundView};
 ghost use Rattle.presence.specs.Image.{stateOf};
 ghost use Rattle.calls.specs.Calls.{called};
+ghost use Rattle.page.specs.Turned.{turnedIn};
 ghost use Rattle.page.specs.Calls.{pageCalled, pageOpenCall, pageStepCall};
 
 // Opens module `own` of a setup, and writes its image and its page: 1 to 6 and 22, 7, 9 for the output or the page.
@@ -46,15 +54,32 @@ pub extern "C" fn presence_page_open(
     answer
 }
 
+// The view after a change that is due, of an image that counts: a module in the view stays where the new R clears its penalty, or where its penalty is
+// not over the new P.
+fn turned_view(image: &[u8], n: usize) -> u32
+    requires { ⌜ (n ≤ 16) × ((leftAt 3 n + 3) * 4 ≤ length (now image)) ⌝ }
+    ensures { λ r. ⌜ r ≡ pack n (turnedIn (wordAt (now (image .entry))) n) ⌝ }
+{
+    let view = view_in(image, 3, n);
+    let at = left_at(3, n);
+    let p = word_at(image, at + 1) % KIND;
+    let r = word_at(image, at + 2) % KIND;
+    let mut found: u32 = 0;
+    for j in 0..n {
+        let penalty = word_at(image, at - 3 * n + j) % NUMBER;
+        let reward = word_at(image, at - 2 * n + j) % NUMBER;
+        found = with_bit(found, j, bit_at(view, j) & ((r <= reward) | (penalty <= p)));
+    }
+    found
+}
+
 // The view that rule 8 finds in a step from an image: the image's own, or, where a change is due, the one after it.
 fn found_view(image: &[u8], front: usize, n: usize) -> u32
     requires { ⌜ (checkImage (now image) .number ≡ 0) × (front ≡ frontIn (wordAt (now image))) × (n ≡ sizeIn (wordAt (now image) 0)) ⌝ }
     ensures { λ r. ⌜ r ≡ foundView (stateOf (now (image .entry))) ⌝ }
 {
     if word_at(image, left_at(front, n)) == 1 {
-        let read = State::load(image);
-        let state = read.state;
-        return state.found_view();
+        return turned_view(image, n);
     }
     view_in(image, front, n)
 }

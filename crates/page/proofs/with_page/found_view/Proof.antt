@@ -1,8 +1,13 @@
--- A change that is due is made of the state that the image holds; else the view is the image's own.
-use Rattle.page.proofs.FoundLaws.{loaded-valid, found-due, bounds, sections-room, left-room, found-held}
-use borrow.Author.Needs.{needs}
+-- Where a change is due the words tell the view after it; else it is the image's own.
+use Rattle.page.proofs.FoundLaws.{bounds, sections-room, left-room, found-held, due-room, found-turned}
 use Rattle.page.proofs.with_page.found_view.Statement.{statement}
 use Rattle.page.proofs.with_page.found_view.Tie as tie
+use Rattle.page.proofs.with_page.found_view.Reads as reads
+use Rattle.page.proofs.with_page.found_view.Lts as lts
+use Rattle.image.proofs.left_at.Reads as left-at-reads
+use Rattle.image.proofs.view_in.Reads as view-in-reads
+use Rattle.page.proofs.with_page.turned_view.Reads as turned-view-reads
+use Rattle.words.proofs.word.word_at.Reads as word-at-reads
 
 left-at-requires : tie.Need-left-at-requires
 left-at-requires c κs =
@@ -14,13 +19,15 @@ word-at-requires c κs =
     let a = c .before .before .pre in
     left-room _ (a .0) (a .1) (a .2) (c .left-at .ensures)
 
-found-view-requires : tie.Need-found-view-requires
-found-view-requires c κs =
-    loaded-valid _ (c .before .before .before .before .before .before .pre .0) (c .before .load .ensures)
+turned-view-requires : tie.Need-turned-view-requires
+turned-view-requires c κs =
+    let a = c .before .before .before .before .pre in
+    due-room _ (a .0) (a .1) (a .2) (c .before .before .left-at .ensures) (c .before .word-at .ensures) (c .if1 .taken)
 
 returns : tie.Need-returns
 returns c =
-    found-due _ (c .before .before .before .before .before .before .before .pre .0) (c .before .before .load .ensures) (c .found-view .ensures)
+    let a = c .before .before .before .before .before .pre in
+    found-turned _ (a .0) (a .1) (a .2) (c .before .before .before .left-at .ensures) (c .before .before .word-at .ensures) (c .before .if1 .taken) (c .turned-view .ensures)
 
 view-in-requires : tie.Need-view-in-requires
 view-in-requires c κs =
@@ -39,8 +46,7 @@ found-view-spec =
     (tie.spec
     left-at-requires
     word-at-requires
-    (λ c κs. search needs)
-    found-view-requires
+    turned-view-requires
     returns
     view-in-requires
     returns-2)
