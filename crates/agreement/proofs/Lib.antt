@@ -1,6 +1,7 @@
 pub mod FaultLaws
 pub mod Protocol
 pub mod Agreement
+pub mod Offers
 pub mod Steps
 pub mod Aligned
 pub mod Shared
