@@ -8,6 +8,7 @@ pub mod Shared
 pub mod Meets
 pub mod Ledger
 pub mod Demand
+pub mod Alike
 pub mod BackInView
 pub mod ScoresCounted
 pub mod Existence
