@@ -6,3 +6,4 @@ pub mod LentLaws
 pub mod NewWords
 pub mod NewMeaning
 pub mod SectionLaws
+pub mod Cases

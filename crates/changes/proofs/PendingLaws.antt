@@ -1,14 +1,14 @@
 -- What is pending, field by field: it has room in its words, a step counts it down, and a change that would be accepted fits.
-use mathlib.Core.Path.{_≡_, refl, ap, _∙_, sym, subst}
+use mathlib.Core.Path.{_≡_, refl, ap, sym, subst}
 use mathlib.Core.Bool.{Bool, true, false, cond, not, _&&_}
 use mathlib.Core.Logic.{⊎-elim}
 use mathlib.Core.List.{List}
-use Prim.Native.Nat.{ℕ, _+_, _-_, _^_, _<_, _≤_}
+use Prim.Native.Nat.{ℕ, _-_, _^_, _<_, _≤_}
 use native.Mathlib.Omega.{arith}
 use native.Mathlib.Nat.{eq-zero-or-pos}
 use lib.ListN.{getD, length, replicate, length-replicate, getD-replicate}
 use lib.Dec.{eqb, leb, ltb}
-use borrow.Author.Tests.{eqb-true, eq-eqb, ne-eqb, eqb-false, leb-true, ltb-true, lt-ltb}
+use borrow.Author.Tests.{eqb-true, eq-eqb, eqb-false, leb-true, ltb-true, lt-ltb}
 use Rattle.words.specs.Word.{wordAt, kindUnit}
 use Rattle.words.specs.Count.{all}
 use Rattle.words.specs.Array.{bounded}

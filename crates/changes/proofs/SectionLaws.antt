@@ -1,27 +1,27 @@
 -- The words of a change at the end of a saved state: written, they pass and are read back; those that pass hold a change that fits, and are the words
 -- that it is written as.
 use mathlib.Core.Path.{_≡_, refl, ap, ap₂, _∙_, sym, subst}
-use mathlib.Core.Bool.{Bool, true, false, cond, not, _&&_, _||_}
+use mathlib.Core.Bool.{Bool, true, false, not}
 use mathlib.Core.Logic.{_⊎_, inl, inr, ⊎-elim}
 use mathlib.Core.List.{List}
-use Prim.Native.Nat.{ℕ, zero, suc, _+_, _-_, _*_, _/_, _%_, _^_, _<_, _≤_}
+use Prim.Native.Nat.{ℕ, zero, suc, _+_, _*_, _/_, _^_, _<_, _≤_}
 use native.Mathlib.Omega.{arith}
 use native.Mathlib.Nat.{eq-zero-or-pos}
 use lib.ListN.{getD, length, replicate}
 use lib.Dec.{eqb, leb}
-use borrow.Author.Tests.{eqb-true, eqb-false, eq-eqb, ne-eqb, leb-true, le-leb}
+use borrow.Author.Tests.{eqb-true, eq-eqb, ne-eqb, leb-true, le-leb}
 use Rattle.words.specs.Word.{wordAt, numberUnit}
-use Rattle.words.specs.Bits.{bit, pack}
+use Rattle.words.specs.Bits.{bit}
 use Rattle.words.specs.Array.{array}
 use Rattle.words.specs.Runs.{total}
 use Rattle.words.proofs.Truth.{and-l, and-r, and-true, or-l, or-r, or-cases, not-both, cond-true, cond-false}
 use Rattle.words.proofs.BitLaws.{bit-pack}
-use Rattle.words.proofs.ArrayLaws.{clearFrom, array-at, array-ext, array-own, array-clear, bounded-clear}
+use Rattle.words.proofs.ArrayLaws.{array-at, array-ext, array-own, array-clear, bounded-clear}
 use Rattle.words.proofs.RunLaws.{Follows}
 use Rattle.words.proofs.VerdictLaws.{Passed}
 use Rattle.setup.specs.Layout.{frontWords}
 use Rattle.setup.specs.Limits.{fades, mostPenaltyLimit, mostRewardLimit}
-use Rattle.setup.specs.Setup.{limitWord, limitIn, sizeIn, moduleWord, markIn, placeIn, criticalityIn, fadesIn, limitsIn, frontIn, setupOf}
+use Rattle.setup.specs.Setup.{limitWord, limitIn, sizeIn, moduleWord, markIn, placeIn, criticalityIn, fadesIn, frontIn, setupOf}
 use Rattle.setup.specs.Check.{limitOk, moduleOk}
 use Rattle.setup.specs.declared.Setup.{Setup}
 use Rattle.setup.proofs.BoundLaws.{read-fades}

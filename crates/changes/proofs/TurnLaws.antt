@@ -2,13 +2,12 @@
 use mathlib.Core.Path.{_≡_, refl, sym, ap, _∙_, subst}
 use mathlib.Core.Bool.{Bool, true, false, cond}
 use mathlib.Core.Logic.{_⊎_, inl, inr, ⊎-elim}
-use mathlib.Core.List.{List}
-use Prim.Native.Nat.{ℕ, _-_, _<_, _≤_}
+use Prim.Native.Nat.{ℕ, _-_, _<_}
 use native.Mathlib.Omega.{arith}
 use native.Mathlib.Nat.{eq-zero-or-pos}
 use lib.ListN.{getD, length}
 use lib.Dec.{eqb, leb}
-use borrow.Author.Tests.{eqb-true, eqb-false, eq-eqb, ne-eqb, leb-true, leb-false}
+use borrow.Author.Tests.{eqb-true, eqb-false, eq-eqb, ne-eqb, leb-false}
 use Rattle.words.specs.Array.{array}
 use Rattle.words.proofs.Truth.{clash, cond-true, cond-false, which}
 use Rattle.words.proofs.ArrayLaws.{array-own, array-ext, bounded-clear}
@@ -24,7 +23,7 @@ use Rattle.accounts.specs.Round.{accountAt}
 use Rattle.accounts.specs.declared.Account.{Account}
 use Rattle.accounts.specs.declared.Counters.{Counters}
 use Rattle.accounts.proofs.RoundLaws.{Kept}
-use Rattle.changes.specs.Pending.{nothing, penaltyLimitOf, rewardLimitOf, pendingOf, renewed, countedDown}
+use Rattle.changes.specs.Pending.{nothing, pendingOf, renewed, countedDown}
 use Rattle.changes.specs.Adjust.{adjustedAt, adjustedOf}
 use Rattle.changes.specs.Frame.{sameFrame}
 use Rattle.changes.specs.Books.{turned}

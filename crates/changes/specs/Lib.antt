@@ -5,3 +5,4 @@ pub mod Words
 pub mod Frame
 pub mod Lent
 pub mod Meaning
+pub mod Cases

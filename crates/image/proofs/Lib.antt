@@ -12,3 +12,4 @@ pub mod GapLaws
 pub mod HalfLaws
 pub mod SectionLaws
 pub mod ImageAnswers
+pub mod BooksLaws

@@ -86,8 +86,7 @@ returns : tie.Need-returns Inv-loop μ-loop
 returns c =
     let s = c .before .before in
     let l = c .before .loop in
-    let e : l .j ≡ s .args .n = omega arith in
-    (
+    let e : l .j ≡ s .args .n = omega arith in (
       replaced-all (s .args .n) _ (s .args .penalty .now) (s .pre .0) e (s .pre .3) (l .inv .1),
       replaced-all (s .args .n) _ (s .args .reward .now) (s .pre .0) e (s .pre .4) (l .inv .2),
     )

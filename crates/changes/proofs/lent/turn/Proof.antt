@@ -22,8 +22,7 @@ load-criticality-requires c κs = search needs
 
 adjust-requires : tie.Need-adjust-requires
 adjust-requires c κs =
-    let s = c .before .before .before .before .before .before .before .before in
-    (
+    let s = c .before .before .before .before .before .before .before .before in (
       s .pre .0,
       omega arith,
       read-small (s .args .n) _ (s .pre .0) (c .before .before .before .load-criticality .ensures),
