@@ -23,7 +23,7 @@ use Rattle.agreement.specs.Ledger.{ledger}
 use Rattle.agreement.proofs.FaultLaws.{Follower, first-follower}
 use Rattle.agreement.proofs.Protocol.{Protocol, Agree}
 use Rattle.agreement.proofs.Offers.{Found, found-made, made-cases}
-use Rattle.agreement.proofs.Steps.{reading, state-zero, state-suc, health-suc}
+use Rattle.agreement.proofs.Steps.{reading, ready-is, state-zero, state-suc, health-suc}
 use Rattle.agreement.proofs.Aligned.{own-size}
 
 module _ (S : Session) where
@@ -108,6 +108,11 @@ unfolding afterRound judgementFor alignedFor ownSyndrome placeOf
 books-suc S ok i below k =
     ap booksOf (state-suc S ok i below k)
     ∙ ap (booksAfter (booksOf (withPending (state S i k) (ready S i k .pending)))) (sym (health-suc S ok i below k))
+
+-- the same, in one state
+pub books-ready : (S : Session) → Accepted S → (i : ℕ) → i < size S → (k : ℕ)
+    → booksOf (state S i (suc k)) ≡ booksAfter (booksOf (ready S i k)) (health S i (suc k))
+books-ready S ok i below k = books-suc S ok i below k ∙ ap (λ (st : State). booksAfter (booksOf st) (health S i (suc k))) (sym (ready-is S i k))
 
 module _ (S : Session) (ok : Accepted S) (last : ℕ) (common : Common S last) where
   module _ (i i′ : ℕ) (fi : RuleFollower S i) (fi′ : RuleFollower S i′) where

@@ -7,10 +7,11 @@ use native.Mathlib.Omega.{arith}
 use lib.ListN.{length}
 use Rattle.words.proofs.BitLaws.{pack-lt}
 use Rattle.words.proofs.ByteLaws.{bytes-length}
+use Rattle.setup.specs.Limits.{fades}
 use Rattle.setup.proofs.SetupLaws.{SetupFits, verdict-fits}
 use Rattle.rules.specs.Hearing.{readingOf, causesOf}
 use Rattle.changes.specs.Books.{counted, booksAfter}
-use Rattle.changes.proofs.TurnLaws.{turned-size, turned-q, turned-marks, turned-places}
+use Rattle.changes.proofs.TurnLaws.{turned-size, turned-q, turned-marks, turned-places, turned-fades}
 use Rattle.presence.specs.Valid.{Valid}
 use Rattle.presence.specs.Opening.{fresh, openOf}
 use Rattle.presence.specs.Step.{placeOf, markOf, ownSyndrome, alignedFor, judgementFor, outgoingFor, booksOf, afterRound, acceptedStep}
@@ -35,11 +36,12 @@ reading S i k = readingOf (size S) (readBytes S i k) (readBits S i k)
 abbrev pub causes : Session → ℕ → ℕ → List ℕ
 causes S i k = causesOf (size S) (readBytes S i k) (readBits S i k)
 
--- what every state of a session is: of the setup, P, R and the criticalities can be new
+-- what every state of a session is: of the setup it was opened from, P, R and the criticalities can be new
 pub record Held (S : Session) (i : ℕ) (st : State) : Type 0 where
   pub fits : StateFits st
   pub size-is : st .setup .n ≡ size S
   pub q-is : st .setup .q ≡ S .setup .q
+  pub fades-is : fades (st .setup .limits) ≡ fades (S .setup .limits)
   pub marks-are : st .setup .marks ≡ S .setup .marks
   pub places-are : st .setup .places ≡ S .setup .places
   pub own : st .own ≡ i + 1
@@ -76,6 +78,7 @@ module _ (S : Session) (ok : Accepted S) where
               (after-fits st (readBytes S i k) (readBits S i k) (h .fits));
           size-is = turned-size (booksOf st) ∙ h .size-is;
           q-is = turned-q (booksOf st) ∙ h .q-is;
+          fades-is = turned-fades (booksOf st) (h .fits .pending) ∙ h .fades-is;
           marks-are = turned-marks (booksOf st) ∙ h .marks-are;
           places-are = turned-places (booksOf st) ∙ h .places-are;
           own = h .own;
@@ -88,6 +91,7 @@ module _ (S : Session) (ok : Accepted S) where
           fits = made-fits os st (h .fits);
           size-is = ap (λ (x : State). x .setup .n) e ∙ h .size-is;
           q-is = ap (λ (x : State). x .setup .q) e ∙ h .q-is;
+          fades-is = ap (λ (x : State). fades (x .setup .limits)) e ∙ h .fades-is;
           marks-are = ap (λ (x : State). x .setup .marks) e ∙ h .marks-are;
           places-are = ap (λ (x : State). x .setup .places) e ∙ h .places-are;
           own = ap (λ (x : State). x .own) e ∙ h .own;
@@ -106,6 +110,7 @@ module _ (S : Session) (ok : Accepted S) where
           fits = fresh-fits (S .setup) (i + 1) setup-fits (omega arith) (omega arith);
           size-is = refl;
           q-is = refl;
+          fades-is = refl;
           marks-are = refl;
           places-are = refl;
           own = refl;
