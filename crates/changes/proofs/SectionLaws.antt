@@ -1,7 +1,7 @@
 -- The words of a change at the end of a saved state: written, they pass and are read back; those that pass hold a change that fits, and are the words
 -- that it is written as.
 use mathlib.Core.Path.{_≡_, refl, ap, ap₂, _∙_, sym, subst}
-use mathlib.Core.Bool.{Bool, true, false, not}
+use mathlib.Core.Bool.{Bool, true, false, cond, not}
 use mathlib.Core.Logic.{_⊎_, inl, inr, ⊎-elim}
 use mathlib.Core.List.{List}
 use Prim.Native.Nat.{ℕ, zero, suc, _+_, _*_, _/_, _^_, _<_, _≤_}
@@ -350,3 +350,19 @@ module _ (x : List ℕ) (at : ℕ) (f : WordsFit x (sizeIn (wordAt x 0))) (small
   read-pending g =
       change-pass (wordAt x) at (setupOf x) (pendingIn x size at) g modules-stand change-same read-small
       (subst (λ (b : Bool). Passed (changeTests b (wordAt x) size at)) (sym form) passed)
+
+-- the rounds left that are read are those of the word
+pub read-left : (x : List ℕ) (n at : ℕ) → pendingIn x n at .left ≡ wordAt x at
+unfolding pendingIn nothing
+read-left x n at = go (eqb (wordAt x at) 0) refl
+  where
+    go : (b : Bool) → eqb (wordAt x at) 0 ≡ b
+        → cond b nothing
+        (record {
+          left = wordAt x at;
+          p = limitIn (wordAt x (at + 1));
+          r = limitIn (wordAt x (at + 2));
+          criticality = array n (λ j. criticalityIn (wordAt x (at + 3 + j)));
+        }) .left ≡ wordAt x at
+    go true t = sym (eqb-true (wordAt x at) 0 t)
+    go false f = refl

@@ -10,7 +10,8 @@ use Rattle.words.proofs.ArrayLaws.{array-clear}
 use Rattle.setup.specs.Setup.{sizeIn, fadesIn, frontIn, setupOf}
 use Rattle.setup.proofs.FrontLaws.{setup-fits}
 use Rattle.setup.specs.Layout.{frontWords}
-use Rattle.image.specs.Layout.{ownAt, latestAt, earlierAt}
+use Rattle.changes.proofs.SectionLaws.{read-pending}
+use Rattle.image.specs.Layout.{ownAt, latestAt, earlierAt, leftAt}
 use Rattle.image.specs.Words.{viewIn}
 use Rattle.image.specs.Rows.{readingIn}
 use Rattle.image.specs.Counters.{countersIn}
@@ -50,6 +51,7 @@ module _ (s : List ℕ) (f : ImageFits s) where
         counters = read-accounts s small (fadesIn (wordAt s)) refl (f .tail .counters);
         heard = pack-lt size _;
         no-rows = array-clear size _;
+        pending = read-pending s (leftAt front size) (f .words) small (f .tail .change) (setup-fits s (f .front) (f .words) (omega (arith, f .size)));
       }
 
 -- every accepted image gives a valid state

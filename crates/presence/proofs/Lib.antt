@@ -1,7 +1,9 @@
 pub mod SmallLaws
 pub mod StateWords
+pub mod FrameLaws
 pub mod ValidLaws
 pub mod StateStepLaws
+pub mod StateChangeLaws
 pub mod Outgoing
 pub mod StateRoundLaws
 pub mod SaveLaws

@@ -19,7 +19,9 @@ use Rattle.setup.specs.declared.Setup.{Setup}
 use Rattle.accounts.specs.declared.Counters.{Counters}
 use Rattle.rules.specs.declared.Reading.{Reading}
 use Rattle.setup.proofs.SetupCheckLaws.{bothTests}
-use Rattle.image.specs.Layout.{ownAt, latestAt, earlierAt, imageLength}
+use Rattle.changes.specs.Words.{changeTests, pendingIn}
+use Rattle.changes.specs.declared.Pending.{Pending}
+use Rattle.image.specs.Layout.{ownAt, latestAt, earlierAt, leftAt, beforeLeft}
 use Rattle.image.specs.Words.{ownIn, viewIn, syndromeIn}
 use Rattle.image.specs.Rows.{rowTest, readingIn}
 use Rattle.image.specs.Counters.{counterTests, countersIn}
@@ -31,24 +33,25 @@ use Rattle.presence.specs.Image.{stateOf}
 use Rattle.presence.specs.declared.State.{State}
 
 pub state-by : (s : List ℕ) {n : ℕ} → n ≡ sizeIn (wordAt s 0)
-    → {setup : Setup} {own latest earlier : ℕ} {counters : Counters} {previous : Reading} {b : Bool} → b ≡ fadesIn (wordAt s)
+    → {setup : Setup} {own latest earlier : ℕ} {counters : Counters} {previous : Reading} {pending : Pending} {b : Bool} → b ≡ fadesIn (wordAt s)
     → setup ≡ setupOf s → own ≡ ownIn (wordAt s (ownAt (frontWords b) n)) → counters ≡ countersIn b s n → previous ≡ readingIn s (frontWords b) n
     → latest ≡ syndromeIn (wordAt s (latestAt (frontWords b) n)) → earlier ≡ syndromeIn (wordAt s (earlierAt (frontWords b) n))
-    → _≡_ {A = State} (record { setup = setup; own = own; counters = counters; previous = previous; latest = latest; earlier = earlier }) (stateOf s)
+    → pending ≡ pendingIn s n (leftAt (frontWords b) n)
+    → _≡_ {A = State} (record { setup = setup; own = own; counters = counters; previous = previous; latest = latest; earlier = earlier; pending = pending }) (stateOf s)
 unfolding stateOf
-state-by s {n} e f e₀ e₁ e₂ e₃ e₄ e₅ =
-    rw (← e, ← f) (λ i. record { setup = e₀ i; own = e₁ i; counters = e₂ i; previous = e₃ i; latest = e₄ i; earlier = e₅ i })
+state-by s {n} e f e₀ e₁ e₂ e₃ e₄ e₅ e₆ =
+    rw (← e, ← f) (λ i. record { setup = e₀ i; own = e₁ i; counters = e₂ i; previous = e₃ i; latest = e₄ i; earlier = e₅ i; pending = e₆ i })
 
 -- ---- whether all words are right, where those of the setup are found first
 
 module _ {fades : Bool} {front : ℕ} (s : List ℕ) (n : ℕ) (form : fades ≡ fadesIn (wordAt s)) (at : front ≡ frontWords fades) where
   pub setup-wrong : {first : Bool} → first ≡ allRight (wordTests s n) → first ≡ false → false ≡ allRight (imageTests s n)
-  setup-wrong e f = loaded-good s n form at {first = false} (sym f ∙ e) refl refl refl
+  setup-wrong e f = loaded-good s n form at {first = false} (sym f ∙ e) refl refl refl refl
 
-  pub setup-right : {first alone rows counters : Bool} → first ≡ allRight (wordTests s n) → first ≡ true
+  pub setup-right : {first alone rows counters change : Bool} → first ≡ allRight (wordTests s n) → first ≡ true
       → alone ≡ wordsRight (wordAt s) front n → rows ≡ all n (rowTest (wordAt s) front n) → counters ≡ allRight (counterTests fades (wordAt s) n)
-      → alone && (rows && counters) ≡ allRight (imageTests s n)
-  setup-right e f a r c = loaded-good s n form at {first = true} (sym f ∙ e) a r c
+      → change ≡ allRight (changeTests fades (wordAt s) n (leftAt front n)) → alone && (rows && (counters && change)) ≡ allRight (imageTests s n)
+  setup-right e f a r c d = loaded-good s n form at {first = true} (sym f ∙ e) a r c d
 
 pub reading-read : {heard : ℕ} {rows : List ℕ} (s : List ℕ) (front n : ℕ) → heard ≡ readingIn s front n .heard → rows ≡ readingIn s front n .rows
     → record { heard = heard; rows = rows } ≡ readingIn s front n
@@ -71,7 +74,7 @@ module _ {setup : Setup} {fades : Bool} {n : ℕ} (s : List ℕ) (e : setup ≡ 
       ap (λ (b : Bool). allRight (limitTests b (wordAt s))) form ∙ and-l (allRight ts) _ (sym (right-join ts (bothTests s n)) ∙ sym g ∙ t)
 
   pub accounts-asked : {first : Bool} {front view : ℕ} → first ≡ allRight (wordTests s n) → first ≡ true → front ≡ frontWords fades → n ≤ 16
-      → length s ≡ imageLength (frontWords fades) n → returnLimitIn (wordAt s 0) ≤ mostReturnLimit → view ≡ viewIn (wordAt s (ownAt front n))
+      → beforeLeft (frontWords fades) n ≤ length s → returnLimitIn (wordAt s 0) ≤ mostReturnLimit → view ≡ viewIn (wordAt s (ownAt front n))
       → Asked s n (setup .q) (setup .criticality) view (setup .limits)
   accounts-asked g t at few long most view =
       let q = return-limit s e in

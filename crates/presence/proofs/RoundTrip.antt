@@ -14,6 +14,7 @@ use Rattle.words.proofs.ArrayLaws.{array-length}
 use Rattle.words.proofs.WordLaws.{word-lt}
 use Rattle.words.proofs.ByteLaws.{word-front, bytes-join, bytes-own}
 use Rattle.words.proofs.RunLaws.{Follows, follow-runs, runs-join}
+use Rattle.words.proofs.RunJoinLaws.{follow-join, follow-moved}
 use Rattle.setup.specs.Layout.{frontWords, setupWords}
 use Rattle.setup.specs.Limits.{fades}
 use Rattle.setup.specs.Setup.{sizeIn, fadesIn, frontIn, frontOf, setupOf, setupRuns, setupBytes, blankSetup}
@@ -21,34 +22,42 @@ use Rattle.setup.specs.Check.{checkSetup, readSetup}
 use Rattle.setup.specs.RoundTrip.{ShapedSetup}
 use Rattle.setup.specs.declared.Setup.{Setup}
 use Rattle.setup.specs.declared.SetupRead.{SetupRead}
-use Rattle.setup.proofs.SetupLaws.{SetupFits, verdict-fits}
+use Rattle.setup.proofs.SetupLaws.{SetupFits, verdict-fits, fits-room}
 use Rattle.setup.proofs.BoundLaws.{front-least, read-fades, fades-same}
-use Rattle.setup.proofs.SetupWords.{written-length, written-fades}
+use Rattle.setup.proofs.SetupWords.{written-length, written-fades, place-small}
 use Rattle.setup.proofs.SetupCheckLaws.{WordsFit, setup-pass}
 use Rattle.setup.proofs.SetupRoundTrip.{read-back}
 use Rattle.setup.proofs.FrontLaws.{words-same, setup-same, setup-written}
 use Rattle.rules.specs.Hearing.{readingOf}
-use Rattle.image.specs.Layout.{ownAt, latestAt, earlierAt, endAt, imageLength}
+use Rattle.changes.specs.Words.{newCount, pendingIn, changeRuns}
+use Rattle.changes.specs.Books.{counted, booksAfter}
+use Rattle.changes.proofs.PendingLaws.{nothing-shaped, of-shaped, read-shaped as pending-shaped}
+use Rattle.changes.proofs.SectionLaws.{change-stands, change-back, change-same, read-left}
+use Rattle.changes.proofs.TurnLaws.{turned-shaped}
+use Rattle.image.specs.Layout.{ownAt, latestAt, earlierAt, accountsAt, leftAt, imageWords, imageLength}
 use Rattle.image.specs.Words.{viewIn}
 use Rattle.image.specs.Rows.{readingIn}
-use Rattle.image.specs.Counters.{countersIn}
+use Rattle.image.specs.Counters.{countersIn, counterRuns}
 use Rattle.image.specs.Sections.{sectionRuns}
 use Rattle.image.specs.Check.{checkImage}
 use Rattle.image.proofs.SingleWords.{own-made, syndrome-made}
 use Rattle.image.proofs.RowLaws.{reading-back, rows-same}
 use Rattle.image.proofs.CounterLaws.{accounts-back, accounts-same, zero-shaped, round-shaped, read-shaped}
+use Rattle.image.proofs.BooksLaws.{turned-counters-shaped}
 use Rattle.image.proofs.TailLaws.{TailFits, ImageFits, tail-pass, image-pass, image-ok}
 use Rattle.presence.specs.Valid.{Valid}
 use Rattle.presence.specs.Opening.{fresh, openOf}
-use Rattle.presence.specs.Step.{afterRound, acceptedStep, stepOf}
-use Rattle.presence.specs.Image.{stateRuns, imageRuns, imageOf, stateOf}
+use Rattle.presence.specs.Step.{booksOf, afterRound, acceptedStep, stepOf}
+use Rattle.presence.specs.Change.{changeOf}
+use Rattle.presence.specs.Image.{stateRuns, imageRuns, imageOf, stateOf, stateLength}
 use Rattle.presence.specs.RoundTrip.{Shaped, RoundTrip}
 use Rattle.presence.specs.declared.State.{State}
 use Rattle.presence.specs.declared.Stepped.{Stepped}
 use Rattle.presence.proofs.SmallLaws.{Small, valid-small, valid-setup, valid-tail}
-use Rattle.presence.proofs.StateWords.{Stands, Read, stands-bytes, state-read, image-words, image-length, state-total}
+use Rattle.presence.proofs.StateWords.{Stands, Read, stands-bytes, state-read, image-words, image-length, counters-total, state-total}
 use Rattle.presence.proofs.LoadLaws.{state-by}
 use Rattle.presence.proofs.ImageState.{load-valid}
+use Rattle.presence.proofs.StateChangeLaws.{change-taken, change-valid}
 use Rattle.presence.proofs.StateStepLaws.{step-accepted, step-valid, open-fresh, open-valid}
 
 -- the image of a state is its setup's bytes, and those of its other words
@@ -73,9 +82,11 @@ module _ (s : List ℕ) (e : checkImage s .number ≡ 0) where
 
   -- the words of the state, whose setup is of the form that the second word says
   read-runs : stateRuns (stateOf s) ≡ sectionRuns form size (stateOf s .own) (stateOf s .counters) (stateOf s .previous) (stateOf s .latest) (stateOf s .earlier)
+      ++ changeRuns (stateOf s .setup) (stateOf s .pending)
   unfolding stateOf setupOf
   read-runs =
-      ap (λ (b : Bool). sectionRuns b size (stateOf s .own) (stateOf s .counters) (stateOf s .previous) (stateOf s .latest) (stateOf s .earlier)) (read-fades form (wordAt s))
+      ap (λ (b : Bool). sectionRuns b size (stateOf s .own) (stateOf s .counters) (stateOf s .previous) (stateOf s .latest) (stateOf s .earlier)
+      ++ changeRuns (stateOf s .setup) (stateOf s .pending)) (read-fades form (wordAt s))
 
   read-view : (b : Bool) → countersIn b s size .view ≡ viewIn (wordAt s (ownAt (frontWords b) size))
   unfolding countersIn
@@ -95,7 +106,8 @@ module _ (s : List ℕ) (e : checkImage s .number ≡ 0) where
             λ j h. rw (zero-of (latestAt start size) j h) (sym (syndrome-made size (wordAt s (latestAt start size)) (t .latest) .0)),
             (
               λ j h. rw (zero-of (earlierAt start size) j h) (sym (syndrome-made size (wordAt s (earlierAt start size)) (t .earlier) .0)),
-              accounts-same s small form (word-lt s b) (t .counters),
+              follow-join (wordAt s) (accountsAt start size) (counterRuns form size (stateOf s .counters)) (changeRuns (stateOf s .setup) (stateOf s .pending)) (accounts-same s small form (word-lt s b) (t .counters))
+                  (follow-moved (wordAt s) (changeRuns (stateOf s .setup) (stateOf s .pending)) (omega (arith, counters-total form size (stateOf s .counters))) (change-same s (leftAt start size) (fit .words) small (t .change))),
             ),
           ),
         ),
@@ -111,13 +123,16 @@ module _ (s : List ℕ) (e : checkImage s .number ≡ 0) where
       let rest : runsOf (stateRuns (stateOf s)) ≡ bytesOf (total (stateRuns (stateOf s))) (λ i. wordAt s (ownAt start size + i)) =
       follow-runs (wordAt s) (ownAt start size) (stateRuns (stateOf s)) (sections-same b)
       in
-      let k : ownAt start size + total (stateRuns (stateOf s)) ≡ endAt start size = omega (arith, state-total (stateOf s)) in
+      let left : stateOf s .pending .left ≡ wordAt s (leftAt start size) = read-left s size (leftAt start size) in
+      let k : ownAt start size + total (stateRuns (stateOf s)) ≡ imageWords start size (wordAt s (leftAt start size)) =
+      omega (arith, state-total (stateOf s), ap (newCount size) left)
+      in
       image-parts (stateOf s)
       ∙ ap (λ (x : List ℕ). x ++ runsOf (stateRuns (stateOf s))) first
       ∙ ap (λ (x : List ℕ). bytesOf (ownAt start size) (wordAt s) ++ x) rest
       ∙ sym (bytes-join (ownAt start size) (total (stateRuns (stateOf s))) (wordAt s))
       ∙ ap (λ (m : ℕ). bytesOf m (wordAt s)) k
-      ∙ bytes-own s (endAt start size) b (fit .size)
+      ∙ bytes-own s (imageWords start size (wordAt s (leftAt start size))) b (fit .size)
 
 -- ---- a valid state is read back
 
@@ -180,6 +195,9 @@ module _ (st : State) (v : Valid st) (a : Shaped st) where
   image-form : fadesIn (wordAt image) ≡ fades (st .setup .limits)
   image-form = fades-same (wordAt image) (wordAt front) (sym (front-word 1 (omega (arith, front-least (fades (st .setup .limits)))))) ∙ front-form
 
+  left-there : stateLength st (st .pending .left) ≡ imageLength (frontOf (st .setup)) n (wordAt image (leftAt (frontOf (st .setup)) n))
+  left-there = ap (stateLength st) (sym (change-stands (wordAt image) (leftAt (frontOf (st .setup)) n) (st .setup) (st .pending) (words .change) .left))
+
   image-right : ImageFits image
   image-right =
       let b = setup-pass front front-accepted in
@@ -199,7 +217,7 @@ module _ (st : State) (v : Valid st) (a : Shaped st) where
               least = omega (arith, fits .least);
               most = omega (arith, fits .most);
             };
-        size = l ∙ ap₂ (λ (b : Bool) (m : ℕ). imageLength (frontWords b) m) (sym image-form) (sym z);
+        size = l ∙ left-there ∙ ap₂ (λ (b : Bool) (m : ℕ). imageLength (frontWords b) m (wordAt image (leftAt (frontWords b) m))) (sym image-form) (sym z);
         words = subst (λ (m : ℕ). WordsFit image m) (sym z) (words-same front image n same-words (subst (λ (m : ℕ). WordsFit front m) y (b .words)));
         tail = subst (λ (b : Bool). TailFits b (wordAt image) (sizeIn (wordAt image 0))) (sym image-form) (subst (λ (m : ℕ). TailFits (fades (st .setup .limits)) (wordAt image) m) (sym z) t);
       }
@@ -211,11 +229,15 @@ module _ (st : State) (v : Valid st) (a : Shaped st) where
   previous-there : st .previous ≡ readingIn image (frontOf (st .setup)) n
   previous-there = reading-back image (frontOf (st .setup)) n (st .previous) (small .size) (small .rows) (a .rows) (words .rows)
 
+  pending-there : st .pending ≡ pendingIn image n (leftAt (frontOf (st .setup)) n)
+  pending-there =
+      change-back image (leftAt (frontOf (st .setup)) n) (st .setup) (st .pending) (small .size) (place-small (st .setup) (fits-room (st .setup) fits)) (small .pending) (a .pending) (words .change)
+
   -- a saved state is accepted, and read back
   pub image-accepted : (checkImage (imageOf st) ≡ accepted) × (stateOf (imageOf st) ≡ st)
   image-accepted = (
     image-ok image image-right,
-    sym (state-by image (sym image-size) (sym image-form) (sym image-setup) (sym (back .own)) counters-there previous-there (sym (back .latest)) (sym (back .earlier))),
+    sym (state-by image (sym image-size) (sym image-form) (sym image-setup) (sym (back .own)) counters-there previous-there (sym (back .latest)) (sym (back .earlier)) pending-there),
   )
 
 -- ---- the states that calls give
@@ -226,20 +248,27 @@ state-shaped s = record {
   setup = record { places = array-length _ _; criticality = array-length _ _ };
   rows = array-length _ _;
   counters = read-shaped (fadesIn (wordAt s)) s (sizeIn (wordAt s 0));
+  pending = pending-shaped s (sizeIn (wordAt s 0)) _;
 }
 
 pub open-shaped : (s : Setup) (own : ℕ) → ShapedSetup s → openOf s own .number ≡ 0 → Shaped (openOf s own .state)
 unfolding fresh
 open-shaped s own shaped zero =
     subst Shaped (sym (open-fresh s own zero))
-    (record { setup = shaped; rows = array-length _ _; counters = zero-shaped _ })
+    (record { setup = shaped; rows = array-length _ _; counters = zero-shaped _; pending = nothing-shaped })
 
 pub step-shaped : (st : State) (read : List ℕ) (controller : ℕ) → Shaped st → stepOf st read controller .number ≡ 0
     → Shaped (stepOf st read controller .state)
-unfolding acceptedStep afterRound readingOf
+unfolding acceptedStep afterRound booksAfter counted readingOf
 step-shaped st read controller shaped zero =
+    let (setup, pending) = turned-shaped (booksOf st) (shaped .setup) (shaped .pending) in
     subst (λ (t : Stepped). Shaped (t .state)) (sym (step-accepted st read controller zero .1))
-    (record { setup = shaped .setup; rows = array-length _ _; counters = round-shaped _ _ _ (shaped .counters) })
+    (record { setup = setup; rows = array-length _ _; counters = round-shaped _ _ _ (turned-counters-shaped (booksOf st) (shaped .counters)); pending = pending })
+
+pub change-shaped : (st : State) (new : Setup) (lead : ℕ) → Shaped st → ShapedSetup new → changeOf st new lead .number ≡ 0 → Shaped (changeOf st new lead .state)
+change-shaped st new lead shaped asked zero =
+    subst Shaped (sym (change-taken st new lead zero .state))
+    (record { setup = shaped .setup; rows = shaped .rows; counters = shaped .counters; pending = of-shaped new lead (asked .criticality) })
 
 pub round-trip : RoundTrip
 round-trip = record {
@@ -248,4 +277,5 @@ round-trip = record {
   read-written = λ s b e. written-read s e b;
   opens = λ s own shaped zero. (open-valid s own zero, open-shaped s own shaped zero);
   keeps = λ st read controller shaped zero. (step-valid st read controller zero, step-shaped st read controller shaped zero);
+  changes = λ st new lead shaped asked zero. (change-valid st new lead zero, change-shaped st new lead shaped asked zero);
 }

@@ -2,7 +2,7 @@
 use mathlib.Core.Path.{_≡_, ap, _∙_, sym}
 use mathlib.Core.Bool.{Bool, true, false, not}
 use mathlib.Core.List.{List}
-use Prim.Native.Nat.{ℕ}
+use Prim.Native.Nat.{ℕ, _≤_}
 use native.Mathlib.Omega.{arith}
 use lib.ListN.{length}
 use lib.Dec.{eqb}
@@ -14,14 +14,14 @@ use Rattle.words.specs.declared.Verdict.{Verdict}
 use Rattle.words.proofs.VerdictLaws.{and-then-next, and-then-stays, single-ok, single-refused}
 use Rattle.setup.specs.Layout.{frontWords}
 use Rattle.setup.specs.Limits.{fades}
-use Rattle.setup.specs.Setup.{frontOf}
 use Rattle.setup.specs.Check.{setupVerdict}
+use Rattle.changes.proofs.SectionTests.{new-most}
 use Rattle.image.specs.Layout.{imageLength}
 use Rattle.image.specs.Check.{checkTail, checkImage}
 use Rattle.image.proofs.TailLaws.{image-zero}
 use Rattle.presence.specs.Valid.{roomy, Valid, stateVerdict, saveVerdict, savedOut}
 use Rattle.presence.specs.Opening.{blank}
-use Rattle.presence.specs.Image.{imageRuns, imageOf, stateOf, loadOf, roomFor}
+use Rattle.presence.specs.Image.{imageRuns, imageOf, stateOf, loadOf, stateLength, roomFor}
 use Rattle.presence.specs.declared.State.{State}
 use Rattle.presence.specs.declared.Opened.{Opened}
 use Rattle.presence.proofs.SmallLaws.{Small, valid-small}
@@ -43,9 +43,13 @@ load-accepted s h t =
 
 -- ---- the length of an image, as it is found from the limits
 
-pub length-by : {b : Bool} {front k : ℕ} (st : State) → b ≡ fades (st .setup .limits) → front ≡ frontWords b → k ≡ imageLength front (st .setup .n)
-    → k ≡ imageLength (frontOf (st .setup)) (st .setup .n)
-length-by st f e l = l ∙ ap (λ (x : ℕ). imageLength x (st .setup .n)) (e ∙ ap frontWords f)
+pub length-by : {b : Bool} {front k : ℕ} (st : State) → b ≡ fades (st .setup .limits) → front ≡ frontWords b → k ≡ imageLength front (st .setup .n) (st .pending .left)
+    → k ≡ stateLength st (st .pending .left)
+length-by st f e l = l ∙ ap (λ (x : ℕ). imageLength x (st .setup .n) (st .pending .left)) (e ∙ ap frontWords f)
+
+-- no image is longer than 432 bytes
+pub length-most : (front n left : ℕ) → front ≤ 6 → n ≤ 16 → imageLength front n left ≤ 432
+length-most front n left h l = omega (arith, new-most n left)
 
 -- ---- v is the answer for the setup of a struct
 
@@ -97,23 +101,23 @@ module _ {v : Verdict} (st : State) (out : List ℕ) (e : v ≡ stateVerdict st)
       let h : v ≡ saveVerdict st out = sym (and-then-stays v _ f) ∙ goes-on in
       (h, stays h f)
 
-  pub save-short : {r : Verdict} → r ≡ verdict 9 0 → v .number ≡ 0 → (length out ≡ imageLength (frontOf (st .setup)) (st .setup .n) → ⊥)
+  pub save-short : {r : Verdict} → r ≡ verdict 9 0 → v .number ≡ 0 → (length out ≡ stateLength st (st .pending .left) → ⊥)
       → (r ≡ saveVerdict st out) × (out ≡ savedOut st out)
   unfolding roomFor
   save-short {r} q z f =
       let h : r ≡ saveVerdict st out =
-      q ∙ sym (single-refused (eqb (length out) (imageLength (frontOf (st .setup)) (st .setup .n))) 9 0 (ne-eqb _ _ f)) ∙ sym (and-then-next v _ z) ∙ goes-on
+      q ∙ sym (single-refused (eqb (length out) (stateLength st (st .pending .left))) 9 0 (ne-eqb _ _ f)) ∙ sym (and-then-next v _ z) ∙ goes-on
       in
       (h, stays h (λ y. nine (ap (λ (x : Verdict). x .number) (sym q) ∙ y)))
     where
       nine : _≡_ {A = ℕ} 9 0 → ⊥
       nine y = omega arith
 
-  pub save-done : {r : Verdict} {o : List ℕ} → r ≡ accepted → o ≡ imageOf st → v .number ≡ 0 → length out ≡ imageLength (frontOf (st .setup)) (st .setup .n)
+  pub save-done : {r : Verdict} {o : List ℕ} → r ≡ accepted → o ≡ imageOf st → v .number ≡ 0 → length out ≡ stateLength st (st .pending .left)
       → (r ≡ saveVerdict st out) × (o ≡ savedOut st out)
   unfolding roomFor savedOut
   save-done {r} {o} q b z l =
       let h : r ≡ saveVerdict st out =
-      q ∙ sym (single-ok (eqb (length out) (imageLength (frontOf (st .setup)) (st .setup .n))) 9 0 (eq-eqb _ _ l)) ∙ sym (and-then-next v _ z) ∙ goes-on
+      q ∙ sym (single-ok (eqb (length out) (stateLength st (st .pending .left))) 9 0 (eq-eqb _ _ l)) ∙ sym (and-then-next v _ z) ∙ goes-on
       in
       (h, b ∙ sym (cond-true (imageOf st) out (ap isAccepted (sym h ∙ q))))

@@ -1,5 +1,5 @@
 -- What an opening and a step answer, put together from the answers of their parts.
-use mathlib.Core.Path.{_≡_, refl, ap, ap₂, _∙_, sym}
+use mathlib.Core.Path.{_≡_, refl, ap, ap₂, _∙_, sym, subst}
 use mathlib.Core.Bool.{Bool, true, false, cond, _||_}
 use mathlib.Core.Logic.{⊎-elim}
 use mathlib.Core.List.{List}
@@ -25,11 +25,17 @@ use Rattle.accounts.proofs.RoundLaws.{kept-countable}
 use Rattle.rules.specs.declared.Reading.{Reading}
 use Rattle.accounts.specs.declared.Counters.{Counters}
 use Rattle.rules.specs.declared.Judgement.{Judgement}
+use Rattle.changes.specs.Pending.{nothing}
+use Rattle.changes.specs.Books.{turned, counted, booksAfter}
+use Rattle.changes.specs.declared.Books.{Books}
+use Rattle.changes.specs.declared.Pending.{Pending}
+use Rattle.changes.proofs.TurnLaws.{turned-setup-fits}
 use Rattle.image.specs.Counters.{zeroCounters}
 use Rattle.image.proofs.CounterLaws.{within-kept, within-waits}
+use Rattle.image.proofs.BooksLaws.{turned-accounts}
 use Rattle.presence.specs.Valid.{stateVerdict, Valid}
 use Rattle.presence.specs.Opening.{fresh, blank, checkOpening, openOf}
-use Rattle.presence.specs.Step.{skewOf, placeOf, ownSyndrome, alignedFor, judgementFor, outgoingFor, afterRound, refusedStep, acceptedStep, readStep, stepOf}
+use Rattle.presence.specs.Step.{skewOf, placeOf, ownSyndrome, alignedFor, judgementFor, outgoingFor, booksOf, afterRound, refusedStep, acceptedStep, readStep, stepOf}
 use Rattle.presence.specs.declared.State.{State}
 use Rattle.presence.specs.declared.Opened.{Opened}
 use Rattle.presence.specs.declared.Stepped.{Stepped}
@@ -58,24 +64,39 @@ place-small st f e =
 
 -- ---- rule 8
 
-pub after-made : (st : State) (this : Reading) {j : Judgement} {c : Counters} → j ≡ judgementFor st this
-    → c ≡ countersOf (st .setup) (j .health) (st .counters)
+pub after-made : (st : State) (this : Reading) {j : Judgement} {c : Counters} {b : Books} → j ≡ judgementFor st this → b ≡ turned (booksOf st)
+    → c ≡ countersOf (b .setup) (j .health) (b .counters)
     → _≡_ {A = State}
-    (record { setup = st .setup; own = st .own; counters = c; previous = this; latest = j .syndrome; earlier = st .latest }) (afterRound st this)
-unfolding afterRound
-after-made st this {j} {c} e h =
-    let made : Judgement → Counters → State =
-    λ k d. record { setup = st .setup; own = st .own; counters = d; previous = this; latest = k .syndrome; earlier = st .latest }
+    (record { setup = b .setup; own = st .own; counters = c; previous = this; latest = j .syndrome; earlier = st .latest; pending = b .pending }) (afterRound st this)
+unfolding afterRound booksAfter counted
+after-made st this {j} {c} {b} e f h =
+    let made : Books → Judgement → Counters → State =
+    λ x k d. record { setup = x .setup; own = st .own; counters = d; previous = this; latest = k .syndrome; earlier = st .latest; pending = x .pending }
     in
-    ap₂ made e (h ∙ ap (λ (k : Judgement). countersOf (st .setup) (k .health) (st .counters)) e)
+    ap₂ (made b) e (h ∙ ap (λ (k : Judgement). countersOf (b .setup) (k .health) (b .counters)) e)
+    ∙ ap (λ (x : Books). made x (judgementFor st this) (countersOf (x .setup) (judgementFor st this .health) (x .counters))) f
 
--- the accounts of a valid state are small enough to add to
-pub in-range : (st : State) → StateFits st → (j : ℕ) → j < st .setup .n
-    → AccountRange (st .setup .limits) (st .setup .q) (getD (st .setup .criticality) j 0) (accountAt (st .counters) j)
+-- the accounts of a valid state are small enough to add to, after a change that is due has taken effect
+pub in-range : (st : State) → StateFits st → (j : ℕ) → j < turned (booksOf st) .setup .n
+    → AccountRange (turned (booksOf st) .setup .limits) (turned (booksOf st) .setup .q) (getD (turned (booksOf st) .setup .criticality) j 0)
+    (accountAt (turned (booksOf st) .counters) j)
 in-range st f j h =
-    let l = st .setup .limits in
-    kept-countable l (st .setup .q) _ _ (f .setup .limits) (f .setup .q-most) (f .setup .each j h .most)
-    (within-waits l (st .setup) (st .counters) (f .counters) j h) (within-kept l (st .setup) (st .counters) (f .setup .most) (f .counters) j h)
+    let b = turned (booksOf st) in
+    let l = b .setup .limits in
+    let s = turned-setup-fits (booksOf st) (f .pending) (f .setup) in
+    let k = turned-accounts (booksOf st) (f .setup) (f .pending) (f .counters) in
+    kept-countable l (b .setup .q) _ _ (s .limits) (s .q-most) (s .each j h .most)
+    (within-waits l (b .setup) (b .counters) k j h) (within-kept l (b .setup) (b .counters) (s .most) k j h)
+
+-- the same of books that are already turned
+pub books-range : (st : State) {b : Books} → StateFits st → b ≡ turned (booksOf st)
+    → (b .setup .n ≤ 16)
+    × ((j : ℕ) → j < b .setup .n → AccountRange (b .setup .limits) (b .setup .q) (getD (b .setup .criticality) j 0) (accountAt (b .counters) j))
+books-range st f e =
+    subst
+    (λ (b : Books). (b .setup .n ≤ 16)
+    × ((j : ℕ) → j < b .setup .n → AccountRange (b .setup .limits) (b .setup .q) (getD (b .setup .criticality) j 0) (accountAt (b .counters) j)))
+    (sym e) (turned-setup-fits (booksOf st) (f .pending) (f .setup) .most, in-range st f)
 
 -- ---- the round
 
@@ -128,14 +149,16 @@ step-of st {k} read controller {t} e v h =
 
 -- ---- opening
 
-pub fresh-made : (s : Setup) (own : ℕ) {v : ℕ} {rows : List ℕ} {c : Counters} → v ≡ full (s .n) → rows ≡ array (s .n) (λ j. v) → c ≡ zeroCounters v
-    → _≡_ {A = State} (record { setup = s; own = own; counters = c; previous = record { heard = v; rows = rows }; latest = v; earlier = v }) (fresh s own)
+pub fresh-made : (s : Setup) (own : ℕ) {v : ℕ} {rows : List ℕ} {c : Counters} {p : Pending} → v ≡ full (s .n) → rows ≡ array (s .n) (λ j. v)
+    → c ≡ zeroCounters v → p ≡ nothing
+    → _≡_ {A = State} (record { setup = s; own = own; counters = c; previous = record { heard = v; rows = rows }; latest = v; earlier = v; pending = p }) (fresh s own)
 unfolding fresh
-fresh-made s own {v} {rows} {c} e h k =
+fresh-made s own {v} {rows} {c} {p} e h k n =
     let made : ℕ → List ℕ → Counters → State =
-    λ x r d. record { setup = s; own = own; counters = d; previous = record { heard = x; rows = r }; latest = x; earlier = x }
+    λ x r d. record { setup = s; own = own; counters = d; previous = record { heard = x; rows = r }; latest = x; earlier = x; pending = nothing }
     in
-    ap (made v rows) k ∙ ap₂ (λ (x : ℕ) (r : List ℕ). made x r (zeroCounters v)) e (h ∙ ap (λ (x : ℕ). array (s .n) (λ j. x)) e)
+    (λ i. record { setup = s; own = own; counters = c; previous = record { heard = v; rows = rows }; latest = v; earlier = v; pending = n i })
+    ∙ ap (made v rows) k ∙ ap₂ (λ (x : ℕ) (r : List ℕ). made x r (zeroCounters v)) e (h ∙ ap (λ (x : ℕ). array (s .n) (λ j. x)) e)
     ∙ ap (λ (x : ℕ). made (full (s .n)) (array (s .n) (λ j. full (s .n))) (zeroCounters x)) e
 
 -- a number is out of range

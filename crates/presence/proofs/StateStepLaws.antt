@@ -1,5 +1,5 @@
 -- What an opening and a step answer: accepted, what they give; refused, that the state stays. An accepted call gives a valid state.
-use mathlib.Core.Path.{_≡_, refl, ap, _∙_, sym, subst}
+use mathlib.Core.Path.{_≡_, refl, ap, ap₂, _∙_, sym, subst}
 use mathlib.Core.Bool.{Bool, true, false, cond}
 use mathlib.Core.Logic.{_≢_}
 use mathlib.Core.List.{List}
@@ -18,10 +18,13 @@ use Rattle.setup.specs.Check.{headFits, roomVerdict, setupVerdict}
 use Rattle.setup.specs.declared.Setup.{Setup}
 use Rattle.setup.proofs.SetupLaws.{SetupFits, verdict-fits, fits-verdict as setup-accepted}
 use Rattle.rules.specs.Hearing.{wordHeard, readingOf, causesOf}
+use Rattle.rules.specs.Lag.{skewed}
 use Rattle.rules.specs.Syndrome.{outgoingOf}
+use Rattle.changes.specs.Books.{counted, booksAfter}
+use Rattle.changes.proofs.TurnLaws.{turned-size, turned-places}
 use Rattle.presence.specs.Valid.{stateVerdict, Valid}
 use Rattle.presence.specs.Opening.{fresh, blank, checkOpening, openOf}
-use Rattle.presence.specs.Step.{skewOf, markOf, ownSyndrome, judgementFor, outgoingFor, afterRound, refusedStep, acceptedStep, readStep, stepOf}
+use Rattle.presence.specs.Step.{skewOf, markOf, ownSyndrome, booksOf, judgementFor, outgoingFor, afterRound, refusedStep, acceptedStep, readStep, stepOf}
 use Rattle.rules.specs.declared.Reading.{Reading}
 use Rattle.presence.specs.declared.State.{State}
 use Rattle.presence.specs.declared.Opened.{Opened}
@@ -35,8 +38,9 @@ use Rattle.presence.proofs.ValidLaws.{StateFits, valid-fits, fits-verdi
 -- An empty vote of the next step falls back on the syndrome of one step before the last where u is 1, else on that of the last.
 pub own-after : (st : State) (this : Reading)
     → ownSyndrome (afterRound st this) ≡ cond (skewOf st) (st .latest) (judgementFor st this .syndrome)
-unfolding ownSyndrome afterRound
-own-after st this = refl
+unfolding ownSyndrome afterRound booksAfter counted
+own-after st this =
+    ap₂ (λ (n : ℕ) (places : List ℕ). cond (skewed n places) (st .latest) (judgementFor st this .syndrome)) (turned-size (booksOf st)) (turned-places (booksOf st))
 
 -- A valid state hands out no word that a receiver would not hear.
 pub outgoing-heard : (st : State) (this : Reading) → StateFits st → wordHeard (st .setup .n) (outgoingFor st this) ≡ true

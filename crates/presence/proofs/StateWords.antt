@@ -1,14 +1,15 @@
 -- Where the words of a state's image stand, and the fields that are read from them.
 use mathlib.Core.Path.{_≡_, refl, ap, _∙_, subst}
 use mathlib.Core.Bool.{Bool, true, false}
-use mathlib.Core.List.{[]}
+use mathlib.Core.List.{List, [], _++_}
 use Prim.Native.Nat.{ℕ, _+_, _<_}
 use native.Mathlib.Omega.{arith}
 use lib.ListN.{getD, length}
 use Rattle.words.specs.Word.{wordAt}
 use Rattle.words.specs.Bits.{bit}
-use Rattle.words.specs.Runs.{total, runsOf, runWord}
+use Rattle.words.specs.Runs.{Run, total, runsOf, runWord}
 use Rattle.words.proofs.RunLaws.{Follows, runs-length, runs-follow, run-words}
+use Rattle.words.proofs.RunJoinLaws.{total-join, follow-split, follow-moved}
 use Rattle.setup.specs.Limits.{fades}
 use Rattle.setup.specs.Setup.{headWord, returnLimitIn, criticalityIn, frontOf}
 use Rattle.setup.proofs.BoundLaws.{LimitsStand, limits-back, fit-room}
@@ -16,13 +17,15 @@ use Rattle.setup.proofs.SetupLaws.{SetupFits}
 use Rattle.setup.proofs.SetupWords.{moduleOf}
 use Rattle.setup.proofs.WordFields.{return-back, criticality-back}
 use Rattle.accounts.specs.declared.Counters.{Counters}
-use Rattle.image.specs.Layout.{ownAt, rowsAt, latestAt, earlierAt, accountsAt, imageLength}
+use Rattle.changes.specs.Words.{newCount, changeRuns}
+use Rattle.changes.proofs.SectionLaws.{change-total}
+use Rattle.image.specs.Layout.{ownAt, rowsAt, latestAt, earlierAt, accountsAt, leftAt}
 use Rattle.image.specs.Words.{ownWord, ownIn, viewIn, syndromeWord, syndromeIn}
 use Rattle.image.specs.Rows.{rowWord}
 use Rattle.image.specs.Counters.{counterRuns}
 use Rattle.image.proofs.SingleWords.{own-back, view-back, syndrome-back}
 use Rattle.image.proofs.CounterLaws.{SetupWords}
-use Rattle.presence.specs.Image.{stateRuns, imageRuns, imageOf}
+use Rattle.presence.specs.Image.{stateRuns, imageRuns, imageOf, stateLength}
 use Rattle.presence.specs.declared.State.{State}
 use Rattle.presence.proofs.SmallLaws.{Small}
 
@@ -31,18 +34,33 @@ pub image-words : (st : State) → wordAt (imageOf st) ≡ runWord (imageRuns st
 unfolding imageOf
 image-words st = run-words (imageRuns st)
 
-counters-total : (b : Bool) (n : ℕ) (c : Counters) → total (counterRuns b n c) ≡ n + n + n
+pub counters-total : (b : Bool) (n : ℕ) (c : Counters) → total (counterRuns b n c) ≡ n + n + n
 unfolding total
 counters-total true n c = omega arith
 counters-total false n c = omega arith
 
-pub state-total : (st : State) → total (stateRuns st) ≡ st .setup .n + 3 + (st .setup .n + st .setup .n + st .setup .n)
-unfolding total
-state-total st = omega (arith, counters-total (fades (st .setup .limits)) (st .setup .n) (st .counters))
+-- the accounts and the pending change
+abbrev pub lastRuns : State → List Run
+lastRuns st = counterRuns (fades (st .setup .limits)) (st .setup .n) (st .counters) ++ changeRuns (st .setup) (st .pending)
 
-pub image-length : (st : State) → length (imageOf st) ≡ imageLength (frontOf (st .setup)) (st .setup .n)
+last-total : (st : State) → total (lastRuns st) ≡ st .setup .n + st .setup .n + st .setup .n + (1 + newCount (st .setup .n) (st .pending .left))
+last-total st =
+    let counts = counterRuns (fades (st .setup .limits)) (st .setup .n) (st .counters) in
+    omega (
+      arith,
+      total-join counts (changeRuns (st .setup) (st .pending)),
+      counters-total (fades (st .setup .limits)) (st .setup .n) (st .counters),
+      change-total (st .setup) (st .pending),
+    )
+
+pub state-total : (st : State)
+    → total (stateRuns st) ≡ st .setup .n + 3 + (st .setup .n + st .setup .n + st .setup .n + (1 + newCount (st .setup .n) (st .pending .left)))
+unfolding total
+state-total st = omega (arith, last-total st)
+
+pub image-length : (st : State) → length (imageOf st) ≡ stateLength st (st .pending .left)
 unfolding imageOf total
-image-length st = runs-length (imageRuns st) ∙ omega (arith, counters-total (fades (st .setup .limits)) (st .setup .n) (st .counters))
+image-length st = runs-length (imageRuns st) ∙ omega (arith, last-total st)
 
 -- w are the words of the image
 pub record Stands (st : State) (w : ℕ → ℕ) : Type 0 where
@@ -54,11 +72,14 @@ pub record Stands (st : State) (w : ℕ → ℕ) : Type 0 where
   pub latest : w (latestAt (frontOf (st .setup)) (st .setup .n)) ≡ syndromeWord (st .latest)
   pub earlier : w (earlierAt (frontOf (st .setup)) (st .setup .n)) ≡ syndromeWord (st .earlier)
   pub counters : Follows w (accountsAt (frontOf (st .setup)) (st .setup .n)) (counterRuns (fades (st .setup .limits)) (st .setup .n) (st .counters))
+  pub change : Follows w (leftAt (frontOf (st .setup)) (st .setup .n)) (changeRuns (st .setup) (st .pending))
 
 pub stands-bytes : (st : State) → Stands st (wordAt (imageOf st))
 unfolding imageOf runsOf Follows
 stands-bytes st =
-    let (head, (limits, (modules, (own, (rows, (latest, (earlier, counters))))))) = runs-follow [] 0 (imageRuns st) refl in
+    let (head, (limits, (modules, (own, (rows, (latest, (earlier, last))))))) = runs-follow [] 0 (imageRuns st) refl in
+    let counts = counterRuns (fades (st .setup .limits)) (st .setup .n) (st .counters) in
+    let (counters, change) = follow-split (wordAt (imageOf st)) _ counts (changeRuns (st .setup) (st .pending)) last in
     record {
       head = head 0 (omega arith);
       limits = limits;
@@ -68,6 +89,7 @@ stands-bytes st =
       latest = rw (none (latestAt (frontOf (st .setup)) (st .setup .n))) at (latest 0 (omega arith));
       earlier = rw (none (earlierAt (frontOf (st .setup)) (st .setup .n))) at (earlier 0 (omega arith));
       counters = counters;
+      change = follow-moved (wordAt (imageOf st)) (changeRuns (st .setup) (st .pending)) (omega (arith, counters-total (fades (st .setup .limits)) (st .setup .n) (st .counters))) change;
     }
   where
     none : (k : ℕ) → k + 0 ≡ k

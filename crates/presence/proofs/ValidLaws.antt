@@ -1,8 +1,8 @@
 -- A valid state, field by field; a fresh module is valid, and a round keeps it so.
-use mathlib.Core.Path.{_≡_, refl, ap, _∙_}
-use mathlib.Core.Bool.{true}
+use mathlib.Core.Path.{_≡_, refl, ap, _∙_, sym}
+use mathlib.Core.Bool.{Bool, true}
 use mathlib.Core.List.{List}
-use Prim.Native.Nat.{ℕ, _^_, _<_, _≤_}
+use Prim.Native.Nat.{ℕ, _+_, _^_, _<_, _≤_}
 use native.Mathlib.Omega.{arith}
 use lib.ListN.{getD}
 use lib.Pow.{pow-mono}
@@ -14,6 +14,7 @@ use Rattle.words.specs.declared.Verdict.{Verdict}
 use Rattle.words.proofs.BitLaws.{pack-lt, full-lt, bit-full}
 use Rattle.words.proofs.ArrayLaws.{clearFrom, array-at, array-clear}
 use Rattle.words.proofs.VerdictLaws.{and-then-next, single-ok}
+use Rattle.setup.specs.Layout.{frontWords}
 use Rattle.setup.specs.Limits.{fades}
 use Rattle.setup.specs.Setup.{frontOf}
 use Rattle.setup.specs.Check.{setupVerdict}
@@ -22,19 +23,28 @@ use Rattle.setup.proofs.SetupLaws.{SetupFits, verdict-fits, fits-verdict as set
 use Rattle.rules.specs.Hearing.{readingOf}
 use Rattle.accounts.specs.Round.{countersOf}
 use Rattle.rules.proofs.SyndromeLaws.{syndrome-lt}
-use Rattle.image.specs.Layout.{ownAt}
+use Rattle.changes.specs.Pending.{pendingOf}
+use Rattle.changes.specs.Books.{turned, counted, booksAfter}
+use Rattle.changes.specs.Frame.{frameVerdict}
+use Rattle.changes.proofs.PendingLaws.{PendingFits, nothing-fits, frame-fits, fits-small as fits-pending}
+use Rattle.changes.proofs.SectionLaws.{ModulesStand, change-ok, change-pass}
+use Rattle.changes.proofs.TurnLaws.{turned-size, turned-setup-fits, turned-pending-fits}
+use Rattle.image.specs.Layout.{ownAt, leftAt}
 use Rattle.image.specs.Rows.{rowFits}
 use Rattle.image.proofs.TailLaws.{TailFits, tail-pass, tail-ok}
 use Rattle.image.proofs.SingleWords.{own-made, syndrome-made, own-number-right, own-right, syndrome-right}
 use Rattle.image.proofs.RowLaws.{row-small, rows-ok, rows-pass, reading-fits}
 use Rattle.image.proofs.CounterLaws.{AccountsWithin, accounts-small, accounts-ok, accounts-pass, zero-accounts, round-accounts}
+use Rattle.image.proofs.BooksLaws.{turned-accounts}
 use Rattle.presence.specs.Image.{imageRuns}
 use Rattle.presence.specs.Valid.{roomy, stateVerdict, Valid}
 use Rattle.presence.specs.Opening.{fresh}
-use Rattle.presence.specs.Step.{judgementFor, afterRound}
+use Rattle.presence.specs.Step.{judgementFor, booksOf, afterRound}
+use Rattle.presence.specs.Change.{withPending}
 use Rattle.presence.specs.declared.State.{State}
 use Rattle.presence.proofs.SmallLaws.{Small, small-roomy, valid-setup, valid-small, valid-tail}
-use Rattle.presence.proofs.StateWords.{stands, state-read}
+use Rattle.presence.proofs.StateWords.{Stands, stands, state-read}
+use Rattle.presence.proofs.FrameLaws.{frame-pass, follows-lead}
 
 pub record StateFits (st : State) : Type 0 where
   pub setup : SetupFits (st .setup)
@@ -47,6 +57,11 @@ pub record StateFits (st : State) : Type 0 where
   pub counters : AccountsWithin (st .setup .limits) (st .setup) (st .counters)
   pub heard : st .previous .heard < 2 ^ st .setup .n
   pub no-rows : clearFrom (st .setup .n) (st .previous .rows) ≡ true
+  pub pending : PendingFits (st .setup) (st .pending)
+
+-- the module words of a setup that counts
+modules-stand : (st : State) {w : ℕ → ℕ} → Stands st w → ModulesStand w (st .setup)
+modules-stand st {w} d e j h = ap (λ (b : Bool). w (frontWords b + j)) (sym e) ∙ d .modules j h
 
 pub valid-fits : (st : State) → Valid st → StateFits st
 valid-fits st e =
@@ -70,6 +85,7 @@ valid-fits st e =
       counters = accounts-pass w (st .setup .limits) (st .setup) (st .counters) (f .most) (m .counters) (d .counters) (b .before) (t .counters);
       heard = m .rows .heard;
       no-rows = m .rows .no-rows;
+      pending = change-pass w (leftAt front n) (st .setup) (st .pending) f (modules-stand st d) (d .change) (m .pending) (t .change);
     }
 
 below : (v n : ℕ) → v < 2 ^ n → n ≤ 16 → v < 2 ^ 16
@@ -92,6 +108,7 @@ fits-small st f =
             no-rows = f .no-rows;
           };
       counters = accounts-small (st .setup .limits) (st .setup) (st .counters) (f .setup .limits) (f .setup) (f .counters);
+      pending = fits-pending (st .setup) (st .pending) (f .setup) (f .pending);
     }
 
 -- the words of its image are right
@@ -109,6 +126,7 @@ tail-fits st f =
       latest = rw (d .latest) (syndrome-right n (st .latest) (m .latest) (f .latest));
       earlier = rw (d .earlier) (syndrome-right n (st .earlier) (m .earlier) (f .earlier));
       counters = accounts-ok w (st .setup .limits) (st .setup) (st .counters) (f .setup .most) (m .counters) (d .counters) (b .before) (f .counters);
+      change = change-ok w (leftAt (frontOf (st .setup)) n) (st .setup) (st .pending) (f .setup) (modules-stand st d) (d .change) (f .pending);
     }
 
 pub fits-verdict : (st : State) → StateFits st → stateVerdict st ≡ accepted
@@ -138,24 +156,50 @@ fresh-fits s own f h l =
       counters = zero-accounts (s .limits) s (f .limits) f;
       heard = full-lt (s .n);
       no-rows = array-clear (s .n) (λ j. full (s .n));
+      pending = nothing-fits s;
     }
 
 -- ---- a round
 
 pub after-fits : (st : State) (read : List ℕ) (controller : ℕ) → StateFits st
     → StateFits (afterRound st (readingOf (st .setup .n) read controller))
-unfolding afterRound judgementFor readingOf countersOf
+unfolding afterRound judgementFor readingOf booksAfter counted countersOf
 after-fits st read controller f =
     let n = st .setup .n in
+    let b = turned (booksOf st) in
+    let e : b .setup .n ≡ n = turned-size (booksOf st) in
+    let s : SetupFits (b .setup) = turned-setup-fits (booksOf st) (f .pending) (f .setup) in
+    record {
+      setup = s;
+      first = f .first;
+      last = rw e (f .last);
+      view = pack-lt (b .setup .n) _;
+      rows = λ j h. rw e (reading-fits n read controller j (rw e at h) (f .setup .most));
+      latest = rw e (syndrome-lt n _ _ _);
+      earlier = rw e (f .latest);
+      counters = round-accounts (b .setup .limits) (b .setup) _ (b .counters) refl (s .limits) s (turned-accounts (booksOf st) (f .setup) (f .pending) (f .counters));
+      heard = rw e (pack-lt n _);
+      no-rows = rw e (array-clear n _);
+      pending = turned-pending-fits (booksOf st) (f .pending);
+    }
+
+-- ---- a change
+
+pub change-fits : (st : State) (new : Setup) (lead : ℕ) → StateFits st → SetupFits new → frameVerdict (st .setup) (st .pending) new lead .number ≡ 0
+    → StateFits (withPending st (pendingOf new lead))
+change-fits st new lead f g e =
+    let (same, follows) = frame-pass (st .setup) (st .pending) new lead e in
+    let (least, most) = follows-lead (st .pending) lead follows in
     record {
       setup = f .setup;
       first = f .first;
       last = f .last;
-      view = pack-lt n _;
-      rows = λ j h. reading-fits n read controller j h (f .setup .most);
-      latest = syndrome-lt n _ _ _;
-      earlier = f .latest;
-      counters = round-accounts (st .setup .limits) (st .setup) _ (st .counters) refl (f .setup .limits) (f .setup) (f .counters);
-      heard = pack-lt n _;
-      no-rows = array-clear n _;
+      view = f .view;
+      rows = f .rows;
+      latest = f .latest;
+      earlier = f .earlier;
+      counters = f .counters;
+      heard = f .heard;
+      no-rows = f .no-rows;
+      pending = frame-fits (st .setup) new (f .setup) g same lead least most;
     }

@@ -26,10 +26,13 @@ pub(crate) fn save_words(state: State, out: &mut [u8])
     requires { ⌜ (setupVerdict (state .setup) .number ≡ 0) × (roomy state ≡ true) × (length (now out) ≡ stateLength state (state .pending .left)) ⌝ }
     ensures { λ _. ⌜ now (out .exit) ≡ imageOf state ⌝ }
 {
+    let pending = state.pending;
     let setup = state.setup;
     let limits = setup.limits;
     let form = fades(limits);
-    let k = setup_length(front_words(form), setup.n);
+    let front = front_words(form);
+    let k = setup_length(front, setup.n);
+    let at = left_at(front, setup.n);
     let previous = state.previous;
     let counters = state.counters;
     let rows = previous.rows;
@@ -49,8 +52,7 @@ pub(crate) fn save_words(state: State, out: &mut [u8])
         out,
     );
     save_accounts(form, setup.n, &first, &second, &returns, out);
-    let pending = state.pending;
-    save_change(setup, pending, out, left_at(front_words(form), setup.n));
+    save_change(setup, pending, out, at);
 }
 
 impl State {
@@ -58,13 +60,13 @@ impl State {
     pub fn save(self, out: &mut [u8]) -> Verdict
         ensures { λ r. ⌜ (r ≡ saveVerdict self (now (out .entry))) × (now (out .exit) ≡ savedOut self (now (out .entry))) ⌝ }
     {
+        let pending = self.pending;
         let v = self.verdict();
         if v.number != 0 {
             return v;
         }
         let setup = self.setup;
         let limits = setup.limits;
-        let pending = self.pending;
         if out.len() != image_length(front_words(fades(limits)), setup.n, pending.left) {
             return refusal(9, 0);
         }

@@ -36,8 +36,8 @@ fn roomy(state: State) -> bool
     let own = (state.own <= MOST_MODULES) & (counters.view < VECTOR);
     let alone = own & ((state.latest < VECTOR) & (state.earlier < VECTOR));
     let pending = state.pending;
-    let counted = counters_roomy(fades(limits), n, counters) & pending_roomy(n, pending);
-    alone & (rows_roomy(n, previous) & counted)
+    let held = pending_roomy(n, pending);
+    alone & (rows_roomy(n, previous) & (counters_roomy(fades(limits), n, counters) & held))
 }
 
 // Numbers 7 and 8 of a state's image, which is written to `out`.
@@ -56,6 +56,7 @@ impl State {
     pub fn verdict(self) -> Verdict
         ensures { λ r. ⌜ r ≡ stateVerdict self ⌝ }
     {
+        let pending = self.pending;
         let setup = self.setup;
         let v = setup::fields::verdict(setup);
         if v.number != 0 {
@@ -67,7 +68,6 @@ impl State {
         // room for the longest image
         let limits = setup.limits;
         let mut out = [0u8; 432];
-        let pending = self.pending;
         let k = image_length(front_words(fades(limits)), setup.n, pending.left);
         image_verdict(self, &mut out[..k])
     }
