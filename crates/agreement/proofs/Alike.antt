@@ -21,11 +21,10 @@ use Rattle.presence.specs.Valid.{stateVerdict}
 use Rattle.presence.specs.Change.{newVerdict, changeVerdict, withPending, changeOf}
 use Rattle.presence.specs.declared.State.{State}
 use Rattle.presence.proofs.ValidLaws.{StateFits, fits-valid}
-use Rattle.presence.proofs.ChangeLaws.{change-fits}
 use Rattle.agreement.specs.Session.{Offer, made, Session, Accepted, RuleFollower, state, Accepts, Common, Bound}
 use Rattle.agreement.specs.Demand.{KeptTo}
 use Rattle.agreement.specs.Existence.{OfferedAlike, CommonWhereAlike, NoChanges}
-use Rattle.agreement.proofs.Offers.{change-only}
+use Rattle.agreement.proofs.Offers.{change-fits, change-only}
 use Rattle.agreement.proofs.Steps.{held}
 use Rattle.agreement.proofs.Shared.{books-eq}
 use Rattle.agreement.proofs.Ledger.{all-agree}

@@ -1,7 +1,6 @@
 -- The steps of a session: every one is accepted, and gives what rules 1 to 8 make of its read. A module's life is its steps and its changes.
 use Prim.Native.Nat.{ℕ, zero, suc, _+_, _*_, _^_, _≤_, _<_}
 use mathlib.Core.Path.{_≡_, refl, sym, ap, _∙_, subst}
-use mathlib.Core.Logic.{⊎-elim}
 use mathlib.Core.List.{List, [], _∷_, _++_}
 use native.Mathlib.Omega.{arith}
 use lib.ListN.{length}
@@ -22,7 +21,7 @@ use Rattle.presence.specs.declared.Opened.{Opened}
 use Rattle.presence.specs.declared.Stepped.{Stepped}
 use Rattle.presence.proofs.ValidLaws.{StateFits, fits-valid, fresh-fits, after-fits}
 use Rattle.presence.proofs.StateStepLaws.{step-accepts, step-refused, open-accepts}
-use Rattle.presence.proofs.ChangeLaws.{change-cases}
+use Rattle.presence.proofs.StateChangeLaws.{change-refused}
 use Rattle.agreement.specs.Session.{Offer, made, Session, Accepted, size, readBits, readBytes, answerAt, state, ready, health, handed}
 use Rattle.agreement.specs.Life.{Life, opens, steps, changes, refused-step, refused-change, refused-opening}
 use Rattle.agreement.specs.Demand.{ByRules}
@@ -176,9 +175,7 @@ module _ (S : Session) (ok : Accepted S) where
         record { done = r .done; offered = r .offered; holds = step-refused before read controller no-zero ∙ r .holds; answered = r .answered }
     life k h os st (refused-change {st = before} s lead l no-zero) =
         let r = life k h os before l in
-        let same : changeOf before s lead .state ≡ before
-        = ⊎-elim (λ yes. let (z, y, e) = yes in absurd (no-zero z)) (λ none. none .1) (change-cases before s lead) in
-        record { done = r .done; offered = r .offered; holds = same ∙ r .holds; answered = r .answered }
+        record { done = r .done; offered = r .offered; holds = change-refused before s lead no-zero ∙ r .holds; answered = r .answered }
     life k h os st (refused-opening s own l no-zero) = life k h os st l
 
     pub life-held : (k h : ℕ) (os : List Offer) (st : State) → Life S i k os st h → Held S i st
