@@ -14,3 +14,4 @@ pub mod ScoresCounted
 pub mod Existence
 pub mod Images
 pub mod Stars
+pub mod ChangeCases
