@@ -6,12 +6,13 @@
  * learns from it which modules were healthy and which still count as members
  * (the view).
  *
- * Six functions of a module:
+ * Seven functions of a module:
  *
  *   presence_check_setup   tests a setup
  *   presence_open          setup and own number  -> image of a fresh module
  *   presence_step          image and one read    -> image after the step
  *   presence_save          image                 -> the same image, tested
+ *   presence_change        image and new limits  -> image in which they wait
  *   presence_outgoing      image                 -> word to put on the bus
  *   presence_read_cause    N and one bus word    -> why it is not heard
  *
@@ -24,7 +25,7 @@
  *   presence_page_interrupt  whether the interrupt to the host is on
  *
  * All are in libgirmaut.a (make library); libcalls.a (rt staticlib calls)
- * has the first six alone.
+ * has the first seven alone.
  *
  * A module's state is its image, a block of bytes that the caller keeps.
  * Nothing is kept between calls: the result of a call and the bytes it writes
@@ -174,7 +175,8 @@
  * round before handed out; in round 1 the word of the opened image.
  *
  *
- * IMAGE: 5N+6 words with counts, 5N+9 with fading
+ * IMAGE: 5N+7 words with counts, 5N+10 with fading; with counts and a pending
+ * change (see NEW LIMITS WITHOUT A STOP) 6N+9
  *
  *   counts    fading     kind  content
  *   0..N+2    0..N+5           the setup
@@ -189,12 +191,20 @@
  *             2N+8+2j
  *   4N+5+j    4N+8+j     15    27..23 j; 19..0 return count of j: below Q; 0
  *                              while j is in the view, and where Q is 0
+ *   5N+6      5N+9       -     rounds left until the pending change, 1..1,000;
+ *                              0 if none is pending, so always with fading
+ *   and only while a change is pending
+ *   5N+7      none       2     its penalty limit P
+ *   5N+8      none       3     its reward limit R
+ *   5N+8+j    none       4     module j as in the setup, with its new
+ *                              criticality
  *
  * So in a fading image the view stands three words later: read it by
  * PRESENCE_FADING_VIEW there, by PRESENCE_VIEW in an image with counts.
  *
  * A fresh image has all modules in the view, all rows heard and all ones,
- * both syndromes all ones, all counters 0 and all scores 0.0.
+ * both syndromes all ones, all counters 0, all scores 0.0 and no pending
+ * change.
  *
  *
  * HOW A CARD LEAVES AND COMES BACK
@@ -295,6 +305,80 @@
  * in rounds in which they do not all hear it alike.
  *
  *
+ * NEW LIMITS WITHOUT A STOP
+ *
+ * P, R and the criticalities can be changed while the modules make their steps,
+ * with counts alone.  presence_change takes the image, a whole setup with the
+ * new ones, and a lead from 1 to 1,000: with 1 the next step counts by the new
+ * limits, with 2 the one after it, and so on.  At 2.5 ms a round a lead of 400
+ * is one second.  It writes an image in which the change is pending, with the
+ * lead as the rounds left.  This is the module's current image from then on.
+ *
+ * Each step leaves one round less.  The step from an image with one round left
+ * applies the change.  Its vote and its syndrome go by the view as it was.
+ * Then, before it counts,
+ *
+ *   - a module in the view whose reward is at or above the new R gets penalty 0
+ *     and reward 0;
+ *   - one in the view whose penalty is then above the new P leaves the view;
+ *   - modules outside the view, those that just left among them, get reward 0,
+ *     and a penalty of at least P + 1 and at most P + criticality, by the new
+ *     ones.
+ *
+ * Return counts stay.  Then the round is counted by the new limits.  So with
+ * health 1 a module that the change puts out has its first good round in this
+ * step, and where Q is 1 it is back at once, with penalty P.  The image after
+ * this step has the new setup and no pending change.
+ *
+ * Only one change can be pending.  Nothing else of a setup can be changed: N,
+ * Q, read places and send marks have to be those of the image's setup, and
+ * neither side may fade (23).  P, R and criticalities that are the old ones are
+ * accepted.
+ *
+ * Lengths.  A change makes the image longer by N+2 words, and the step that
+ * applies it writes the shorter one again.  The output of a step has the length
+ * of the image after it:
+ *
+ *     rounds left in the     length of that image      output of the step
+ *     image that is passed
+ *     0                      PRESENCE_IMAGE_BYTES      PRESENCE_IMAGE_BYTES
+ *     1                      PRESENCE_PENDING_         PRESENCE_IMAGE_BYTES
+ *                            IMAGE_BYTES
+ *     2 to 1,000             PRESENCE_PENDING_         PRESENCE_PENDING_
+ *                            IMAGE_BYTES               IMAGE_BYTES
+ *
+ * So give both images of a module room for the longer one, and pass the lengths
+ * that presence_image_bytes and presence_stepped_bytes tell of the current one.
+ * presence_rounds_left tells the rounds left.
+ *
+ * On a whole backplane all modules have to change in the same round.  So offer
+ * the same setup with the same lead to every module between the same two of its
+ * steps: for some round k, to each after its step of round k-1 (for k = 1 its
+ * opening) and before its step of round k.  The step of round k+lead-1 then
+ * applies it at all of them.  With a lead of many rounds there is time to see
+ * whether all have accepted.  Modules that take every change so go on to hold
+ * the same view and the same counters, before the change and after it, while
+ * the fault limit is kept (proved).
+ *
+ *   - A module that has not taken what the others took, or has taken other
+ *     words, no longer follows the rules: for the others it counts as a
+ *     rule-breaker, like one that leaves a step out.  From the round of the
+ *     change on its view and counters may differ from theirs.
+ *   - While the change is pending at the others, such a module can be offered
+ *     the same setup with as many rounds as they have left.  It then changes in
+ *     the same round and holds what they hold (tested; what is proved asks for
+ *     the same lead between the same two steps).  One that is opened meanwhile,
+ *     from the old setup, is offered it in the same way.
+ *   - Afterwards open it anew, from the new setup.  HOW A CARD LEAVES AND COMES
+ *     BACK says what it does then.
+ *   - A pending change can not be taken back.  After it has been applied, offer
+ *     another one.
+ *   - A refused offer changes nothing.
+ *
+ * A saved image keeps the pending change and its rounds left.  The register
+ * page shows of a change what it does to the view.
+ *
+ *
  * READ: N words
  *
  * Word j-1 is the latest word that came in from module j, at the time of the
@@ -328,14 +412,15 @@
  *   32..60  8-15  0
  *
  * A step sets flag 0 if the view that it leaves differs from word 1 of the
- * page that it is lent, and flag 1 if a module that was in the view before the
- * step has health 0 in it.  Flags stay until the host clears them: a write of
- * word 2 clears the flags that are written as ones.  A write of word 3 is
- * stored whole.  A step leaves enable, words 8 to 15 and the other bits of
- * word 2 as they are.  The interrupt is on exactly while flags and enable
- * share a set bit.  So a flag is lost only by a write that names it, or when
- * the page is opened anew; and while a flag is set the interrupt is on whenever
- * its bit of enable is set, be it set before the change or later.
+ * page that it is lent, and flag 1 if a module has health 0 that was in the
+ * view before the step and that no change applied in it has put out.  Flags
+ * stay until the host clears them: a write of word 2 clears the flags that are
+ * written as ones.  A write of word 3 is stored whole.  A step leaves enable,
+ * words 8 to 15 and the other bits of word 2 as they are.  The interrupt is on
+ * exactly while flags and enable share a set bit.  So a flag is lost only by a
+ * write that names it, or when the page is opened anew; and while a flag is set
+ * the interrupt is on whenever its bit of enable is set, be it set before the
+ * flag or later.
  *
  * Words 4 to 7 hold four modules each, one byte a module, module 1 topmost:
  * the cause of module j stands in word 4+(j-1)/4, in bit 31-8*((j-1)%4) and the
@@ -352,10 +437,11 @@
  * number is 0 if the call is accepted.  Otherwise the call is refused: it
  * writes nothing, not even a part of the output or of the page, and answers
  * health 0, word 0, or cause 0 and row 0.  Of several reasons the lowest number
- * is answered; 22 stands in the place of 4, here and in every order of checks
- * below.
+ * is answered, but presence_change has an order of its own; 22 stands in the
+ * place of 4, here and in every order of checks below.
  * index is a word index from 0 in the setup or image that was passed, and
- * names the first word that is wrong for this number.
+ * names the first word that is wrong for this number.  Of presence_change it
+ * counts in the image for what is wrong there, else in the new setup.
  *
  *   No.  Refused because                                    Index
  *   ---  -------------------------------------------------  -----------------
@@ -365,8 +451,10 @@
  *    2   first word no head: kind not 1, N not 2..16, Q     0
  *        over 1,000,000, or one of bits 7..5 set; n of
  *        presence_read_cause not 2..16
- *    3   setup not of N+3 words, image not of 5N+6 words;   0
- *        where word 1 is of kind 0, not of N+6 and 5N+9
+ *    3   setup not of N+3 words; image too short for its    0
+ *        rounds-left word, or not of 5N+7 words where that
+ *        is 0 and 6N+9 where it is not; where word 1 is of
+ *        kind 0, not of N+6, and 5N+10 or 6N+12
  *    4   limit word wrong: kind (word 1 of neither 2 nor    1 (P) or 2 (R)
  *        0), or P or R out of range
  *    5   module word wrong: kind, number not in turn, l     its word,
@@ -378,8 +466,8 @@
  *        (in an image tested only if that word is of        image: N+3;
  *        kind 10)                                           fading N+6
  *    8   wrong word in the part of an image after the       its word,
- *        setup: kind, order or number of a word; a bit set  N+3..5N+5; fading
- *        that must be 0; a vector with a bit at N or        N+6..5N+8 (view
+ *        setup: kind, order or number of a word; a bit set  N+3..6N+8; fading
+ *        that must be 0; a vector with a bit at N or        N+6..5N+9 (view
  *        above; a row that is not 0 though not heard;       against penalty:
  *        penalty over P + criticality; reward R or more,    the penalty word;
  *        or over 0 with penalty 0; a module in the view     reward with
@@ -388,10 +476,12 @@
  *        in the view or where Q is 0; a score that is       view against
  *        negative, infinite or no number (NaN); a module    return count:
  *        in the view with a score at or above the limit,    the count's;
- *        or out of it with one below                        score: its high
- *                                                           half)
+ *        or out of it with one below; rounds left over      score: its high
+ *        1,000, or not 0 with fading; a word of a pending   half)
+ *        change that is wrong as a limit or a module word,
+ *        or whose l or send mark is not the setup's
  *    9   read not of N words, output not of the words of    0
- *        an image of this form, 5N+6 or 5N+9, or page not
+ *        the image that the call would write, or page not
  *        of 16 (a length that is no multiple of 4 included)
  *   10   controller has a bit at N or above; that of        0
  *        presence_read_cause is not 0 or 1
@@ -404,6 +494,10 @@
  *        in word 1; factor negative, over 1.0 or no number  high half) or
  *        (NaN); limit not above 0.0, over 1,000,000.0 or    4 (limit's)
  *        no number
+ *   23   new setup differs in more than P, R and            0
+ *        criticalities: in N, Q, a read place or a send
+ *        mark; or it or the image is fading
+ *   24   a change is pending, or lead is not 1..1,000       0
  *
  * Other numbers do not occur in these functions.
  *
@@ -417,13 +511,13 @@
  *
  * Output and page must not overlap an input of the same call, that is the
  * setup, the image or the read, nor one another.  Keep two images and swap
- * them after an accepted step; the page stays where it is.
+ * them after an accepted step or change; the page stays where it is.
  * Inputs are only read, and may overlap one another.
  *
- * An accepted call of presence_open, presence_step or presence_save, with a
- * page or without, writes all words of the output, 5N+6 with counts and 5N+9
- * with fading.  presence_page_open writes all 16 words of the page,
- * presence_page_step words 0 to 2 and 4 to 7, presence_page_write the one word.
+ * An accepted call of presence_open, presence_step, presence_save or
+ * presence_change, with a page or without, writes all words of the output.
+ * presence_page_open writes all 16 words of the page, presence_page_step words
+ * 0 to 2 and 4 to 7, presence_page_write the one word.
  */
 #ifndef PRESENCE_H
 #define PRESENCE_H
@@ -438,22 +532,27 @@ extern "C" {
 /* Largest N. */
 #define PRESENCE_MAX_MODULES 16u
 
-/* Lengths in bytes for n modules with counts, setup n+3 and image 5n+6 words,
-   and with fading, setup n+6 and image 5n+9 words.  A read has n words with
-   both. */
+/* Lengths in bytes for n modules with counts, setup n+3 and image 5n+7 words,
+   6n+9 while a change is pending, and with fading, setup n+6 and image 5n+10
+   words.  A read has n words with both. */
 #define PRESENCE_SETUP_BYTES(n) (4u * ((size_t)(n) + 3u))
-#define PRESENCE_IMAGE_BYTES(n) (4u * (5u * (size_t)(n) + 6u))
+#define PRESENCE_IMAGE_BYTES(n) (4u * (5u * (size_t)(n) + 7u))
+#define PRESENCE_PENDING_IMAGE_BYTES(n) (4u * (6u * (size_t)(n) + 9u))
 #define PRESENCE_FADING_SETUP_BYTES(n) (4u * ((size_t)(n) + 6u))
-#define PRESENCE_FADING_IMAGE_BYTES(n) (4u * (5u * (size_t)(n) + 9u))
+#define PRESENCE_FADING_IMAGE_BYTES(n) (4u * (5u * (size_t)(n) + 10u))
 #define PRESENCE_READ_BYTES(n) (4u * (size_t)(n))
 
-/* The same for N = 16.  A setup and an image of either form have room in those
-   with fading. */
+/* The same for N = 16.  A setup of either form has room in that with fading, an
+   image of either form in that with a pending change; so it is for every N. */
 #define PRESENCE_MAX_SETUP_BYTES 76u
-#define PRESENCE_MAX_IMAGE_BYTES 344u
+#define PRESENCE_MAX_IMAGE_BYTES 348u
+#define PRESENCE_MAX_PENDING_IMAGE_BYTES 420u
 #define PRESENCE_MAX_FADING_SETUP_BYTES 88u
-#define PRESENCE_MAX_FADING_IMAGE_BYTES 356u
+#define PRESENCE_MAX_FADING_IMAGE_BYTES 360u
 #define PRESENCE_MAX_READ_BYTES 64u
+
+/* The most rounds that a change may be ahead. */
+#define PRESENCE_MAX_LEAD 1000u
 
 /* The words of a fading setup before those of the modules, in bytes. */
 #define PRESENCE_FADING_FRONT_BYTES 24u
@@ -509,6 +608,8 @@ extern "C" {
 #define PRESENCE_WRONG_OFFSET 17u
 #define PRESENCE_WRONG_WRITE 18u
 #define PRESENCE_WRONG_FADING 22u
+#define PRESENCE_WRONG_CHANGE 23u
+#define PRESENCE_WRONG_LEAD 24u
 
 /* Answer of the functions that answer no presence_word or presence_cause. */
 typedef struct presence_answer {
@@ -563,14 +664,17 @@ presence_answer presence_open(const uint8_t *setup, size_t setup_len,
 
 /*
  * Makes the step of one round.
- *   state, state_len   the image that the step before, or the opening, wrote,
- *                      PRESENCE_IMAGE_BYTES(N); fading
- *                      PRESENCE_FADING_IMAGE_BYTES(N)
+ *   state, state_len   the image that the step before, the opening or a change
+ *                      wrote, PRESENCE_IMAGE_BYTES(N); fading
+ *                      PRESENCE_FADING_IMAGE_BYTES(N); while a change is
+ *                      pending PRESENCE_PENDING_IMAGE_BYTES(N)
  *   read, read_len     the read of this round, PRESENCE_READ_BYTES(N)
  *   controller         bit j-1 is 1 if the controller calls the reception
  *                      from module j valid; bits at N or above must be 0
  *   out, out_len       output, PRESENCE_IMAGE_BYTES(N); fading
- *                      PRESENCE_FADING_IMAGE_BYTES(N)
+ *                      PRESENCE_FADING_IMAGE_BYTES(N); if more than one round
+ *                      is left PRESENCE_PENDING_IMAGE_BYTES(N)
+ *                      (presence_stepped_bytes tells it)
  * Order of the checks: 1, 2, 3, 4, 5, 6, 7, 8 (image), 9 (read and output),
  * 10 (controller).
  * Accepted: the output holds the image after the step, and health is the
@@ -578,8 +682,8 @@ presence_answer presence_open(const uint8_t *setup, size_t setup_len,
  * before this one if every l is N, else the one three rounds before this one.
  * A module outside the view of the image that is passed has no vote in this
  * step, and what its word says is not held against it; the others still vote
- * on it.  One that leaves the view in this step has voted in it, one that
- * returns in this step has not.
+ * on it.  One that leaves the view in this step, by a change too, has voted in
+ * it, one that returns in this step has not.
  * Refused: the output stays as it was, no step has been made, and the image
  * that was passed is still the current one.
  * That cards agree is proved of cards that make the step of every round, each
@@ -600,9 +704,9 @@ presence_answer presence_step(const uint8_t *state, size_t state_len,
  * stored image compares the setup and the own number (in the word after the
  * setup) itself.
  *   state, state_len   the image, PRESENCE_IMAGE_BYTES(N); fading
- *                      PRESENCE_FADING_IMAGE_BYTES(N)
- *   out, out_len       output, PRESENCE_IMAGE_BYTES(N); fading
- *                      PRESENCE_FADING_IMAGE_BYTES(N)
+ *                      PRESENCE_FADING_IMAGE_BYTES(N); while a change is
+ *                      pending PRESENCE_PENDING_IMAGE_BYTES(N)
+ *   out, out_len       output, of the same length
  * Order of the checks: 1, 2, 3, 4, 5, 6, 7, 8 (image), 9 (output).
  * Health is 0.
  * Refused: the output stays as it was.
@@ -611,11 +715,34 @@ presence_answer presence_save(const uint8_t *state, size_t state_len,
                               uint8_t *out, size_t out_len);
 
 /*
- * The word handed out by the step, or the opening, that wrote this image:
- * kind 5 with the syndrome of the latest step, or of the step before it if
- * the module's own send mark is set.
+ * Takes new limits: writes the image with a pending change.  NEW LIMITS WITHOUT
+ * A STOP says when all modules of a backplane have to take it.
+ *   state, state_len   the current image, PRESENCE_IMAGE_BYTES(N)
+ *   setup, setup_len   the whole new setup, PRESENCE_SETUP_BYTES(N): that of
+ *                      the image with other P, R and criticalities
+ *   lead               which step counts by it, 1 for the next one, up to
+ *                      PRESENCE_MAX_LEAD
+ *   out, out_len       output, PRESENCE_PENDING_IMAGE_BYTES(N)
+ * Order of the checks: 1, 2, 3, 4, 5, 6, 7, 8 (image), then 1, 2, 3, 4, 5, 6
+ * (new setup), 23, 24, 9 (output).
+ * Numbers 1 to 6 do not tell which of the two is wrong; presence_check_setup of
+ * the new setup does.
+ * Accepted: the output holds the image with the new words and lead rounds left.
+ * It is the current one, and no step has been made.  Health is 0.
+ * Refused: the output stays as it was, and the image that was passed is still
+ * the current one.
+ */
+presence_answer presence_change(const uint8_t *state, size_t state_len,
+                                const uint8_t *setup, size_t setup_len,
+                                uint32_t lead, uint8_t *out, size_t out_len);
+
+/*
+ * The word handed out by the step, or the opening, that wrote this image: kind
+ * 5 with the syndrome of the latest step, or of the step before it if the
+ * module's own send mark is set.  A change leaves it as it was.
  *   state, state_len   the image, PRESENCE_IMAGE_BYTES(N); fading
- *                      PRESENCE_FADING_IMAGE_BYTES(N)
+ *                      PRESENCE_FADING_IMAGE_BYTES(N); while a change is
+ *                      pending PRESENCE_PENDING_IMAGE_BYTES(N)
  * Order of the checks: 1, 2, 3, 4, 5, 6, 7, 8 (image).
  * Writes nothing.
  * With the send mark the word is to be sent in the round of that step,
@@ -704,8 +831,43 @@ presence_word presence_page_write(uint8_t *page, size_t page_len,
 presence_word presence_page_interrupt(const uint8_t *page, size_t page_len);
 
 /*
- * Two helpers for fading, which are no part of the library.  They copy a double
- * byte by byte, so that nothing of the C library is needed.
+ * Helpers, which are no part of the library.  The next three take an accepted
+ * image of n modules, of either form.
+ */
+
+/* The rounds left until a pending change, 0 if none is pending. */
+static inline uint32_t presence_rounds_left(const uint8_t *image, uint32_t n)
+{
+    const uint8_t *from = image + 4u * (5u * n + 6u);
+
+    if (PRESENCE_IS_FADING(image))
+        return 0;
+    return (uint32_t)from[0] << 24 | (uint32_t)from[1] << 16 |
+           (uint32_t)from[2] << 8 | (uint32_t)from[3];
+}
+
+/* The length of an image, with or without a pending change. */
+static inline size_t presence_image_bytes(const uint8_t *image, uint32_t n)
+{
+    if (PRESENCE_IS_FADING(image))
+        return PRESENCE_FADING_IMAGE_BYTES(n);
+    return presence_rounds_left(image, n) > 0 ? PRESENCE_PENDING_IMAGE_BYTES(n)
+                                              : PRESENCE_IMAGE_BYTES(n);
+}
+
+/* The length of the image after a step from this one: what out_len of the step
+   has to be. */
+static inline size_t presence_stepped_bytes(const uint8_t *image, uint32_t n)
+{
+    if (PRESENCE_IS_FADING(image))
+        return PRESENCE_FADING_IMAGE_BYTES(n);
+    return presence_rounds_left(image, n) > 1 ? PRESENCE_PENDING_IMAGE_BYTES(n)
+                                              : PRESENCE_IMAGE_BYTES(n);
+}
+
+/*
+ * The two for fading copy a double byte by byte, so that nothing of the C
+ * library is needed.
  */
 
 /* The score of module j, 1..n, in an accepted fading image of n modules. */

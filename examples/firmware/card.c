@@ -4,16 +4,17 @@
  *
  * The first part is the firmware of one card.  It keeps a register page, by
  * which the host learns of presence.  The second part is the host, which is
- * connected to card 1 and prints which cards were not heard, and why.  The
- * third part stands for the hardware: it carries the words, lets card 3 fall
- * silent for some rounds, so that it leaves the view and comes back, and
- * restarts card 2.
+ * connected to card 1 and prints which cards were not heard, and why, and the
+ * site's service, which raises P for a long scan without a stop, and lowers it
+ * again.  The third part stands for the hardware: it carries the words, lets
+ * card 3 fall silent for some rounds, so that it leaves the view and comes
+ * back, and restarts card 2.
  *
  * Build, with libgirmaut.a in the folder LIB:
  *   gcc -std=c99 -O2 -Iinclude examples/firmware/card.c -LLIB -lgirmaut -o card
  *
- * Prints what happens; exit status 0 if no call was refused and all cards
- * agreed in every round.
+ * Prints what happens; exit status 0 if no call but an offer was refused and
+ * all cards agreed in every round.
  */
 #include <stdio.h>
 #include <string.h>
@@ -31,7 +32,8 @@
     WORD(0x40000000u | (number) << 23 | (mark) << 22 | (place) << 17 | (criticality))
 
 /*
- * The setup, the same in all cards: Q = 8, P = 4, R = 6.
+ * The setup that the cards are opened from, the same in all: Q = 8, P = 4,
+ * R = 6.  P, R and criticalities may be others later (card_change).
  *
  * With fading scores five words stand in the place of P and R, here with factor
  * 0.5 and limit 3.0:
@@ -56,7 +58,7 @@ static const uint8_t setup[PRESENCE_SETUP_BYTES(N)] = {
 struct card {
     /* Memory that a restart clears. */
     uint32_t own;                          /* from the slot's coding pins */
-    uint8_t image[2][PRESENCE_IMAGE_BYTES(N)];
+    uint8_t image[2][PRESENCE_PENDING_IMAGE_BYTES(N)]; /* the longest form */
     unsigned current;                      /* which image is the state */
     uint32_t word;                         /* word to send in this round */
     uint32_t health;                       /* of the latest step */
@@ -70,13 +72,27 @@ struct card {
     uint32_t valid;
 
     /* Memory that a restart leaves; the host has access to the page. */
-    uint8_t saved[PRESENCE_IMAGE_BYTES(N)];
+    uint8_t saved[PRESENCE_PENDING_IMAGE_BYTES(N)];
     uint8_t page[PRESENCE_PAGE_BYTES];
 };
 
 static uint32_t card_view(const struct card *c)
 {
     return PRESENCE_VIEW(c->image[c->current], N);
+}
+
+/* P of the setup in the current image. */
+static uint32_t card_limit(const struct card *c)
+{
+    const uint8_t *word = c->image[c->current] + 4u;
+
+    return (uint32_t)word[1] << 16 | (uint32_t)word[2] << 8 | word[3];
+}
+
+/* Rounds until the card counts by other limits, 0 if none are pending. */
+static uint32_t card_rounds_left(const struct card *c)
+{
+    return presence_rounds_left(c->image[c->current], N);
 }
 
 /* Bit 22 and bits 21..17 of a card's word in the setup (its second byte holds
@@ -137,22 +153,37 @@ static void page_write(struct card *c, uint32_t offset, uint32_t value)
         c->line = w.word;
 }
 
+/* Whether an accepted image is of this rack: its setup has the same head, read
+   places and send marks; P, R and criticalities may have been changed. */
+static int of_this_rack(const uint8_t *image)
+{
+    uint32_t at;
+
+    if (memcmp(image, setup, 4u) != 0 || PRESENCE_IS_FADING(image))
+        return 0;
+    for (at = 12u; at < sizeof setup; at += 4u)
+        if (image[at] != setup[at] ||
+            ((image[at + 1u] ^ setup[at + 1u]) & 0xFEu) != 0)
+            return 0;
+    return 1;
+}
+
 /* Power on.  Goes on from the saved state and the page if the state is
-   accepted and is of this setup and slot (bits 20..16 of the word after the
+   accepted and is of this rack and slot (bits 20..16 of the word after the
    setup), else opens both. */
 static void card_start(struct card *c, uint32_t own)
 {
+    size_t len = presence_image_bytes(c->saved, N); /* of whatever is there */
     presence_answer a;
 
     c->own = own;
     c->current = 0;
-    a = presence_save(c->saved, sizeof c->saved, c->image[0],
-                      sizeof c->image[0]);
-    if (a.number != PRESENCE_ACCEPTED ||
-        memcmp(c->saved, setup, sizeof setup) != 0 ||
+    a = presence_save(c->saved, len, c->image[0], len);
+    if (a.number != PRESENCE_ACCEPTED || !of_this_rack(c->saved) ||
         (c->saved[sizeof setup + 1u] & 0x1Fu) != own) {
         a = presence_page_open(setup, sizeof setup, own, c->image[0],
-                               sizeof c->image[0], c->page, sizeof c->page);
+                               PRESENCE_IMAGE_BYTES(N), c->page,
+                               sizeof c->page);
         if (a.number != PRESENCE_ACCEPTED)
             c->refused++;
     }
@@ -160,12 +191,12 @@ static void card_start(struct card *c, uint32_t own)
     set_line(c);
 }
 
-/* Power goes: the state goes into the memory that stays. */
+/* Power goes: the state goes into the memory that stays, a pending change with
+   it. */
 static void card_stop(struct card *c)
 {
-    presence_answer a = presence_save(c->image[c->current],
-                                      sizeof c->image[0], c->saved,
-                                      sizeof c->saved);
+    size_t len = presence_image_bytes(c->image[c->current], N);
+    presence_answer a = presence_save(c->image[c->current], len, c->saved, len);
 
     if (a.number != PRESENCE_ACCEPTED)
         c->refused++;
@@ -173,8 +204,8 @@ static void card_stop(struct card *c)
 
 static void take_word(struct card *c)
 {
-    presence_word w = presence_outgoing(c->image[c->current],
-                                        sizeof c->image[0]);
+    const uint8_t *image = c->image[c->current];
+    presence_word w = presence_outgoing(image, presence_image_bytes(image, N));
 
     if (w.number != PRESENCE_ACCEPTED)
         c->refused++;
@@ -190,11 +221,13 @@ static void card_begin_round(struct card *c)
 /* Once a round, at the card's read place. */
 static void card_step(struct card *c)
 {
+    const uint8_t *image = c->image[c->current];
     unsigned next = 1u - c->current;
-    presence_answer a = presence_page_step(c->image[c->current],
-                                           sizeof c->image[0], c->received,
-                                           sizeof c->received, c->valid,
-                                           c->image[next], sizeof c->image[0],
+    presence_answer a = presence_page_step(image,
+                                           presence_image_bytes(image, N),
+                                           c->received, sizeof c->received,
+                                           c->valid, c->image[next],
+                                           presence_stepped_bytes(image, N),
                                            c->page, sizeof c->page);
 
     if (a.number != PRESENCE_ACCEPTED) {
@@ -207,6 +240,23 @@ static void card_step(struct card *c)
         take_word(c); /* the word of this step goes out in this round */
     act_on_view(c);
     set_line(c);
+}
+
+/* New limits, between two steps.  Returns 0 if the card has taken them, else
+   why not; then it goes on as if nothing had been offered. */
+static uint32_t card_change(struct card *c, const uint8_t *new_setup,
+                            uint32_t lead)
+{
+    const uint8_t *image = c->image[c->current];
+    unsigned next = 1u - c->current;
+    presence_answer a = presence_change(image, presence_image_bytes(image, N),
+                                        new_setup, sizeof setup, lead,
+                                        c->image[next],
+                                        PRESENCE_PENDING_IMAGE_BYTES(N));
+
+    if (a.number == PRESENCE_ACCEPTED)
+        c->current = next;
+    return a.number;
 }
 
 static struct card cards[N];
@@ -268,15 +318,52 @@ static void host_serve(uint32_t round)
     }
 }
 
+/* ================= service of the site ================= */
+
+#define LEAD 10u /* rounds; long enough to see that all cards have accepted */
+
+/* Offers the same P with the same lead to all cards, after their steps of the
+   round before and before those of this one.  Nothing stops meanwhile. */
+static void service_offer(uint32_t round, uint32_t p)
+{
+    const uint8_t limit[4] = { WORD(0x20000000u | p) };
+    uint8_t new_setup[sizeof setup];
+    uint32_t i, number;
+
+    memcpy(new_setup, setup, sizeof setup);
+    memcpy(new_setup + 4, limit, sizeof limit);
+    printf("round %2u: P = %u offered to all cards with lead %u, answers",
+           (unsigned)round, (unsigned)p, LEAD);
+    for (i = 0; i < N; i++) {
+        number = card_change(&cards[i], new_setup, LEAD);
+        printf(" %u", (unsigned)number);
+    }
+    printf("\n");
+}
+
+/* Before a round.  The scan begins in round 41 and is over in round 70.  An
+   offer while another one is pending is refused by every card. */
+static void service(uint32_t round)
+{
+    if (round == 41)
+        service_offer(round, 20);
+    if (round == 42)
+        service_offer(round, 30);
+    if (round == 71)
+        service_offer(round, 4);
+}
+
 /* ================= simulated bus ================= */
 
-#define ROUNDS 40u
+#define ROUNDS 85u
 
-/* Card 3 is silent in rounds 5 and 6 and again from 20 to 26. */
+/* Card 3 is silent in rounds 5 and 6, from 20 to 26, and from 55 to 61, as long
+   as the time before, when it left the view. */
 static int silent(uint32_t card, uint32_t round)
 {
     return card == 3 && ((round >= 5 && round <= 6) ||
-                         (round >= 20 && round <= 26));
+                         (round >= 20 && round <= 26) ||
+                         (round >= 55 && round <= 61));
 }
 
 /* The word of card j arrives at all cards, its own controller too. */
@@ -314,6 +401,7 @@ static void restart(struct card *c)
 
 /* What was printed last, so that only changes are printed. */
 static uint32_t printed_health, printed_view, printed_outputs[N];
+static uint32_t printed_limit;
 
 static void open_cards(void)
 {
@@ -328,6 +416,7 @@ static void open_cards(void)
         card_start(&cards[i], i + 1);
         printed_outputs[i] = cards[i].outputs;
     }
+    printed_limit = card_limit(&cards[0]);
     printf("%u cards opened, each drives its own outputs\n", N);
 }
 
@@ -337,10 +426,14 @@ static void disturb(uint32_t round)
     if (silent(3, round) != silent(3, round - 1))
         printf("round %2u: card 3 %s\n", (unsigned)round,
                silent(3, round) ? "goes silent" : "sends again");
-    if (round == 13) {
+    if (round == 13 || round == 45) {
         restart(&cards[1]);
-        printf("round %2u: card 2 restarts from its saved state\n",
+        printf("round %2u: card 2 restarts from its saved state",
                (unsigned)round);
+        if (card_rounds_left(&cards[1]) > 0)
+            printf(", with %u rounds left until a change",
+                   (unsigned)card_rounds_left(&cards[1]));
+        printf("\n");
     }
 }
 
@@ -364,6 +457,11 @@ static void print_changes(uint32_t round)
 {
     uint32_t view = card_view(&cards[0]), i;
 
+    if (card_limit(&cards[0]) != printed_limit) {
+        printed_limit = card_limit(&cards[0]);
+        printf("round %2u: all cards count by P = %u\n", (unsigned)round,
+               (unsigned)printed_limit);
+    }
     if (cards[0].health != printed_health || view != printed_view) {
         printed_health = cards[0].health;
         printed_view = view;
@@ -378,7 +476,8 @@ static void print_changes(uint32_t round)
         }
 }
 
-/* All cards have the same health vector and view, on their pages too. */
+/* All cards have the same health vector and view, on their pages too, and the
+   same P, now and next. */
 static int all_agree(void)
 {
     uint32_t i;
@@ -387,12 +486,15 @@ static int all_agree(void)
         if (cards[i].health != cards[0].health ||
             card_view(&cards[i]) != card_view(&cards[0]) ||
             page_read(&cards[i], PRESENCE_PAGE_HEALTH) != cards[0].health ||
-            page_read(&cards[i], PRESENCE_PAGE_VIEW) != card_view(&cards[0]))
+            page_read(&cards[i], PRESENCE_PAGE_VIEW) != card_view(&cards[0]) ||
+            card_limit(&cards[i]) != card_limit(&cards[0]) ||
+            card_rounds_left(&cards[i]) != card_rounds_left(&cards[0]))
             return 0;
     return 1;
 }
 
-/* No call was refused, and each output is driven by one card and no more. */
+/* No call but an offer was refused, and each output is driven by one card and
+   no more. */
 static int all_driven(void)
 {
     uint32_t outputs = 0, i;
@@ -414,6 +516,7 @@ int main(void)
     host_start();
     for (round = 1; round <= ROUNDS; round++) {
         disturb(round);
+        service(round);
         play(round);
         agreed = all_agree() && agreed;
         print_changes(round);
@@ -421,6 +524,6 @@ int main(void)
     }
     agreed = all_driven() && agreed;
     printf("%u rounds, %s\n", ROUNDS,
-           agreed ? "all cards agreed, no call refused" : "FAILED");
+           agreed ? "all cards agreed, no other call refused" : "FAILED");
     return agreed ? 0 : 1;
 }

@@ -2,9 +2,9 @@
  * plain.c - the functions of presence.h by hand in plain C99.
  *
  * Rule numbers are those of "One step, round k", refusal numbers those of
- * "Answers and their order" in document 01; E4, E6 and E9 of document 02 change
- * rules 4, 5 and 8.  Module j stands at place j-1 of
- * the arrays and is bit j-1 of the vectors.
+ * "Answers and their order" in document 01; E4, E6, E9 and E10 of document 02
+ * change rules 4, 5 and 8.  Module j stands at place j-1 of the arrays and is
+ * bit j-1 of the vectors.
  *
  * A setup has one of two forms: counts, with P and R, or fading, with a factor
  * and a limit (E9).  An image has the form of its setup.  Scores take as many
@@ -14,6 +14,8 @@
  * load_setup, load_state and plain_step are longer than 40 lines.  They stay
  * so because `make measure` counts their instructions, and gcc -O2 makes other
  * code of them when parts move into functions, static inline ones too.
+ * load_limits and store_limits, which a step goes through, have two callers
+ * each; they are inline so that gcc makes no calls of them there.
  */
 #include <float.h>
 #include <math.h>
@@ -28,6 +30,7 @@
 #endif
 
 #define MAX PRESENCE_MAX_MODULES
+#define MOST_ROUNDS_LEFT 1000
 
 enum kind {
     FADING = 0,
@@ -44,17 +47,22 @@ enum kind {
     RETURN = 15
 };
 
-struct setup {
-    uint32_t n;             /* number of modules */
-    bool fading;            /* else counts */
-    uint32_t words;         /* length */
-    uint32_t penalty_limit; /* P, of counts */
-    uint32_t reward_limit;  /* R, of counts */
-    double factor, limit;   /* of fading */
-    uint32_t return_limit;  /* Q, 0 for never */
-    bool mark[MAX];         /* send mark */
-    uint32_t place[MAX];    /* read place l */
+/* What a change may change. */
+struct limits {
+    uint32_t penalty; /* P, of counts */
+    uint32_t reward;  /* R, of counts */
     uint32_t criticality[MAX];
+};
+
+struct setup {
+    uint32_t n;            /* number of modules */
+    bool fading;           /* else counts */
+    uint32_t words;        /* length */
+    struct limits limits;
+    double factor, limit;  /* of fading */
+    uint32_t return_limit; /* Q, 0 for never */
+    bool mark[MAX];        /* send mark */
+    uint32_t place[MAX];   /* read place l */
 };
 
 struct state {
@@ -69,6 +77,8 @@ struct state {
     uint32_t reward[MAX];  /* of counts */
     double score[MAX];     /* of fading */
     uint32_t returns[MAX]; /* good rounds running outside the view */
+    uint32_t left;         /* rounds until a change, 0 if none is pending */
+    struct limits pending; /* those of the change */
 };
 
 static presence_answer answer(uint32_t number, uint32_t index, uint32_t health)
@@ -147,10 +157,25 @@ static bool is_bus_word(uint32_t word, uint32_t n)
     return kind_of(word) == BUS_WORD && (word & 0x0FFFFFFF) <= all(n);
 }
 
-/* Words of an image with this setup. */
-static uint32_t image_words(const struct setup *s)
+/* The rounds-left word of an image with this setup. */
+static uint32_t left_at(const struct setup *s)
 {
     return s->words + 4 * s->n + 3;
+}
+
+/* Bytes of an image with this setup, with a pending change or without: P, R and
+   a word for each module more. */
+static size_t image_bytes(const struct setup *s, bool pending)
+{
+    return 4 * (size_t)(left_at(s) + 1 + (pending ? s->n + 2 : 0));
+}
+
+/* Whether an image has the length that its rounds-left word calls for. */
+static bool is_image_length(const struct setup *s, const uint8_t *bytes,
+                            size_t len)
+{
+    return len >= image_bytes(s, false) &&
+           len == image_bytes(s, get_word(bytes, left_at(s)) != 0);
 }
 
 /* Factor and limit of fading.  Refusal 22; minus zero is negative. */
@@ -170,21 +195,24 @@ static presence_answer load_fading(struct setup *s, const uint8_t *bytes)
     return answer(0, 0, 0);
 }
 
-/* P and R of counts.  Refusal 4. */
-static presence_answer load_limits(struct setup *s, const uint8_t *bytes)
+/* P and R of counts, which begin at a word.  The refusal is 4 in a setup and 8
+   in a pending change. */
+static inline presence_answer load_limits(struct limits *l,
+                                          const uint8_t *bytes, uint32_t first,
+                                          uint32_t refusal)
 {
-    uint32_t word = get_word(bytes, 1);
+    uint32_t word = get_word(bytes, first);
 
-    s->penalty_limit = word & 0x0FFFFFFF;
+    l->penalty = word & 0x0FFFFFFF;
     if (kind_of(word) != PENALTY_LIMIT ||
-        s->penalty_limit < 1 || s->penalty_limit > 1000000)
-        return answer(4, 1, 0);
+        l->penalty < 1 || l->penalty > 1000000)
+        return answer(refusal, first, 0);
 
-    word = get_word(bytes, 2);
-    s->reward_limit = word & 0x0FFFFFFF;
+    word = get_word(bytes, first + 1);
+    l->reward = word & 0x0FFFFFFF;
     if (kind_of(word) != REWARD_LIMIT ||
-        s->reward_limit < 1 || s->reward_limit > 8000000)
-        return answer(4, 2, 0);
+        l->reward < 1 || l->reward > 8000000)
+        return answer(refusal, first + 1, 0);
 
     return answer(0, 0, 0);
 }
@@ -212,10 +240,11 @@ static presence_answer load_setup(struct setup *s, const uint8_t *bytes,
     /* The kind of the second word tells the form; a lone head is of counts. */
     s->fading = len > 4 && kind_of(get_word(bytes, 1)) == FADING;
     s->words = s->n + (s->fading ? 6 : 3);
-    if (len != 4 * (size_t)(image ? image_words(s) : s->words))
+    if (image ? !is_image_length(s, bytes, len) : len != 4 * (size_t)s->words)
         return answer(3, 0, 0);
 
-    a = s->fading ? load_fading(s, bytes) : load_limits(s, bytes);
+    a = s->fading ? load_fading(s, bytes)
+                  : load_limits(&s->limits, bytes, 1, 4);
     if (a.number != 0)
         return a;
 
@@ -224,10 +253,10 @@ static presence_answer load_setup(struct setup *s, const uint8_t *bytes,
         word = get_word(bytes, at + j);
         s->mark[j] = bit(word, 22);
         s->place[j] = word >> 17 & 0x1F;
-        s->criticality[j] = word & 0x1FFFF;
+        s->limits.criticality[j] = word & 0x1FFFF;
         if (kind_of(word) != MODULE || number_of(word) != j + 1 ||
-            s->place[j] > s->n ||
-            s->criticality[j] < 1 || s->criticality[j] > 100000)
+            s->place[j] > s->n || s->limits.criticality[j] < 1 ||
+            s->limits.criticality[j] > 100000)
             return answer(5, at + j, 0);
     }
 
@@ -242,6 +271,7 @@ static presence_answer load_setup(struct setup *s, const uint8_t *bytes,
 static presence_answer load_counts(struct state *s, const uint8_t *bytes,
                                    uint32_t first)
 {
+    const struct limits *l = &s->setup.limits;
     uint32_t n = s->setup.n, at, word, j;
 
     for (j = 0; j < n; j++) {
@@ -250,8 +280,8 @@ static presence_answer load_counts(struct state *s, const uint8_t *bytes,
         s->penalty[j] = word & 0x001FFFFF;
         if (kind_of(word) != PENALTY || number_of(word) != j + 1 ||
             (word & 0x00600000) != 0 ||
-            s->penalty[j] > s->setup.penalty_limit + s->setup.criticality[j] ||
-            bit(s->view, j) != (s->penalty[j] <= s->setup.penalty_limit))
+            s->penalty[j] > l->penalty + l->criticality[j] ||
+            bit(s->view, j) != (s->penalty[j] <= l->penalty))
             return answer(8, at, 0);
     }
 
@@ -260,7 +290,7 @@ static presence_answer load_counts(struct state *s, const uint8_t *bytes,
         word = get_word(bytes, at);
         s->reward[j] = word & 0x007FFFFF;
         if (kind_of(word) != REWARD || number_of(word) != j + 1 ||
-            s->reward[j] >= s->setup.reward_limit ||
+            s->reward[j] >= l->reward ||
             (s->reward[j] > 0 && s->penalty[j] == 0))
             return answer(8, at, 0);
     }
@@ -280,6 +310,41 @@ static presence_answer load_scores(struct state *s, const uint8_t *bytes,
         s->score[j] = get_double(bytes, at);
         if (signbit(s->score[j]) || !isfinite(s->score[j]) ||
             bit(s->view, j) != (s->score[j] < s->setup.limit))
+            return answer(8, at, 0);
+    }
+
+    return answer(0, 0, 0);
+}
+
+/* The word of a module with this criticality. */
+static uint32_t module_word(const struct setup *s, uint32_t j,
+                            uint32_t criticality)
+{
+    return (uint32_t)MODULE << 28 | (j + 1) << 23 |
+           (uint32_t)s->mark[j] << 22 | s->place[j] << 17 | criticality;
+}
+
+/* The rounds left and what follows them.  Refusal 8 at the first word for which
+   a change would be refused; only the criticality of a module may differ. */
+static presence_answer load_pending(struct state *s, const uint8_t *bytes)
+{
+    uint32_t first = left_at(&s->setup), at, word, j;
+    presence_answer a;
+
+    s->left = get_word(bytes, first);
+    if (s->left == 0)
+        return answer(0, 0, 0);
+    if (s->left > MOST_ROUNDS_LEFT || s->setup.fading)
+        return answer(8, first, 0);
+    a = load_limits(&s->pending, bytes, first + 1, 8);
+    if (a.number != 0)
+        return a;
+    for (j = 0; j < s->setup.n; j++) {
+        at = first + 3 + j;
+        word = get_word(bytes, at);
+        s->pending.criticality[j] = word & 0x1FFFF;
+        if (word != module_word(&s->setup, j, word & 0x1FFFF) ||
+            s->pending.criticality[j] < 1 || s->pending.criticality[j] > 100000)
             return answer(8, at, 0);
     }
 
@@ -348,7 +413,15 @@ static presence_answer load_state(struct state *s, const uint8_t *bytes,
             return answer(8, at, 0);
     }
 
-    return answer(0, 0, 0);
+    return load_pending(s, bytes);
+}
+
+/* P and R of counts, from a word on. */
+static inline void store_limits(const struct limits *l, uint8_t *out,
+                                uint32_t first)
+{
+    put_word(out, first, (uint32_t)PENALTY_LIMIT << 28 | l->penalty);
+    put_word(out, first + 1, (uint32_t)REWARD_LIMIT << 28 | l->reward);
 }
 
 static void store_setup(const struct setup *s, uint8_t *out)
@@ -361,14 +434,24 @@ static void store_setup(const struct setup *s, uint8_t *out)
         put_double(out, 2, s->factor);
         put_double(out, 4, s->limit);
     } else {
-        put_word(out, 1, (uint32_t)PENALTY_LIMIT << 28 | s->penalty_limit);
-        put_word(out, 2, (uint32_t)REWARD_LIMIT << 28 | s->reward_limit);
+        store_limits(&s->limits, out, 1);
     }
     for (j = 0; j < s->n; j++)
-        put_word(out, first + j,
-                 (uint32_t)MODULE << 28 | (j + 1) << 23 |
-                 (uint32_t)s->mark[j] << 22 | s->place[j] << 17 |
-                 s->criticality[j]);
+        put_word(out, first + j, module_word(s, j, s->limits.criticality[j]));
+}
+
+/* The rounds left, at a word, and what follows them. */
+static void store_pending(const struct state *s, uint8_t *out, uint32_t first)
+{
+    uint32_t j;
+
+    put_word(out, first, s->left);
+    if (s->left == 0)
+        return;
+    store_limits(&s->pending, out, first + 1);
+    for (j = 0; j < s->setup.n; j++)
+        put_word(out, first + 3 + j,
+                 module_word(&s->setup, j, s->pending.criticality[j]));
 }
 
 static void store_state(const struct state *s, uint8_t *out)
@@ -398,6 +481,7 @@ static void store_state(const struct state *s, uint8_t *out)
     for (j = 0; j < n; j++)
         put_word(out, 3 * n + 3 + j,
                  (uint32_t)RETURN << 28 | (j + 1) << 23 | s->returns[j]);
+    store_pending(s, out, 4 * n + 3);
 }
 
 /* Rule 7: without the mark the latest syndrome, with it the one before. */
@@ -454,6 +538,34 @@ static bool is_accused(uint32_t j, uint32_t row, uint32_t health)
     return ((row ^ health) & ~(1u << j)) != 0;
 }
 
+/* E10 of document 02: the counters and the view by the limits of the pending
+   change, which are those of the setup from now on. */
+static void take_effect(struct state *s)
+{
+    const struct limits *l = &s->setup.limits;
+    uint32_t j, least, most;
+
+    s->setup.limits = s->pending;
+    for (j = 0; j < s->setup.n; j++) {
+        if (bit(s->view, j)) {
+            if (s->reward[j] >= l->reward) {
+                s->penalty[j] = 0;
+                s->reward[j] = 0;
+            }
+            if (s->penalty[j] <= l->penalty)
+                continue;
+            s->view &= ~(1u << j);
+        }
+        s->reward[j] = 0;
+        least = l->penalty + 1;
+        most = l->penalty + l->criticality[j];
+        if (s->penalty[j] < least)
+            s->penalty[j] = least;
+        else if (s->penalty[j] > most)
+            s->penalty[j] = most;
+    }
+}
+
 /* E6 of document 02: whether a module that rule 8 finds outside the view
    returns, with health 1 for Q rounds running. */
 static bool returns(struct state *s, uint32_t j, bool healthy)
@@ -474,22 +586,23 @@ static bool returns(struct state *s, uint32_t j, bool healthy)
 /* Rule 8 with counts. */
 static void count(struct state *s, uint32_t health)
 {
+    const struct limits *l = &s->setup.limits;
     uint32_t j;
 
     for (j = 0; j < s->setup.n; j++) {
         if (!bit(s->view, j)) {
             if (returns(s, j, bit(health, j))) {
-                s->penalty[j] = s->setup.penalty_limit;
+                s->penalty[j] = l->penalty;
                 s->reward[j] = 0;
             }
         } else if (!bit(health, j)) {
-            s->penalty[j] += s->setup.criticality[j];
+            s->penalty[j] += l->criticality[j];
             s->reward[j] = 0;
-            if (s->penalty[j] > s->setup.penalty_limit)
+            if (s->penalty[j] > l->penalty)
                 s->view &= ~(1u << j);
         } else if (s->penalty[j] > 0) {
             s->reward[j]++;
-            if (s->reward[j] >= s->setup.reward_limit) {
+            if (s->reward[j] >= l->reward) {
                 s->penalty[j] = 0;
                 s->reward[j] = 0;
             }
@@ -536,7 +649,7 @@ presence_answer plain_open(const uint8_t *setup, size_t setup_len,
     n = s.setup.n;
     if (own < 1 || own > n)
         return answer(7, 0, 0);
-    if (out_len != 4 * (size_t)image_words(&s.setup))
+    if (out_len != image_bytes(&s.setup, false))
         return answer(9, 0, 0);
 
     s.own = own;
@@ -551,6 +664,7 @@ presence_answer plain_open(const uint8_t *setup, size_t setup_len,
     }
     s.latest = all(n);
     s.before = all(n);
+    s.left = 0;
     store_state(&s, out);
     return answer(0, 0, 0);
 }
@@ -569,8 +683,9 @@ presence_answer plain_step(const uint8_t *state, size_t state_len,
     if (a.number != 0)
         return a;
     n = s.setup.n;
+    /* The image after the step. */
     if (read_len != PRESENCE_READ_BYTES(n) ||
-        out_len != 4 * (size_t)image_words(&s.setup))
+        out_len != image_bytes(&s.setup, s.left > 1))
         return answer(9, 0, 0);
     if (controller > all(n))
         return answer(10, 0, 0);
@@ -605,6 +720,8 @@ presence_answer plain_step(const uint8_t *state, size_t state_len,
         if (present[j] && !(voter[j] && is_accused(j, aligned[j], health)))
             syndrome |= 1u << j;
 
+    if (s.left > 0 && --s.left == 0)
+        take_effect(&s);
     if (s.setup.fading)
         fade(&s, health);
     else
@@ -629,8 +746,49 @@ presence_answer plain_save(const uint8_t *state, size_t state_len,
 
     if (a.number != 0)
         return a;
-    if (out_len != 4 * (size_t)image_words(&s.setup))
+    if (out_len != image_bytes(&s.setup, s.left > 0))
         return answer(9, 0, 0);
+    store_state(&s, out);
+    return answer(0, 0, 0);
+}
+
+/* Whether two setups differ in their limits and criticalities alone; both have
+   counts. */
+static bool same_but_limits(const struct setup *s, const struct setup *t)
+{
+    uint32_t j;
+
+    if (s->fading || t->fading || s->n != t->n ||
+        s->return_limit != t->return_limit)
+        return false;
+    for (j = 0; j < s->n; j++)
+        if (s->mark[j] != t->mark[j] || s->place[j] != t->place[j])
+            return false;
+    return true;
+}
+
+presence_answer plain_change(const uint8_t *state, size_t state_len,
+                             const uint8_t *setup, size_t setup_len,
+                             uint32_t lead, uint8_t *out, size_t out_len)
+{
+    struct state s;
+    struct setup next;
+    presence_answer a = load_state(&s, state, state_len);
+
+    if (a.number != 0)
+        return a;
+    a = load_setup(&next, setup, setup_len, false);
+    if (a.number != 0)
+        return a;
+    if (!same_but_limits(&s.setup, &next))
+        return answer(23, 0, 0);
+    if (s.left > 0 || lead < 1 || lead > MOST_ROUNDS_LEFT)
+        return answer(24, 0, 0);
+    if (out_len != image_bytes(&s.setup, true))
+        return answer(9, 0, 0);
+
+    s.left = lead;
+    s.pending = next.limits;
     store_state(&s, out);
     return answer(0, 0, 0);
 }

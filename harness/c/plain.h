@@ -20,6 +20,10 @@ presence_answer plain_step(const uint8_t *state, size_t state_len,
 presence_answer plain_save(const uint8_t *state, size_t state_len,
                            uint8_t *out, size_t out_len);
 
+presence_answer plain_change(const uint8_t *state, size_t state_len,
+                             const uint8_t *setup, size_t setup_len,
+                             uint32_t lead, uint8_t *out, size_t out_len);
+
 presence_word plain_outgoing(const uint8_t *state, size_t state_len);
 
 presence_answer plain_page_open(const uint8_t *setup, size_t setup_len,

@@ -1,7 +1,7 @@
 /*
  * plain_page.c - the register page of presence.h, and why a word was not heard,
- * by hand in plain C99, after E1, E5 and E9 of document 02.  Apart from plain.c,
- * whose instructions are counted.
+ * by hand in plain C99, after E1, E5, E9 and E10 of document 02.  Apart from
+ * plain.c, whose instructions are counted.
  */
 #include <string.h>
 
@@ -57,6 +57,24 @@ static uint32_t view_of(const uint8_t *image, uint32_t n)
 {
     return PRESENCE_IS_FADING(image) ? PRESENCE_FADING_VIEW(image, n)
                                      : PRESENCE_VIEW(image, n);
+}
+
+/* The view that rule 8 finds: without the modules that a change puts out, which
+   takes effect before the counting of the step that this image goes into. */
+static uint32_t view_found(const uint8_t *image, uint32_t n)
+{
+    const uint32_t penalties = 2 * n + 6, rewards = 3 * n + 6;
+    uint32_t view = view_of(image, n), p, r, j;
+
+    if (presence_rounds_left(image, n) != 1)
+        return view;
+    p = get_word(image, 5 * n + 7) & 0x0FFFFFFF;
+    r = get_word(image, 5 * n + 8) & 0x0FFFFFFF;
+    for (j = 0; j < n; j++)
+        if ((get_word(image, rewards + j) & 0x007FFFFF) < r &&
+            (get_word(image, penalties + j) & 0x001FFFFF) > p)
+            view &= ~(1u << j);
+    return view;
 }
 
 static uint32_t interrupt_of(const uint8_t *page)
@@ -144,7 +162,7 @@ presence_answer plain_page_step(const uint8_t *state, size_t state_len,
     if (a.number != 0)
         return a;
     n = state[3] & 31u;
-    found = view_of(state, n);
+    found = view_found(state, n);
     left = view_of(out, n);
     flags = get_word(page, FLAGS);
     if (left != get_word(page, VIEW))

@@ -1,5 +1,5 @@
 #!/usr/bin/env python3
-"""Writes own-calls.txt: calls with the answers that document 01 gives, and E1, E4, E5, E6 and E9 of document 02.
+"""Writes own-calls.txt: calls with the answers that document 01 gives, and E1, E4, E5, E6, E9 and E10 of document 02.
 
     python3 make_own_calls.py > own-calls.txt
 
@@ -100,9 +100,10 @@ class State:
         self.reward = [0] * self.n
         self.score = [0.0] * self.n
         self.returns = [0] * self.n
+        self.pending = None
 
     def but(self, **fields):
-        """A copy with other fields; row, penalty, reward, score and returns take {module: value}."""
+        """A copy with other fields; row, penalty, reward, score and returns take {module: value}. pending: rounds left and the new setup."""
         state = copy.deepcopy(self)
         for name, value in fields.items():
             if isinstance(value, dict):
@@ -123,7 +124,8 @@ class State:
             words += [penalty(j, self.penalty[j - 1]) for j in numbers]
             words += [reward(j, self.reward[j - 1]) for j in numbers]
         words += [returns(j, self.returns[j - 1]) for j in numbers]
-        return words
+        left, new = self.pending or (0, [])
+        return words + [left] + new[1:]
 
 
 # ---- lines ----
@@ -161,7 +163,8 @@ def state(data, number, index):
 
 
 def image_bytes(image):
-    return 4 * (5 * image.n + (9 if fades(image.setup) else 6))
+    words = 5 * image.n + (10 if fades(image.setup) else 7)
+    return 4 * (words + (image.n + 2 if image.pending else 0))
 
 
 def opened(words, own):
@@ -187,10 +190,21 @@ def stepped(image, read, controller, health, rows, latest, **fields):
     read: words; rows: the read as the image keeps it, None if unheard."""
     after = image.but(row=list(rows), latest=latest, before=image.latest, **fields)
     print(
-        f"step {text(image)} {text(read)} {controller:X} {image_bytes(image)}"
+        f"step {text(image)} {text(read)} {controller:X} {image_bytes(after)}"
         f" = 0 0 {health:04X} {text(after)}"
     )
     return after
+
+
+def changed(image, new, lead):
+    """An accepted change; answers the state in which it waits."""
+    after = image.but(pending=(lead, new))
+    print(f"change {text(image)} {text(new)} {lead} {image_bytes(after)} = 0 0 0000 {text(after)}")
+    return after
+
+
+def change_refused(data, new, lead, out, number, index):
+    print(f"change {text(data)} {text(new)} {lead} {out} = {number} {index} 0000 -")
 
 
 def step_refused(data, read, controller, out, number, index):
@@ -231,7 +245,7 @@ def page_stepped(image, page, after_page, read, controller, health, rows, latest
     """As stepped, with the page before and after; answers the new state."""
     after = image.but(row=list(rows), latest=latest, before=image.latest, **fields)
     print(
-        f"pagestep {text(image)} {text(read)} {controller:X} {image_bytes(image)} {text(page)}"
+        f"pagestep {text(image)} {text(read)} {controller:X} {image_bytes(after)} {text(page)}"
         f" = 0 0 {health:04X} {text(after)} {text(after_page)}"
     )
     return after
@@ -404,9 +418,9 @@ def setups_with_wrong_marks():
 
 # ---- state ----
 
-# The sheet's module 2, fresh: 26 words. Words 0 to 6 are the setup, 7 own number and view,
+# The sheet's module 2, fresh: 27 words. Words 0 to 6 are the setup, 7 own number and view,
 # 8 to 11 the previous read, 12 and 13 the syndromes, 14 to 17 penalties, 18 to 21 rewards, 22 to 25
-# return counts.
+# return counts, 26 the rounds left.
 FRESH = State(SHEET, 2)
 FRESH_WORDS = FRESH.words()
 
@@ -434,8 +448,9 @@ def states_with_wrong_setup():
     note("Numbers 1 to 6 in a state: empty, one byte over.")
     state(b"", 1, 0)
     state(raw(FRESH_WORDS) + b"\x00", 1, 0)
-    also("2: N = 17. 3: one word short, one over, the setup alone.")
+    also("2: N = 17. 3: one word short (without the rounds left), two, one over, the setup alone.")
     state(put(FRESH_WORDS, {0: head(17)}), 2, 0)
+    state(FRESH_WORDS[:26], 3, 0)
     state(FRESH_WORDS[:25], 3, 0)
     state(FRESH_WORDS + [0], 3, 0)
     state(SHEET, 3, 0)
@@ -444,7 +459,7 @@ def states_with_wrong_setup():
     state(AWAY.words()[:22], 3, 0)
     also("3: N = 2 one word over, N = 16 one word short.")
     state(State(TWO, 1).words() + [0], 3, 0)
-    state(State(SIXTEEN, 1).words()[:85], 3, 0)
+    state(State(SIXTEEN, 1).words()[:86], 3, 0)
     also("4: P = 0, R = 8,000,001. 5: l = 5 at module 4. 6: mark on 1.")
     state(put(FRESH_WORDS, {1: limit_p(0)}), 4, 1)
     state(put(FRESH_WORDS, {2: limit_r(8000001)}), 4, 2)
@@ -583,7 +598,7 @@ def states_with_wrong_returns():
     state(AWAY.but(reward={4: 1}, returns={2: 3}), 8, 21)
     state(AWAY.but(returns={1: 1, 2: 3}), 8, 22)
     state(AWAY.but(view=0xF, returns={2: 2}), 8, 15)
-    also("N = 16, Q = 2: word 85 is the last one. Out of the view 1 is accepted, 2 is not; in the view 1 is not.")
+    also("N = 16, Q = 2: word 85 is the last count. Out of the view 1 is accepted, 2 is not; in the view 1 is not.")
     state(State(SIXTEEN_RETURN, 3).but(view=0x7FFF, penalty={16: 2}, returns={16: 1}), 0, 0)
     state(State(SIXTEEN_RETURN, 3).but(view=0x7FFF, penalty={16: 2}, returns={16: 2}), 8, 85)
     state(State(SIXTEEN_RETURN, 3).but(returns={16: 1}), 8, 85)
@@ -594,7 +609,7 @@ def states_in_wrong_order():
          "return counts before rewards.")
     state(FRESH_WORDS[:7] + FRESH_WORDS[8:12] + FRESH_WORDS[7:8] + FRESH_WORDS[12:], 8, 7)
     state(FRESH_WORDS[:14] + FRESH_WORDS[18:22] + FRESH_WORDS[14:18] + FRESH_WORDS[22:], 8, 14)
-    state(FRESH_WORDS[:18] + FRESH_WORDS[22:] + FRESH_WORDS[18:22], 8, 18)
+    state(FRESH_WORDS[:18] + FRESH_WORDS[22:26] + FRESH_WORDS[18:22] + FRESH_WORDS[26:], 8, 18)
     also("8 at several words, the first counts: 18 and 17; 13 and the view's clash at 15; 14 and 16.")
     state(put(FRESH_WORDS, {17: penalty(4, 3), 18: reward(1, 3)}), 8, 17)
     state(put(FRESH.but(view=0xD).words(), {13: syndrome(0x10)}), 8, 13)
@@ -618,9 +633,9 @@ def openings():
 
     note("7 at opening carries index 0: own 0, N+1, 31; 65,537 (1 in the low 16 bits); the highest.")
     for own in [0, 5, 31, 65537, 4294967295]:
-        open_refused(SHEET, own, 104, 7, 0)
+        open_refused(SHEET, own, 108, 7, 0)
     also("7: N = 16 with own 17.")
-    open_refused(SIXTEEN, 17, 344, 7, 0)
+    open_refused(SIXTEEN, 17, 348, 7, 0)
 
     note("Numbers 1 to 6 come before 7 and 9: own 0 and no output in each call.")
     open_refused(b"", 0, 0, 1, 0)
@@ -632,8 +647,8 @@ def openings():
     also("7 before 9.")
     open_refused(SHEET, 0, 0, 7, 0)
 
-    note("9: output empty, without room for the return counts, one word short, one byte over, one word over.")
-    for out in [0, 88, 100, 105, 108]:
+    note("9: output empty, without room for the return counts, one word short (for the rounds left), one byte over, one word over.")
+    for out in [0, 88, 104, 109, 112]:
         open_refused(SHEET, 1, out, 9, 0)
 
 
@@ -650,15 +665,15 @@ def savings():
     note("Numbers 1 to 8 come before 9: no output in each call.")
     save_refused(raw(FRESH_WORDS)[:5], 0, 1, 0)
     save_refused(put(FRESH_WORDS, {0: head(1)}), 0, 2, 0)
-    save_refused(FRESH_WORDS[:25], 0, 3, 0)
+    save_refused(FRESH_WORDS[:26], 0, 3, 0)
     save_refused(put(FRESH_WORDS, {1: limit_r(1)}), 0, 4, 1)
     save_refused(put(FRESH_WORDS, {4: module(2, 4, crit=0)}), 0, 5, 4)
     save_refused(put(FRESH_WORDS, {4: module(2, 2, mark=1)}), 0, 6, 4)
     save_refused(put(FRESH_WORDS, {7: own_view(31, 0xF)}), 0, 7, 7)
     save_refused(put(FRESH_WORDS, {20: reward(3, 1)}), 0, 8, 20)
 
-    note("9: output empty, without room for the return counts, one word short, one byte over, one word over.")
-    for out in [0, 88, 100, 105, 108]:
+    note("9: output empty, without room for the return counts, one word short (for the rounds left), one byte over, one word over.")
+    for out in [0, 88, 104, 109, 112]:
         save_refused(FRESH, out, 9, 0)
 
 
@@ -679,18 +694,18 @@ def steps_refused():
 
     note("9, read: empty, one word short, one byte over, one word over.")
     for data in [b"", raw(read[:3]), raw(read) + b"\x50", raw(read + [bus(0xF)])]:
-        step_refused(FRESH, data, 0xF, 104, 9, 0)
-    also("9, output: empty, without room for the return counts, one word short, one byte over, one word over.")
-    for out in [0, 88, 100, 105, 108]:
+        step_refused(FRESH, data, 0xF, 108, 9, 0)
+    also("9, output: empty, without room for the return counts, one word short (for the rounds left), one byte over, one word over.")
+    for out in [0, 88, 104, 109, 112]:
         step_refused(FRESH, read, 0xF, out, 9, 0)
     also("9 before 10: read one word short, and a controller bit at N.")
-    step_refused(FRESH, read[:3], 0x1F, 104, 9, 0)
+    step_refused(FRESH, read[:3], 0x1F, 108, 9, 0)
 
     note("10: controller bit at N with N = 4, bit 31; N = 2 bit 2; N = 16 bit 16.")
-    step_refused(FRESH, read, 0x1F, 104, 10, 0)
-    step_refused(FRESH, read, 0x8000000F, 104, 10, 0)
-    step_refused(State(TWO, 1), buses(0x3, 0x3), 0x4, 64, 10, 0)
-    step_refused(State(SIXTEEN, 1), buses(*[0xFFFF] * 16), 0x1FFFF, 344, 10, 0)
+    step_refused(FRESH, read, 0x1F, 108, 10, 0)
+    step_refused(FRESH, read, 0x8000000F, 108, 10, 0)
+    step_refused(State(TWO, 1), buses(0x3, 0x3), 0x4, 68, 10, 0)
+    step_refused(State(SIXTEEN, 1), buses(*[0xFFFF] * 16), 0x1FFFF, 348, 10, 0)
 
 
 # Steps of the sheet's module 1. All l = N, so u = 0 and every row comes from this read.
@@ -944,14 +959,14 @@ def page_openings():
     page_opened(SIXTEEN_MARKED, 16, page_words(0xFFFF, 0xFFFF))
     note("9: a page of 0, 60, 63, 65 and 68 bytes; an output of another length; both.")
     for length in (0, 60, 63, 65, 68):
-        page_open_refused(SHEET, 1, 104, length, 9, 0)
-    page_open_refused(SHEET, 1, 103, 64, 9, 0)
+        page_open_refused(SHEET, 1, 108, length, 9, 0)
+    page_open_refused(SHEET, 1, 107, 64, 9, 0)
     page_open_refused(SHEET, 1, 0, 4, 9, 0)
     also("1, 4, 6 and 7 before 9.")
-    page_open_refused(b"", 1, 104, 63, 1, 0)
-    page_open_refused(put(SHEET, {1: limit_p(0)}), 1, 104, 63, 4, 1)
-    page_open_refused(put(SHEET, {3: module(1, 0, 1, 1)}), 1, 104, 0, 6, 3)
-    page_open_refused(SHEET, 5, 104, 65, 7, 0)
+    page_open_refused(b"", 1, 108, 63, 1, 0)
+    page_open_refused(put(SHEET, {1: limit_p(0)}), 1, 108, 63, 4, 1)
+    page_open_refused(put(SHEET, {3: module(1, 0, 1, 1)}), 1, 108, 0, 6, 3)
+    page_open_refused(SHEET, 5, 108, 65, 7, 0)
 
 
 def page_steps():
@@ -1058,17 +1073,17 @@ def page_steps_with_causes():
 def page_steps_refused():
     note("9: a page of 0, 60, 63, 65 and 68 bytes; a read or an output of another length; all of them.")
     for length in (0, 60, 63, 65, 68):
-        page_step_refused(SHEET_1, ALL_ONES, 0xF, 104, (raw(ANY_PAGE) + bytes(4))[:length], 9, 0)
-    page_step_refused(SHEET_1, ALL_ONES[:3], 0xF, 104, ANY_PAGE, 9, 0)
-    page_step_refused(SHEET_1, ALL_ONES, 0xF, 100, ANY_PAGE, 9, 0)
-    page_step_refused(SHEET_1, ALL_ONES[:3], 0x10, 100, raw(ANY_PAGE)[:63], 9, 0)
+        page_step_refused(SHEET_1, ALL_ONES, 0xF, 108, (raw(ANY_PAGE) + bytes(4))[:length], 9, 0)
+    page_step_refused(SHEET_1, ALL_ONES[:3], 0xF, 108, ANY_PAGE, 9, 0)
+    page_step_refused(SHEET_1, ALL_ONES, 0xF, 104, ANY_PAGE, 9, 0)
+    page_step_refused(SHEET_1, ALL_ONES[:3], 0x10, 104, raw(ANY_PAGE)[:63], 9, 0)
     also("1, 2, 3 and 8 before 9; 9 for the page before 10; 10 with a page of 64 bytes.")
-    page_step_refused(b"", ALL_ONES, 0xF, 104, raw(ANY_PAGE)[:63], 1, 0)
-    page_step_refused(put(SHEET_1.words(), {0: head(17)}), ALL_ONES, 0xF, 104, raw(ANY_PAGE)[:63], 2, 0)
-    page_step_refused(SHEET_1.words()[:-1], ALL_ONES, 0xF, 104, b"", 3, 0)
-    page_step_refused(SHEET_1.but(penalty={1: 2}), ALL_ONES, 0xF, 104, b"", 8, 14)
-    page_step_refused(SHEET_1, ALL_ONES, 0x10, 104, raw(ANY_PAGE)[:60], 9, 0)
-    page_step_refused(SHEET_1, ALL_ONES, 0x10, 104, ANY_PAGE, 10, 0)
+    page_step_refused(b"", ALL_ONES, 0xF, 108, raw(ANY_PAGE)[:63], 1, 0)
+    page_step_refused(put(SHEET_1.words(), {0: head(17)}), ALL_ONES, 0xF, 108, raw(ANY_PAGE)[:63], 2, 0)
+    page_step_refused(SHEET_1.words()[:-1], ALL_ONES, 0xF, 108, b"", 3, 0)
+    page_step_refused(SHEET_1.but(penalty={1: 2}), ALL_ONES, 0xF, 108, b"", 8, 14)
+    page_step_refused(SHEET_1, ALL_ONES, 0x10, 108, raw(ANY_PAGE)[:60], 9, 0)
+    page_step_refused(SHEET_1, ALL_ONES, 0x10, 108, ANY_PAGE, 10, 0)
 
 
 def page_reads():
@@ -1164,7 +1179,7 @@ def causes_told():
 
 # Factor 1/2, limit 2.0. Words 0 to 9 are the setup, with the kind 0 word at 1, the factor at 2 and the limit at 4, the modules from 6 on;
 # 10 own number and view, 11 to 14 the previous read, 15 and 16 the syndromes, 17 to 24 the scores, those of module j at 15 + 2j; 25 to
-# 28 return counts.
+# 28 return counts, 29 the rounds left.
 FADING = setup_words(4, fading=(0.5, 2.0))
 FADING_TWO = setup_words(2, fading=(0.5, 2.0))
 FADING_SIXTEEN = setup_words(16, fading=(0.5, 2.0))
@@ -1301,12 +1316,12 @@ def fading_states():
 
 
 def fading_states_with_wrong_setup():
-    note("Numbers 1 to 7 in a fading state: one byte over; N = 17; one word short, one over, 5N+6 words; the setup alone.")
+    note("Numbers 1 to 7 in a fading state: one byte over; N = 17; one word short, one over, 5N+7 words; the setup alone.")
     state(raw(FADES_WORDS) + b"\x00", 1, 0)
     state(put(FADES_WORDS, {0: head(17)}), 2, 0)
-    for words in (FADES_WORDS[:-1], FADES_WORDS + [0], FADES_WORDS[:26], FADING):
+    for words in (FADES_WORDS[:-1], FADES_WORDS + [0], FADES_WORDS[:27], FADING):
         state(words, 3, 0)
-    also("3: a state with counts of 5N+9 words; one with counts and 0 for P's word.")
+    also("3: a state with counts of 5N+10 words; one with counts and 0 for P's word.")
     state(FRESH_WORDS + [0, 0, 0], 3, 0)
     state(put(FRESH_WORDS, {1: 0}), 3, 0)
     state(put(FADES_WORDS, {1: limit_p(1)}), 3, 0)
@@ -1334,10 +1349,10 @@ def fading_openings():
     open_refused(with_double(FADING, 2, 1.5), 0, 0, 22, 2)
     open_refused(with_double(FADING, 4, 0.0), 0, 0, 22, 4)
     open_refused(FADING, 5, 0, 7, 0)
-    for out in (0, 104, 112, 117, 120):
+    for out in (0, 108, 116, 121, 124):
         open_refused(FADING, 1, out, 9, 0)
     also("9: with counts, as long as with fading.")
-    open_refused(SHEET, 1, 116, 9, 0)
+    open_refused(SHEET, 1, 120, 9, 0)
 
 
 def fading_savings():
@@ -1348,7 +1363,7 @@ def fading_savings():
     also("22 and 8 before 9; 9 as in an opening.")
     save_refused(with_double(FADES_WORDS, 2, NO_NUMBERS[0]), 0, 22, 2)
     save_refused(FADES.but(score={3: -0.0}), 0, 8, 21)
-    for out in (0, 104, 112, 117, 120):
+    for out in (0, 108, 116, 121, 124):
         save_refused(FADES, out, 9, 0)
 
 
@@ -1356,10 +1371,10 @@ def fading_steps_refused():
     note("Fading steps: 22 and 8 before 9, 9 before 10, 10.")
     step_refused(put(FADES_WORDS, {1: 1 << 27}), b"", 1 << 31, 0, 22, 1)
     step_refused(FADES.but(view=0x7), b"", 1 << 31, 0, 8, 23)
-    for out in (0, 104, 112, 117, 120):
+    for out in (0, 108, 116, 121, 124):
         step_refused(FADES, ALL_ONES, 0xF, out, 9, 0)
-    step_refused(FADES, ALL_ONES[:3], 0x10, 116, 9, 0)
-    step_refused(FADES, ALL_ONES, 0x10, 116, 10, 0)
+    step_refused(FADES, ALL_ONES[:3], 0x10, 120, 9, 0)
+    step_refused(FADES, ALL_ONES, 0x10, 120, 10, 0)
 
 
 def charged(image, j, **fields):
@@ -1493,7 +1508,7 @@ def fading_steps_of_other_n():
 def fading_pages():
     note("Pages with fading. Opened; 9 for an output as long as with counts; 22 before 9.")
     page_opened(FADING, 1, FRESH_PAGE)
-    page_open_refused(FADING, 1, 104, 64, 9, 0)
+    page_open_refused(FADING, 1, 108, 64, 9, 0)
     page_open_refused(put(FADING, {1: 1}), 1, 0, 63, 22, 1)
     also("2 is charged and stays: bit 1. A second charge, it leaves: bits 0 and 1. Out of the view it is not charged.")
     seen, lack = buses(0xD, 0xD, 0xD, 0xD), [0xD] * 4
@@ -1506,13 +1521,421 @@ def fading_pages():
     page_stepped(FADED.but(returns={2: 2}), clear, page_words(0xF, 0xF, 1, 3), ALL_ONES, 0xF, 0xF, [0xF] * 4, 0xF, view=0xF,
                  score={2: 0.0}, returns={2: 0})
     also("22 and 8 before 9; 9; 10.")
-    page_step_refused(with_double(FADES_WORDS, 4, ABOVE_MOST), ALL_ONES, 0xF, 116, b"", 22, 4)
-    page_step_refused(FADES.but(score={1: INFINITE}), ALL_ONES, 0xF, 116, b"", 8, 17)
-    page_step_refused(FADES, ALL_ONES, 0x10, 104, ANY_PAGE, 9, 0)
-    page_step_refused(FADES, ALL_ONES, 0x10, 116, ANY_PAGE, 10, 0)
+    page_step_refused(with_double(FADES_WORDS, 4, ABOVE_MOST), ALL_ONES, 0xF, 120, b"", 22, 4)
+    page_step_refused(FADES.but(score={1: INFINITE}), ALL_ONES, 0xF, 120, b"", 8, 17)
+    page_step_refused(FADES, ALL_ONES, 0x10, 108, ANY_PAGE, 9, 0)
+    page_step_refused(FADES, ALL_ONES, 0x10, 120, ANY_PAGE, 10, 0)
 
 
-print("# Calls and their answers after document 01 and E1, E4, E5, E6 and E9 of document 02, in the format of e09-calls.txt;")
+# ---- new limits without a stop (document 02, E10) ----
+
+# P = 5, R = 4, criticalities 2, 1, 3, 1 in the place of P = 1, R = 3 and criticality 1. An image in which the change waits has 33 words: word 26
+# is the rounds left, 27 P, 28 R, 29 to 32 the modules.
+RAISED = setup_words(4, p=5, r=4, crit=[2, 1, 3, 1])
+WAITS = SHEET_1.but(pending=(1, RAISED))
+WAITS_WORDS = WAITS.words()
+
+
+def changes_accepted():
+    note("Changes that are accepted: the image, the rounds left and the new words of kinds 2, 3 and 4. Leads 1, 2, 999 and 1,000.")
+    for lead in (1, 2, 999, 1000):
+        changed(SHEET_1, RAISED, lead)
+    also("The same limits again. Only P, only R, only one criticality. The lowest and the highest limits.")
+    changed(SHEET_1, SHEET, 1)
+    for new in (setup_words(4, p=2), setup_words(4, r=4), setup_words(4, crit=[1, 1, 1, 2])):
+        changed(SHEET_1, new, 7)
+    changed(State(LARGE, 2), setup_words(4, p=1, r=1), 1)
+    changed(SHEET_1, LARGE, 1)
+    also("In the middle of a life: nothing else moves, whatever the new limits will do to it.")
+    changed(MIDDLE, setup_words(4, p=1000000, r=1), 1000)
+    changed(AWAY.but(returns={2: 2}), setup_words(4, p=3, q=3), 2)
+    also("N = 2 and 16, Q = 2, send marks.")
+    changed(State(TWO, 2), setup_words(2, p=9), 1)
+    changed(State(SIXTEEN_RETURN, 16), setup_words(16, p=9, q=2), 1000)
+    changed(State(MARKED_RETURN, 3), setup_words(4, p=9, q=2, l=[0, 0, 1, 2], marks=[2, 3, 4]), 3)
+
+
+def changes_refused_by_the_state():
+    note("Numbers 1 to 8 of the state come first: no new setup, lead 0 and no output in each call.")
+    change_refused(b"", b"", 0, 0, 1, 0)
+    change_refused(put(FRESH_WORDS, {0: head(17)}), b"", 0, 0, 2, 0)
+    change_refused(FRESH_WORDS[:26], b"", 0, 0, 3, 0)
+    change_refused(put(FRESH_WORDS, {2: limit_r(0)}), b"", 0, 0, 4, 2)
+    change_refused(put(FRESH_WORDS, {6: module(4, 5)}), b"", 0, 0, 5, 6)
+    change_refused(put(FRESH_WORDS, {3: module(1, 0, mark=1)}), b"", 0, 0, 6, 3)
+    change_refused(put(FRESH_WORDS, {7: own_view(5, 0xF)}), b"", 0, 0, 7, 7)
+    change_refused(put(FRESH_WORDS, {25: returns(4, 1)}), b"", 0, 0, 8, 25)
+    also("22 in the place of 4; 8 in the words of a change that waits.")
+    change_refused(with_double(FADES_WORDS, 4, 0.0), b"", 0, 0, 22, 4)
+    change_refused(put(WAITS_WORDS, {26: 1001}), b"", 0, 0, 8, 26)
+    change_refused(put(WAITS_WORDS, {27: limit_p(0)}), b"", 0, 0, 8, 27)
+
+
+def changes_refused_by_the_new_words():
+    note("Then the new setup by its own numbers and indexes: lead 0 and no output in each call, the state has a change that waits.")
+    for new, number, index in ((b"", 1, 0), (raw(RAISED)[:5], 1, 0), (raw(RAISED) + bytes(2), 1, 0), (put(RAISED, {0: head(17)}), 2, 0),
+                               (put(RAISED, {0: head(4) | 1 << 5}), 2, 0), (RAISED[:6], 3, 0), (RAISED + [module(5, 4)], 3, 0),
+                               (put(RAISED, {1: limit_p(0)}), 4, 1), (put(RAISED, {1: limit_p(1000001)}), 4, 1),
+                               (put(RAISED, {2: limit_r(8000001)}), 4, 2), (put(RAISED, {1: limit_r(3)}), 4, 1),
+                               (put(RAISED, {3: module(1, 5)}), 5, 3), (put(RAISED, {6: module(4, 4, crit=100001)}), 5, 6),
+                               (put(RAISED, {5: module(3, 4, crit=0)}), 5, 5), (put(RAISED, {3: module(1, 0, mark=1)}), 6, 3),
+                               (put(RAISED, {4: module(2, 2, mark=1)}), 6, 4)):
+        change_refused(WAITS, new, 0, 0, number, index)
+    also("A fading one: 3 for a wrong length, 22 in the place of 4, 5 and 6 three words further.")
+    for new, number, index in ((FADING[:9], 3, 0), (put(FADING, {1: 1}), 22, 1), (with_double(FADING, 2, ABOVE_1), 22, 2),
+                               (with_double(FADING, 4, -0.0), 22, 4), (put(FADING, {9: module(4, 5)}), 5, 9),
+                               (put(FADING, {7: module(2, 2, mark=1)}), 6, 7)):
+        change_refused(WAITS, new, 0, 0, number, index)
+        change_refused(FADES, new, 0, 0, number, index)
+    also("A wrong word in a setup of another N and Q: its own number, not 23.")
+    change_refused(SHEET_1, put(setup_words(3, q=2), {2: limit_r(0)}), 1, 132, 4, 2)
+
+
+def changes_refused_by_23():
+    note("23: N one less and one more; Q 1 for 0, 0 for 3 and 4 for 3.")
+    for new in (THREE, setup_words(5), RETURN_ONE):
+        change_refused(SHEET_1, new, 1, 132, 23, 0)
+    for q in (0, 2, 4):
+        change_refused(AWAY, setup_words(4, q=q), 1, 132, 23, 0)
+    also("23: N alone, with the same l and marks of the modules that both have: one more with l = 4 or 0, one less; 2 and 16.")
+    for l in (0, 4, 5):
+        change_refused(SHEET_1, setup_words(5, l=[4] * 4 + [l]), 1, 132, 23, 0)
+    early = State(setup_words(4, l=[0, 0, 1, 2], marks=[2, 3]), 1)
+    change_refused(early, setup_words(3, l=[0, 0, 1], marks=[2, 3]), 1, 132, 23, 0)
+    change_refused(State(setup_words(16, l=[0] * 16), 1), setup_words(2, l=[0, 0]), 1, 420, 23, 0)
+    change_refused(State(setup_words(2, l=[0, 0]), 1), setup_words(16, l=[0] * 16), 1, 84, 23, 0)
+    also("23: a read place, at each module, one less and 0; with u = 1 too. A mark more, a mark less.")
+    for j in range(1, 5):
+        for l in (0, 3):
+            change_refused(SHEET_1, put(RAISED, {2 + j: module(j, l)}), 1, 132, 23, 0)
+    marked = State(MARKED, 1)
+    change_refused(marked, put(MARKED, {3: module(1, 1)}), 1, 132, 23, 0)
+    change_refused(State(ONE_EARLY, 1), SHEET, 1, 132, 23, 0)
+    change_refused(State(ONE_EARLY, 1), put(ONE_EARLY, {6: module(4, 3, mark=1)}), 1, 132, 23, 0)
+    change_refused(marked, put(MARKED, {4: module(2, 0)}), 1, 132, 23, 0)
+    change_refused(marked, put(MARKED, {6: module(4, 2)}), 1, 132, 23, 0)
+    also("23: fading for counts, counts for fading, fading for fading, with other limits and the same.")
+    change_refused(SHEET_1, FADING, 1, 132, 23, 0)
+    change_refused(FADES, SHEET, 1, 144, 23, 0)
+    change_refused(FADES, setup_words(4, fading=(0.5, 3.0)), 1, 144, 23, 0)
+    change_refused(FADES, FADING, 1, 144, 23, 0)
+    also("23 before 24 and 9: a change waits, lead 0 and 1,001, no output.")
+    change_refused(WAITS, RETURN_ONE, 1, 132, 23, 0)
+    for lead in (0, 1001):
+        change_refused(SHEET_1, THREE, lead, 132, 23, 0)
+        change_refused(FADES, FADING, lead, 0, 23, 0)
+
+
+def changes_refused_by_24():
+    note("24: leads 0, 1,001, 65,537 (1 in the low 16 bits), 2^31 + 1 and the highest. 24 before 9: no output.")
+    for lead in (0, 1001, 65537, (1 << 31) + 1, (1 << 32) - 1):
+        change_refused(SHEET_1, RAISED, lead, 132, 24, 0)
+        change_refused(SHEET_1, RAISED, lead, 0, 24, 0)
+    also("24: a change waits, with 1, 2 and 1,000 rounds left; the same words again and others.")
+    for left in (1, 2, 1000):
+        for new in (RAISED, SHEET):
+            change_refused(SHEET_1.but(pending=(left, RAISED)), new, 1, 132, 24, 0)
+            change_refused(SHEET_1.but(pending=(left, RAISED)), new, 1, 0, 24, 0)
+
+
+def changes_refused_by_9():
+    note("9 comes last: output empty, one word and one byte short, as long as the image without a change, one byte and one word over.")
+    for out in (0, 128, 131, 108, 133, 136):
+        change_refused(SHEET_1, RAISED, 1, out, 9, 0)
+        change_refused(SHEET_1, SHEET, 1000, out, 9, 0)
+    also("9: N = 2 and 16.")
+    for out in (0, 68, 80, 88):
+        change_refused(State(TWO, 1), setup_words(2, p=2), 1, out, 9, 0)
+    for out in (348, 416, 424):
+        change_refused(State(SIXTEEN, 1), setup_words(16, p=2), 1, out, 9, 0)
+
+
+def pending_states():
+    note("States with a change that waits: 1, 2, 999 and 1,000 rounds left; the same limits; the lowest and the highest; N = 2 and 16.")
+    for left in (1, 2, 999, 1000):
+        state(SHEET_1.but(pending=(left, RAISED)), 0, 0)
+    for new in (SHEET, setup_words(4, r=1), LARGE):
+        state(MIDDLE.but(pending=(5, new)), 0, 0)
+    state(State(TWO, 1).but(pending=(1, setup_words(2, p=2))), 0, 0)
+    state(State(SIXTEEN_MARKED, 9).but(pending=(1, setup_words(16, p=2, l=list(range(16)), marks=range(2, 17)))), 0, 0)
+    also("Saved, with an output of that length; 9 for the length without a change, one word short, one over.")
+    saved(WAITS)
+    saved(AWAY.but(pending=(1000, setup_words(4, q=3, p=9))))
+    for out in (0, 108, 128, 131, 136):
+        save_refused(WAITS, out, 9, 0)
+    save_refused(SHEET_1, 132, 9, 0)
+
+    note("3: rounds left 0 and N+2 words behind it; rounds left 1, 1,000, 1,001 and all bits without them; one word short and one over; N+3",
+         "words, a whole setup, behind it.")
+    state(put(WAITS_WORDS, {26: 0}), 3, 0)
+    for left in (1, 1000, 1001, 0xFFFFFFFF):
+        state(put(FRESH_WORDS, {26: left}), 3, 0)
+    state(WAITS_WORDS[:32], 3, 0)
+    state(WAITS_WORDS + [0], 3, 0)
+    state(WAITS_WORDS[:27] + RAISED, 3, 0)
+    also("3: rounds left 0, and one word behind it; without the rounds-left word.")
+    state(FRESH_WORDS + [RAISED[1]], 3, 0)
+    state(WAITS_WORDS[:26] + RAISED[1:], 3, 0)
+    also("3 before 4 to 8: P = 0, own number 0 and a wrong reward, rounds left 1 without words. 1 and 2 before 3.")
+    state(put(FRESH_WORDS, {1: limit_p(0), 7: own_view(0, 0xF), 18: 0, 26: 1}), 3, 0)
+    state(raw(WAITS_WORDS[:32]) + bytes(1), 1, 0)
+    state(put(WAITS_WORDS[:32], {0: head(17)}), 2, 0)
+    also("3: fading with rounds left 1 and 1,001 and nothing behind, one word behind, N+1 and N+3 words behind.")
+    for left in (1, 1001):
+        for more in ([], [0], RAISED[1:6], RAISED):
+            state(FADES_WORDS[:29] + [left] + more, 3, 0)
+    also("3: fading with rounds left 0 and N+2 words behind.")
+    state(FADES_WORDS + RAISED[1:], 3, 0)
+
+
+def pending_states_refused():
+    note("8 at the rounds left (26): 1,001, 1,000 with bit 10 or bit 31, a word of kind 2, all bits.")
+    for left in (1001, 1000 | 1 << 10, 1000 | 1 << 31, limit_p(1), 0xFFFFFFFF):
+        state(put(WAITS_WORDS, {26: left}), 8, 26)
+    also("8 at the rounds left of a fading state (29), N+2 words behind it: 1, 1,000 and 1,001.")
+    for left in (1, 1000, 1001):
+        state(FADES_WORDS[:29] + [left] + RAISED[1:], 8, 29)
+        state(FADES_WORDS[:29] + [left] + [0] * 6, 8, 29)
+
+    note("8 at P (27) and R (28): 0, one over the highest, other kinds, the two in the other order; the head in the place of P.")
+    for at, wrong in ((27, limit_p(0)), (27, limit_p(1000001)), (27, kind(limit_p(1), 3)), (27, 0), (27, limit_p(1) | 1 << 27), (27, head(4)),
+                      (28, limit_r(0)), (28, limit_r(8000001)), (28, kind(limit_r(1), 2)), (28, limit_r(3) | 1 << 27), (28, 0)):
+        state(put(WAITS_WORDS, {at: wrong}), 8, at)
+    state(put(WAITS_WORDS, {27: limit_r(4), 28: limit_p(5)}), 8, 27)
+    also("1,000,000 and 8,000,000 are accepted, and 1 and 1.")
+    state(put(WAITS_WORDS, {27: limit_p(1000000), 28: limit_r(8000000)}), 0, 0)
+    state(put(WAITS_WORDS, {27: limit_p(1), 28: limit_r(1)}), 0, 0)
+
+    note("8 at a module's word (29 to 32): criticality 0 and 100,001, number 0 and the next one's, kind 5; l other than in the setup, above N",
+         "too; a mark that the setup has not.")
+    for j in range(1, 5):
+        at = 28 + j
+        for wrong in (module(j, 4, crit=0), module(j, 4, crit=100001), module(0, 4), module(j + 1, 4), kind(module(j, 4), 5),
+                      module(j, 3), module(j, 0), module(j, 5), module(j, 4, mark=1), module(j, 0, mark=1)):
+            state(put(WAITS_WORDS, {at: wrong}), 8, at)
+        state(put(WAITS_WORDS, {at: module(j, 4, crit=100000)}), 0, 0)
+    state(put(WAITS_WORDS, {30: module(3, 4), 31: module(2, 4)}), 8, 30)
+    also("With the marks of the setup, l = 0, 0, 1, 2: a mark less, and an l that is right by itself, are wrong too.")
+    marked = State(MARKED, 2).but(pending=(4, MARKED)).words()
+    state(marked, 0, 0)
+    for at, wrong in ((29, module(1, 1)), (30, module(2, 0)), (30, module(2, 1, mark=1)), (31, module(3, 1)), (32, module(4, 3, mark=1)),
+                      (32, module(4, 2))):
+        state(put(marked, {at: wrong}), 8, at)
+
+    note("8 at several words, the first counts: the rounds left and P; P and a module; a mark at 29 and criticality 0 at 32; l at 30 and",
+         "criticality 0 at 29; a return count (25) and the rounds left; a reward (18) and P.")
+    state(put(WAITS_WORDS, {26: 1001, 27: 0}), 8, 26)
+    state(put(WAITS_WORDS, {27: limit_p(0), 29: 0}), 8, 27)
+    state(put(WAITS_WORDS, {29: module(1, 4, mark=1), 32: module(4, 4, crit=0)}), 8, 29)
+    state(put(WAITS_WORDS, {29: module(1, 4, crit=0), 30: module(2, 3)}), 8, 29)
+    state(put(WAITS_WORDS, {25: returns(4, 1), 26: 1001}), 8, 25)
+    state(put(WAITS_WORDS, {18: reward(1, 3), 27: 0}), 8, 18)
+    also("4 to 7 before 8: P = 0 in the setup, l = 5, a mark, own number 0; the pending P is 0.")
+    wrong = put(WAITS_WORDS, {27: limit_p(0)})
+    state(put(wrong, {1: limit_p(0)}), 4, 1)
+    state(put(wrong, {6: module(4, 5)}), 5, 6)
+    state(put(wrong, {3: module(1, 0, mark=1)}), 6, 3)
+    state(put(wrong, {7: own_view(0, 0xF)}), 7, 7)
+    also("The counters are held to the limits that still hold: penalty 1 in the view with P = 1, 2 is not; R = 3 with reward 2, 3 is not.")
+    state(WAITS.but(penalty={2: 1}, reward={2: 2}), 0, 0)
+    state(WAITS.but(penalty={2: 2}), 8, 15)
+    state(WAITS.but(penalty={2: 1}, reward={2: 3}), 8, 19)
+    also("N = 16: rounds left at 86, 16 at 104.")
+    sixteen = State(SIXTEEN, 1).but(pending=(1, setup_words(16, p=2))).words()
+    state(put(sixteen, {86: 1001}), 8, 86)
+    state(put(sixteen, {104: module(16, 15)}), 8, 104)
+
+
+def steps_before_a_change():
+    note("Three rounds left: two steps go by P = 1, and one round less is left after each. 2 is charged once in the first; the second charge",
+         "makes it leave.")
+    three = SHEET_1.but(pending=(3, RAISED))
+    two = charged(three, 2, penalty={2: 1}, pending=(2, RAISED))
+    charged(two, 2, penalty={2: 2}, view=0xD, pending=(1, RAISED))
+    one = good(two, reward={2: 1}, pending=(1, RAISED))
+    also("With one left the step goes by P = 5, R = 4 and criticality 2, 1, 3, 1, and the image is shorter by N + 2 words.")
+    after = good(one, reward={2: 2}, setup=RAISED, pending=None)
+    charged(after, 1, penalty={1: 2}, reward={2: 3})
+    also("1,000 left: 999 after the step.")
+    good(SHEET_1.but(pending=(1000, RAISED)), pending=(999, RAISED))
+    note("9: the output has the length of the image after the step: with two left that of a pending change, with one left that without.",
+         "9 before 10.")
+    for out in (0, 108, 128, 131, 136):
+        step_refused(two, ALL_ONES, 0xF, out, 9, 0)
+        step_refused(two, ALL_ONES, 0x10, out, 9, 0)
+    for out in (0, 104, 107, 112, 132):
+        step_refused(one, ALL_ONES, 0xF, out, 9, 0)
+        step_refused(one, ALL_ONES, 0x10, out, 9, 0)
+    step_refused(SHEET_1, ALL_ONES, 0xF, 132, 9, 0)
+    step_refused(two, ALL_ONES[:3], 0xF, 132, 9, 0)
+    also("10 with the right length. 8 in the pending words before 9.")
+    step_refused(two, ALL_ONES, 0x10, 132, 10, 0)
+    step_refused(one, ALL_ONES, 0x10, 108, 10, 0)
+    step_refused(put(WAITS_WORDS, {32: 0}), b"", 1 << 31, 0, 8, 32)
+
+
+def applied(new, image):
+    """The state in which the change waits for this step alone."""
+    return image.but(pending=(1, new))
+
+
+def steps_that_raise_p():
+    note("P raised from 1 to 5. 2 has penalty 1 and is charged in this very round: by the new P it stays.")
+    five = setup_words(4, p=5)
+    charged(applied(five, SHEET_1.but(penalty={2: 1})), 2, penalty={2: 2}, setup=five, pending=None)
+    also("Charged by its new criticality: 4, 5 and 6 are added; 4 + 1 is P = 5, above it 2 leaves.")
+    for crit, view in ((4, 0xF), (5, 0xD), (6, 0xD)):
+        new = setup_words(4, p=5, crit=[1, crit, 1, 1])
+        charged(applied(new, SHEET_1.but(penalty={2: 1})), 2, penalty={2: 1 + crit}, view=view, setup=new, pending=None)
+    also("2 is outside with penalty 2 and reward 1: it stays outside, raised to P + 1 = 6, with reward 0. Q = 0: health 1 counts nothing.")
+    outside = SHEET_1.but(view=0xD, penalty={2: 2}, reward={2: 1})
+    good(applied(five, outside), penalty={2: 6}, reward={2: 0}, setup=five, pending=None)
+    charged(applied(five, outside), 2, penalty={2: 6}, reward={2: 0}, setup=five, pending=None)
+    also("The same limits again: penalty 2 stays, reward 1 becomes 0.")
+    good(applied(SHEET, outside), reward={2: 0}, pending=None)
+    also("P = 1,000,000: outside raised to 1,000,001.")
+    good(applied(LARGE, outside), penalty={2: 1000001}, reward={2: 0}, setup=LARGE, pending=None)
+
+
+def steps_that_lower_p():
+    note("P = 5, criticality 3, penalties 1, 3, 5 and 4, R = 3. New P = 3, criticality 1: 3 and 4 leave without a charge, cut to P + criticality = 4.",
+         "1 and 2 stay, each with its reward grown by 1. Q = 0.")
+    low = setup_words(4, p=3)
+    good(applied(low, State(WIDE, 1).but(penalty={1: 1, 2: 3, 3: 5, 4: 4}, reward={2: 1, 3: 2})), penalty={3: 4, 4: 4},
+         reward={1: 1, 2: 2, 3: 0}, view=0x3, setup=low, pending=None)
+    also("Criticality 2: cut to 5, which 3 has; 4 has 4, which is P + 1.")
+    two = setup_words(4, p=3, crit=[2] * 4)
+    good(applied(two, State(WIDE, 1).but(penalty={3: 5, 4: 4})), view=0x3, setup=two, pending=None)
+    also("Outside with 8, 7 and 6: cut to 5.")
+    for penalty_then in (8, 7, 6):
+        good(applied(two, State(WIDE, 1).but(view=0xB, penalty={3: penalty_then})), penalty={3: 5}, setup=two, pending=None)
+    also("Outside with 8: cut to 4; in the view with 4: leaves, and stays at 4. The step charges neither, though 3 has health 0.")
+    charged(applied(low, State(WIDE, 1).but(view=0xB, penalty={3: 8, 4: 4}, reward={3: 2})), 3, penalty={3: 4}, reward={3: 0}, view=0x3,
+            setup=low, pending=None)
+    also("From the highest to the lowest: 1,100,000 outside and 1,000,000 in the view become 2.")
+    good(applied(SHEET, State(LARGE, 1).but(view=0xE, penalty={1: 1100000, 2: 1000000}, reward={1: 7999999, 2: 1})), penalty={1: 2, 2: 2},
+         reward={1: 0, 2: 0}, view=0xC, setup=SHEET, pending=None)
+
+
+def steps_that_lower_r():
+    note("R lowered from 3 to 2: reward 2 is at the new R, both counters become 0; reward 1 is below, and grows to 2 in this round, which is R:",
+         "both 0.")
+    two = setup_words(4, p=5, r=2, crit=[3] * 4)
+    good(applied(two, State(WIDE, 1).but(penalty={1: 5, 2: 5, 3: 5}, reward={1: 2, 2: 1})), penalty={1: 0, 2: 0}, reward={1: 0, 2: 0, 3: 1},
+         setup=two, pending=None)
+    also("R = 1: reward 1 and 2 are cleared, reward 0 is not by the change, but by the good round.")
+    one = setup_words(4, p=5, r=1, crit=[3] * 4)
+    good(applied(one, State(WIDE, 1).but(penalty={1: 5, 2: 5, 3: 5}, reward={1: 2, 2: 1})), penalty={1: 0, 2: 0, 3: 0}, reward={1: 0, 2: 0},
+         setup=one, pending=None)
+    also("Cleared first, so it does not leave: penalty 5, reward 2, new P = 1 and R = 2. Without the reward it leaves.")
+    both = setup_words(4, p=1, r=2)
+    good(applied(both, State(WIDE, 1).but(penalty={1: 5, 2: 5}, reward={1: 2, 2: 1})), penalty={1: 0, 2: 2}, reward={1: 0, 2: 0}, view=0xD,
+         setup=both, pending=None)
+    also("Cleared and charged in this round: penalty 1, the new criticality; P = 1, it stays.")
+    charged(applied(both, State(WIDE, 1).but(penalty={1: 5}, reward={1: 2})), 1, penalty={1: 1}, reward={1: 0}, setup=both, pending=None)
+    also("Outside the reward does not clear: penalty 6 is cut to P + criticality = 2.")
+    good(applied(both, State(WIDE, 1).but(view=0xE, penalty={1: 6}, reward={1: 2})), penalty={1: 2}, reward={1: 0}, setup=both, pending=None)
+    also("R raised: a reward goes on.")
+    more = setup_words(4, r=8000000)
+    good(applied(more, SHEET_1.but(penalty={1: 1}, reward={1: 2})), reward={1: 3}, setup=more, pending=None)
+
+
+def steps_of_changes_and_returns():
+    note("Q = 3, P from 5 to 1. 2 leaves by the change with health 1: its return count is 1 after the step; with health 0 it is 0.")
+    wide, low = setup_words(4, p=5, q=3), setup_words(4, p=1, q=3)
+    waits = applied(low, State(wide, 1).but(penalty={2: 5}))
+    one = good(waits, penalty={2: 2}, view=0xD, returns={2: 1}, setup=low, pending=None)
+    charged(waits, 2, penalty={2: 2}, view=0xD, setup=low, pending=None)
+    also("It returns in the step after the next, with the new P.")
+    good(good(one, returns={2: 2}), penalty={2: 1}, view=0xF, returns={2: 0})
+    also("Q = 1: it is back in the same step with the new P. With health 0 it is out.")
+    quick, quick_low = setup_words(4, p=5, q=1), setup_words(4, p=1, q=1)
+    waits = applied(quick_low, State(quick, 1).but(penalty={2: 5}, reward={2: 1}))
+    good(waits, penalty={2: 1}, reward={2: 0}, setup=quick_low, pending=None)
+    charged(waits, 2, penalty={2: 2}, reward={2: 0}, view=0xD, setup=quick_low, pending=None)
+    also("Q = 0: nothing is counted.")
+    good(applied(SHEET, State(setup_words(4, p=5), 1).but(penalty={2: 5})), penalty={2: 2}, view=0xD, setup=SHEET, pending=None)
+    also("Outside before: the count is not touched by the change. Q = 3: 1 becomes 2, 2 returns with the new P = 9; health 0 begins anew.")
+    nine = setup_words(4, p=9, q=3)
+    good(applied(nine, AWAY.but(returns={2: 1})), penalty={2: 10}, reward={2: 0}, returns={2: 2}, setup=nine, pending=None)
+    good(applied(nine, AWAY.but(returns={2: 2})), penalty={2: 9}, reward={2: 0}, view=0xF, returns={2: 0}, setup=nine, pending=None)
+    charged(applied(nine, AWAY.but(returns={2: 2})), 2, penalty={2: 10}, reward={2: 0}, returns={2: 0}, setup=nine, pending=None)
+    also("While it waits: the return goes by the old P.")
+    good(AWAY.but(returns={2: 2}, pending=(2, nine)), penalty={2: 1}, reward={2: 0}, view=0xF, returns={2: 0}, pending=(1, nine))
+
+
+def steps_of_changes_and_votes():
+    note("The vote goes by the view as it was. 2 leaves by the change, but its row votes: on 1 rows 2, 3, 4 vote 0, 1, 0. 1 is charged, row 3",
+         "accused. In the next step it does not vote: rows 3 and 4 vote 1 and 0, equal, 1; row 4 is accused, row 2 is not.")
+    rows = [0xF, 0xE, 0xF, 0xE]
+    waits = applied(SHEET, State(setup_words(4, p=5), 1).but(penalty={2: 5}))
+    after = stepped(waits, buses(*rows), 0xF, 0xE, rows, 0xB, penalty={1: 1, 2: 2}, view=0xD, setup=SHEET, pending=None)
+    stepped(after, buses(*rows), 0xF, 0xF, rows, 0x7, reward={1: 1})
+    also("The row of 2 alone differs: it is accused though it leaves in this step, so the syndrome lacks it.")
+    rows = [0xF, 0xE, 0xF, 0xF]
+    stepped(waits, buses(*rows), 0xF, 0xF, rows, 0xD, penalty={2: 2}, view=0xD, setup=SHEET, pending=None)
+    also("Outside before, it has no vote, and is not accused, in this step either.")
+    outside = applied(setup_words(4, p=5), SHEET_1.but(view=0xD, penalty={2: 2}))
+    rows = [0xF, 0xE, 0xF, 0xE]
+    stepped(outside, buses(*rows), 0xF, 0xF, rows, 0x7, penalty={2: 6}, setup=setup_words(4, p=5), pending=None)
+    also("All leave by the change: the next vote is empty, by the latest syndrome.")
+    alone = good(applied(SHEET, State(setup_words(4, p=5), 1).but(penalty={j: 5 for j in range(1, 5)})),
+                 penalty={j: 2 for j in range(1, 5)}, view=0x0, setup=SHEET, pending=None)
+    stepped(alone, buses(0, 0, 0, 0), 0xF, 0xF, [0] * 4, 0xF)
+    note("u = 1 with marks, Q = 2, module 4 with l = 2: as with u = 0; rows 1 and 2 are those of the read before.")
+    new = setup_words(4, p=1, r=2, q=2, l=[0, 0, 1, 2], marks=[2, 3, 4])
+    old = setup_words(4, p=4, q=2, l=[0, 0, 1, 2], marks=[2, 3, 4])
+    stepped(applied(new, State(old, 4).but(row=[0xD, 0xD, 0xF, 0xF], penalty={2: 4, 3: 3}, reward={3: 2})), buses(0xF, 0xF, 0xD, 0xD), 0xF,
+            0xD, [0xF, 0xF, 0xD, 0xD], 0xF, penalty={2: 2, 3: 0}, reward={3: 0}, view=0xD, setup=new, pending=None)
+    note("N = 2 and 16.")
+    good(applied(TWO, State(setup_words(2, p=9), 2).but(penalty={1: 9})), penalty={1: 2}, view=0x2, setup=TWO, pending=None)
+    sixteen = setup_words(16, p=3, r=2, q=2, crit=[2] * 16)
+    charged(applied(sixteen, State(setup_words(16, p=7, q=2), 5).but(view=0xFFFE, penalty={1: 8, 15: 5, 16: 3}, reward={16: 1}, returns={1: 1})), 16,
+            penalty={1: 3, 15: 5, 16: 5}, reward={16: 0}, view=0x3FFF, returns={1: 0, 15: 1}, setup=sixteen, pending=None)
+
+
+def pages_of_changes():
+    quiet = page_words(0xF, 0xF, 0, 3)
+    low = setup_words(4, p=1)
+    waits = applied(low, State(setup_words(4, p=5), 1).but(penalty={2: 5}))
+    seen, lack, full_rows = buses(0xD, 0xD, 0xD, 0xD), [0xD] * 4, [0xF] * 4
+    note("2 leaves by the change with health 1: the view changed, nobody is charged. With health 0 the same: rule 8 finds it outside.")
+    page_stepped(waits, quiet, page_words(0xF, 0xD, 1, 3), ALL_ONES, 0xF, 0xF, full_rows, 0xF, penalty={2: 2}, view=0xD, setup=low, pending=None)
+    page_stepped(waits, quiet, page_words(0xD, 0xD, 1, 3), seen, 0xF, 0xD, lack, 0xF, penalty={2: 2}, view=0xD, setup=low, pending=None)
+    also("3 has health 0 and is in the view after the change: charged. 2 leaves.")
+    rows = [0xB] * 4
+    page_stepped(waits, quiet, page_words(0xB, 0xD, 3, 3), buses(*rows), 0xF, 0xB, rows, 0xF, penalty={2: 2, 3: 1}, view=0xD, setup=low,
+                 pending=None)
+    also("Penalty 5, reward 2, new P = 1 and R = 2, health 0: cleared first, so it is in the view and charged.")
+    both = setup_words(4, p=1, r=2)
+    page_stepped(applied(both, State(setup_words(4, p=5), 1).but(penalty={2: 5}, reward={2: 2})), quiet, page_words(0xD, 0xF, 2, 3), seen, 0xF,
+                 0xD, lack, 0xF, penalty={2: 1}, reward={2: 0}, setup=both, pending=None)
+    also("Two rounds left: the change does not yet put 2 out, which has health 0. Charged, and it stays, with 6 = P.")
+    page_stepped(State(setup_words(4, p=6), 1).but(penalty={2: 5}, pending=(2, low)), quiet, page_words(0xD, 0xF, 2, 3), seen, 0xF, 0xD, lack, 0xF,
+                 penalty={2: 6}, pending=(1, low))
+    also("Q = 1: it leaves by the change and is back in the same step; the page does not see it.")
+    quick = setup_words(4, p=1, q=1)
+    page_stepped(applied(quick, State(setup_words(4, p=5, q=1), 1).but(penalty={2: 5})), quiet, quiet, ALL_ONES, 0xF, 0xF, full_rows, 0xF,
+                 penalty={2: 1}, setup=quick, pending=None)
+    also("A change of P alone that moves nobody: no flag. While it waits: as without.")
+    raised = setup_words(4, p=5)
+    page_stepped(applied(raised, SHEET_1), quiet, quiet, ALL_ONES, 0xF, 0xF, full_rows, 0xF, setup=raised, pending=None)
+    page_stepped(SHEET_1.but(pending=(2, raised)), quiet, page_words(0xD, 0xF, 2, 3), seen, 0xF, 0xD, lack, 0xF, penalty={2: 1},
+                 pending=(1, raised))
+    also("Raised in time: the second charge does not put 2 out.")
+    page_stepped(applied(raised, SHEET_1.but(penalty={2: 1})), quiet, page_words(0xD, 0xF, 2, 3), seen, 0xF, 0xD, lack, 0xF, penalty={2: 2},
+                 setup=raised, pending=None)
+    also("9 by the length of the image after the step, and for the page; before 10. 8 in the pending words before 9.")
+    for out in (108, 128, 136):
+        page_step_refused(SHEET_1.but(pending=(2, raised)), ALL_ONES, 0x10, out, quiet, 9, 0)
+    for out in (104, 112, 132):
+        page_step_refused(applied(raised, SHEET_1), ALL_ONES, 0x10, out, quiet, 9, 0)
+    page_step_refused(applied(raised, SHEET_1), ALL_ONES, 0x10, 108, raw(quiet)[:60], 9, 0)
+    page_step_refused(applied(raised, SHEET_1), ALL_ONES, 0x10, 108, quiet, 10, 0)
+    page_step_refused(put(WAITS_WORDS, {29: 0}), ALL_ONES, 0x10, 0, b"", 8, 29)
+
+
+print("# Calls and their answers after document 01 and E1, E4, E5, E6, E9 and E10 of document 02, in the format of e10-calls.txt;")
 print("# a cause that is refused is written cause CTLBIT WORD N = refused NUMBER at INDEX.")
 print("# A number before a colon or a comma at the start of a comment is the answer's number.")
 print("# Vectors in the comments are as printed: module 1 stands leftmost.")
@@ -1568,3 +1991,18 @@ fading_steps_of_factors()
 fading_steps_of_returns()
 fading_steps_of_other_n()
 fading_pages()
+changes_accepted()
+changes_refused_by_the_state()
+changes_refused_by_the_new_words()
+changes_refused_by_23()
+changes_refused_by_24()
+changes_refused_by_9()
+pending_states()
+pending_states_refused()
+steps_before_a_change()
+steps_that_raise_p()
+steps_that_lower_p()
+steps_that_lower_r()
+steps_of_changes_and_returns()
+steps_of_changes_and_votes()
+pages_of_changes()

@@ -11,6 +11,8 @@ of rounds, divided by the rounds between.  "step" is the step function with all
 that it calls, "total" the whole program (the driver's loop included); "page"
 is presence_page_step.  All get the same inputs (rounds.h); their checksums
 over final image and health vectors must be equal, or the exit status is 1.
+With counts also of a step while a change of the limits is pending, and of one
+that applies it.
 
 Stack: of every call that the archive exports, and of the step of plain.c, each
 at its deepest over u and all kinds of rounds, accepted and refused
@@ -73,11 +75,11 @@ class Implementation:
         run([*GCC, *self.flags, *(os.path.join(HERE, source) for source in sources), *link, "-o", program])
         return program
 
-    def instructions(self, form, n, u, kind, rounds):
-        """Instructions of the program, of the step function, and what it printed."""
+    def instructions(self, form, n, u, kind, rounds, change):
+        """Instructions of the program, of the step function, and what it printed. change: none, or an argument of the driver."""
         out = os.path.join(self.build, "callgrind.out")
         printed = run(["valgrind", "--tool=callgrind", "--callgrind-out-file=" + out, "-q",
-                       self.driver, str(n), str(u), form, kind, str(rounds)])
+                       self.driver, str(n), str(u), form, kind, str(rounds), *change])
         table = run(["callgrind_annotate", "--inclusive=yes", "--threshold=100", out])
         os.remove(out)
         total = re.search(r"^\s*([\d,]+).*PROGRAM TOTALS", table, re.M)
@@ -87,8 +89,8 @@ class Implementation:
         number = lambda found: int(found.group(1).replace(",", ""))
         return number(total), number(step), printed
 
-    def per_step(self, form, n, u, kind):
-        few, many = (self.instructions(form, n, u, kind, rounds) for rounds in (FEW, MANY))
+    def per_step(self, form, n, u, kind, change=()):
+        few, many = (self.instructions(form, n, u, kind, rounds, change) for rounds in (FEW, MANY))
         between = MANY - FEW
         return (many[0] - few[0]) / between, (many[1] - few[1]) / between, many[2]
 
@@ -123,6 +125,32 @@ def print_all_instructions(plain, presence, page, form, sizes):
         for u in (0, 1):
             for kind in KINDS:
                 equal = print_instructions(plain, presence, page, form, n, u, kind) and equal
+    print()
+    return equal
+
+
+def print_change(plain, presence, page, n, u, kind):
+    """One line of the table of changes.  Answers whether all printed the same."""
+    cells, equal = [], True
+    for change in ("waits", "applied"):
+        (_, plain_step, plain_says), (_, step, says), (_, page_step, page_says) = (
+            one.per_step("counts", n, u, kind, (change,)) for one in (plain, presence, page))
+        cells += [plain_step, step, step / plain_step, page_step]
+        equal = equal and plain_says == says == page_says
+    print("%2d %d %-6s | %9.1f %9.1f %5.2f %9.1f | %9.1f %9.1f %5.2f %9.1f%s"
+          % (n, u, kind, *cells, "" if equal else "   RESULTS DIFFER"), flush=True)
+    return equal
+
+
+def print_all_changes(plain, presence, page, sizes):
+    """Answers whether the results were equal everywhere."""
+    print("Instructions a step of counts with a change (left while it is pending, right where the step applies it; ratios are presence / plain)")
+    print(" N u rounds |     plain  presence ratio      page |     plain  presence ratio      page")
+    equal = True
+    for n in sizes:
+        for u in (0, 1):
+            for kind in KINDS:
+                equal = print_change(plain, presence, page, n, u, kind) and equal
     print()
     return equal
 
@@ -192,7 +220,7 @@ def print_code_sizes(both, archive):
         own = OBJECTS[one.name]
         linked = sum(text_bytes(one.compile(["use.c"], one.link)).values())
         rest = sum(text_bytes(one.compile(["use.c", "none.c"], [])).values())
-        print("  %-8s %7d in %s, %d of it linked when setup check, opening, step, saving and outgoing word are used"
+        print("  %-8s %7d in %s, %d of it linked when setup check, opening, step, saving, change and outgoing word are used"
               % (one.name, text_bytes(one.link[0])[own], own, linked - rest))
     objects = ["%s %d" % (name, size) for name, size in sorted(text_bytes(archive).items())]
     print("  %s: %s" % (os.path.basename(archive), ", ".join(objects)))
@@ -282,6 +310,7 @@ def main():
     if options.steps:
         return 0 if all([steps_as_said(presence, page, form) for form in FORMS]) else 1
     equal = all([print_all_instructions(plain, presence, page, form, sizes) for form in FORMS])
+    equal = print_all_changes(plain, presence, page, sizes) and equal
     for form in FORMS:
         print_all_stacks(plain, presence, form, sizes)
     print_code_sizes((plain, presence), archive)

@@ -33,6 +33,15 @@ presence_answer SAVE(const uint8_t *state, size_t state_len, uint8_t *out,
     return a;
 }
 
+presence_answer CHANGE(const uint8_t *state, size_t state_len,
+                       const uint8_t *setup, size_t setup_len, uint32_t lead,
+                       uint8_t *out, size_t out_len)
+{
+    (void)state, (void)state_len, (void)setup, (void)setup_len;
+    (void)lead, (void)out, (void)out_len;
+    return a;
+}
+
 presence_word OUTGOING(const uint8_t *state, size_t state_len)
 {
     (void)state, (void)state_len;

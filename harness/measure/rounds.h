@@ -19,6 +19,9 @@
  * P = 1,000,000 and criticality 1 in the first three: no module leaves the
  * view.  P = 1 in the others.  With fading the limit is 1,000,000 and 1, the
  * factor 0.9.
+ *
+ * With counts a change may wait in each step, or be applied in each: to another
+ * P where it is 1,000,000, and to criticality 2, and back.  It puts nobody out.
  */
 #ifndef ROUNDS_H
 #define ROUNDS_H
@@ -257,6 +260,25 @@ static void rounds_begin(const struct rounds *r, uint8_t *image)
             rounds_put(image, 2 * n + 5 + j, 0xD0000000 | j << 23 | penalty);
     if (r->kind == AWAY)
         rounds_put(image + r->setup_len, 0, 0xA0000000 | r->own << 16);
+}
+
+/* The image, of counts, with a pending change: in every other round back to the
+   limits of the setup. */
+static void rounds_change(const struct rounds *r, uint8_t *image, uint32_t k,
+                          uint32_t left)
+{
+    uint32_t at = 5 * r->n + 6, p = (uint32_t)r->setup[7], j;
+    const uint8_t *module;
+
+    p |= (uint32_t)r->setup[6] << 8 | (uint32_t)r->setup[5] << 16;
+    rounds_put(image, at, left);
+    rounds_put(image, at + 1, 0x20000000 | (k % 2 == 0 && p > 1 ? p - 1 : p));
+    memcpy(image + 4 * (at + 2), r->setup + 8, 4);
+    for (j = 1; j <= r->n; j++) {
+        module = r->setup + 4 * (2 + j);
+        memcpy(image + 4 * (at + 2 + j), module, 4);
+        image[4 * (at + 2 + j) + 3] = k % 2 == 0 ? 2 : 1;
+    }
 }
 
 /* The place of a name in a list, -1 if it is not there. */

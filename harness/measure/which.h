@@ -11,6 +11,7 @@
 #define OPEN plain_open
 #define STEP plain_step
 #define SAVE plain_save
+#define CHANGE plain_change
 #define OUTGOING plain_outgoing
 #elif defined PAGE
 #include "presence.h"
@@ -23,6 +24,7 @@ static uint8_t page[PRESENCE_PAGE_BYTES];
 #define OPEN presence_open
 #define STEP presence_step
 #define SAVE presence_save
+#define CHANGE presence_change
 #define OUTGOING presence_outgoing
 #endif
 

@@ -9,6 +9,7 @@ pub enum Call {
     Open { setup: Vec<u8>, own: u32, out_len: usize },
     Step { state: Vec<u8>, read: Vec<u8>, controller: u32, out_len: usize },
     Save { state: Vec<u8>, out_len: usize },
+    Change { state: Vec<u8>, setup: Vec<u8>, lead: u32, out_len: usize },
     Outgoing { state: Vec<u8> },
     PageOpen { setup: Vec<u8>, own: u32, out_len: usize, page_len: usize },
     PageStep { state: Vec<u8>, read: Vec<u8>, controller: u32, out_len: usize, page: Vec<u8> },
@@ -101,6 +102,7 @@ impl Call {
             Call::Open { out_len, .. }
             | Call::Step { out_len, .. }
             | Call::Save { out_len, .. }
+            | Call::Change { out_len, .. }
             | Call::PageOpen { out_len, .. }
             | Call::PageStep { out_len, .. } => *out_len,
             _ => 0,
@@ -115,6 +117,7 @@ impl Call {
             Call::Open { setup, own, .. } => on.open(setup, *own, out).into(),
             Call::Step { state, read, controller, .. } => on.step(state, read, *controller, out).into(),
             Call::Save { state, .. } => on.save(state, out).into(),
+            Call::Change { state, setup, lead, .. } => on.change(state, setup, *lead, out).into(),
             Call::Outgoing { state } => on.outgoing(state).into(),
             Call::PageOpen { setup, own, .. } => on.page_open(setup, *own, out, page_lent).into(),
             Call::PageStep { state, read, controller, .. } => {
@@ -136,6 +139,9 @@ impl Call {
                 format!("step {} {} {controller:X} {out_len}", to_hex(state), to_hex(read))
             }
             Call::Save { state, out_len } => format!("save {} {out_len}", to_hex(state)),
+            Call::Change { state, setup, lead, out_len } => {
+                format!("change {} {} {lead} {out_len}", to_hex(state), to_hex(setup))
+            }
             Call::Outgoing { state } => format!("outgoing {}", to_hex(state)),
             Call::PageOpen { setup, own, out_len, page_len } => {
                 format!("pageopen {} {own} {out_len} {page_len}", to_hex(setup))

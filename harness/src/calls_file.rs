@@ -73,6 +73,11 @@ fn cases(call: &[&str], answer: &[&str]) -> Result<Vec<Case>, String> {
             let call = Call::Save { state: bytes(state)?, out_len: decimal(out_len)? as usize };
             Ok(vec![case(call, number, index, Some(health), output)?])
         }
+        (["change", state, setup, lead, out_len], [number, index, health, output]) => {
+            let (lead, out_len) = (decimal(lead)?, decimal(out_len)? as usize);
+            let call = Call::Change { state: bytes(state)?, setup: bytes(setup)?, lead, out_len };
+            Ok(vec![case(call, number, index, Some(health), output)?])
+        }
         (["cause", controller, word, n], answer) => {
             let call = Call::ReadCause { n: decimal(n)?, controller: decimal(controller)?, word: hexadecimal(word)? };
             Ok(vec![cause_case(call, answer)?])

@@ -46,6 +46,15 @@ extern "C" {
         out_len: usize,
     ) -> PresenceAnswer;
     fn presence_save(state: *const u8, state_len: usize, out: *mut u8, out_len: usize) -> PresenceAnswer;
+    fn presence_change(
+        state: *const u8,
+        state_len: usize,
+        setup: *const u8,
+        setup_len: usize,
+        lead: u32,
+        out: *mut u8,
+        out_len: usize,
+    ) -> PresenceAnswer;
     fn presence_outgoing(state: *const u8, state_len: usize) -> PresenceWord;
     fn presence_page_open(
         setup: *const u8,
@@ -99,6 +108,19 @@ impl Functions for Library {
     }
     fn save(&self, state: &[u8], out: &mut [u8]) -> Answer {
         from_c(unsafe { presence_save(state.as_ptr(), state.len(), out.as_mut_ptr(), out.len()) })
+    }
+    fn change(&self, state: &[u8], setup: &[u8], lead: u32, out: &mut [u8]) -> Answer {
+        from_c(unsafe {
+            presence_change(
+                state.as_ptr(),
+                state.len(),
+                setup.as_ptr(),
+                setup.len(),
+                lead,
+                out.as_mut_ptr(),
+                out.len(),
+            )
+        })
     }
     fn outgoing(&self, state: &[u8]) -> WordAnswer {
         word_from_c(unsafe { presence_outgoing(state.as_ptr(), state.len()) })

@@ -1,7 +1,8 @@
-//! Document 01 as plain code: words, setups, states, the step and the calls from C; the register page, the causes, the return counts and the fading
-//! scores of document 02.
+//! Document 01 as plain code: words, setups, states, the step and the calls from C; the register page, the causes, the return counts, the fading
+//! scores and the changes of limits of document 02.
 
 pub mod calls;
+pub mod change;
 pub mod page;
 pub mod setup;
 pub mod state;

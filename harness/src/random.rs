@@ -1,5 +1,6 @@
 //! A small deterministic generator (splitmix64) and what is made with it.
 
+pub mod changes;
 pub mod damage;
 pub mod doubles;
 pub mod pages;

@@ -1,5 +1,6 @@
 //! Document 02, E8: a rack whose modules stand in other slots.
 
+use crate::model::change::Pending;
 use crate::model::setup::{Module, Setup};
 use crate::model::state::{Entry, State};
 use crate::model::words::{full, has, only, MAX};
@@ -103,6 +104,7 @@ impl Renumbering {
             reward: self.each(&state.reward),
             score: self.each(&state.score),
             returns: self.each(&state.returns),
+            pending: state.pending.map(|pending| Pending { setup: self.setup(&pending.setup), ..pending }),
         }
     }
 

@@ -27,13 +27,13 @@ fn with(words: &[u32], at: usize, word: u32) -> Vec<u32> {
     words
 }
 
-/// The saved state of module 2 of the sheet, freshly opened: 26 words.
+/// The saved state of module 2 of the sheet, freshly opened: 27 words.
 fn image() -> Vec<u32> {
     let setup = setup(&SHEET);
     image_words(&setup, &fresh(&setup, 2))
 }
 
-/// The same with fading: 29 words.
+/// The same with fading: 30 words.
 fn fading_image() -> Vec<u32> {
     let setup = setup(&FADING_SHEET);
     image_words(&setup, &fresh(&setup, 2))
@@ -54,7 +54,7 @@ fn out_of_range() -> Vec<f64> {
 
 /// The answer of saving; the output is of right length and must stay as given if refused.
 fn saved(words: &[u32]) -> Answer {
-    let mut out = vec![0xAA; if words[1] >> 28 == 0 { 116 } else { 104 }];
+    let mut out = vec![0xAA; if words[1] >> 28 == 0 { 120 } else { 108 }];
     let answer = Model.save(&bytes_of(words), &mut out);
     if answer.number == 0 {
         assert_eq!(out, bytes_of(words));
@@ -109,7 +109,7 @@ fn number_2() {
 fn number_3() {
     assert_eq!(checked(&SHEET[..6]), answer(3, 0));
     assert_eq!(checked(&[&SHEET[..], &[0x42880001]].concat()), answer(3, 0));
-    assert_eq!(saved(&image()[..25]), answer(3, 0));
+    assert_eq!(saved(&image()[..26]), answer(3, 0));
     assert_eq!(run_both(&bytes_of(&SHEET[..6])), "refused 3 at 0\n");
 }
 
@@ -168,8 +168,8 @@ fn the_kind_of_the_second_word_decides_the_length() {
         assert_eq!(checked(&with(&SHEET, 1, kind << 28)), answer(4, 1));
     }
     assert_eq!(checked(&with(&FADING_SHEET, 1, 0x20000001)), answer(3, 0));
-    assert_eq!(saved(&fading_image()[..28]), answer(3, 0));
-    assert_eq!(saved(&fading_image()[..26]), answer(3, 0));
+    assert_eq!(saved(&fading_image()[..29]), answer(3, 0));
+    assert_eq!(saved(&fading_image()[..27]), answer(3, 0));
     assert_eq!(saved(&with(&image(), 1, 0)), answer(3, 0));
     assert_eq!(saved(&with(&fading_image(), 1, 0x20000001)), answer(3, 0));
     // In a run there may be more. The words behind the setup begin at N + 6.
@@ -208,7 +208,7 @@ fn number_6() {
 
 #[test]
 fn number_7() {
-    let mut out = vec![0xAA; 104];
+    let mut out = vec![0xAA; 108];
     for own in [0, 5, 16, 17, 32 + 1, 256 + 1, u32::MAX] {
         assert_eq!(Model.open(&bytes_of(&SHEET), own, &mut out), answer(7, 0));
     }
@@ -316,35 +316,35 @@ fn number_8_of_scores() {
 
 #[test]
 fn number_9_of_fading_images() {
-    for out_len in [0, 104, 112, 115, 117, 120] {
+    for out_len in [0, 108, 116, 119, 121, 124] {
         assert_eq!(stepped(&fading_image(), &full_read(4), 15, out_len), answer(9, 0));
         assert_eq!(Model.save(&bytes_of(&fading_image()), &mut vec![0; out_len]), answer(9, 0));
         assert_eq!(Model.open(&bytes_of(&FADING_SHEET), 1, &mut vec![0; out_len]), answer(9, 0));
     }
-    assert_eq!(stepped(&fading_image(), &full_read(4), 1 << 4, 116), answer(10, 0));
-    assert_eq!(stepped(&fading_image(), &full_read(4), 15, 116), Answer { number: 0, index: 0, health: 15 });
+    assert_eq!(stepped(&fading_image(), &full_read(4), 1 << 4, 120), answer(10, 0));
+    assert_eq!(stepped(&fading_image(), &full_read(4), 15, 120), Answer { number: 0, index: 0, health: 15 });
 }
 
 #[test]
 fn number_9() {
-    assert_eq!(stepped(&image(), &full_read(3), 15, 104), answer(9, 0));
-    assert_eq!(stepped(&image(), &full_read(5), 15, 104), answer(9, 0));
-    assert_eq!(stepped(&image(), &full_read(4)[..15], 15, 104), answer(9, 0));
-    for out_len in [0, 100, 103, 105, 108] {
+    assert_eq!(stepped(&image(), &full_read(3), 15, 108), answer(9, 0));
+    assert_eq!(stepped(&image(), &full_read(5), 15, 108), answer(9, 0));
+    assert_eq!(stepped(&image(), &full_read(4)[..15], 15, 108), answer(9, 0));
+    for out_len in [0, 104, 107, 109, 112] {
         assert_eq!(stepped(&image(), &full_read(4), 15, out_len), answer(9, 0));
         assert_eq!(Model.save(&bytes_of(&image()), &mut vec![0; out_len]), answer(9, 0));
         assert_eq!(Model.open(&bytes_of(&SHEET), 1, &mut vec![0; out_len]), answer(9, 0));
     }
     // 9 before 10, 8 before 9.
-    assert_eq!(stepped(&image(), &full_read(3), 16, 104), answer(9, 0));
+    assert_eq!(stepped(&image(), &full_read(3), 16, 108), answer(9, 0));
     assert_eq!(stepped(&with(&image(), 9, 0), &full_read(3), 16, 0), answer(8, 9));
 }
 
 #[test]
 fn number_10() {
-    assert_eq!(stepped(&image(), &full_read(4), 1 << 4, 104), answer(10, 0));
-    assert_eq!(stepped(&image(), &full_read(4), 1 << 31 | 15, 104), answer(10, 0));
-    assert_eq!(stepped(&image(), &full_read(4), 15, 104), Answer { number: 0, index: 0, health: 15 });
+    assert_eq!(stepped(&image(), &full_read(4), 1 << 4, 108), answer(10, 0));
+    assert_eq!(stepped(&image(), &full_read(4), 1 << 31 | 15, 108), answer(10, 0));
+    assert_eq!(stepped(&image(), &full_read(4), 15, 108), Answer { number: 0, index: 0, health: 15 });
 }
 
 /// None known: the word handed out always passes its test, from any accepted state.
@@ -410,13 +410,14 @@ fn number_16() {
 
 #[test]
 fn opening_writes_the_fresh_image() {
-    let mut out = vec![0xAA; 104];
+    let mut out = vec![0xAA; 108];
     assert_eq!(Model.open(&bytes_of(&SHEET), 2, &mut out), answer(0, 0));
     let words = [
         &SHEET[..],
         &[0xA002000F, 0xB0C0000F, 0xB140000F, 0xB1C0000F, 0xB240000F, 0xC000000F, 0xC000000F],
         &[0xD0800000, 0xD1000000, 0xD1800000, 0xD2000000, 0xE0800000, 0xE1000000, 0xE1800000, 0xE2000000],
         &[0xF0800000, 0xF1000000, 0xF1800000, 0xF2000000],
+        &[0],
     ];
     assert_eq!(out, bytes_of(&words.concat()));
 }

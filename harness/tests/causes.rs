@@ -127,7 +127,7 @@ fn the_last_read_as_it_came() {
 
 #[test]
 fn opened_all_0() {
-    let mut out = [0; 104];
+    let mut out = [0; 108];
     let mut page = [0xAB; 64];
     assert_eq!(Model.page_open(&bytes_of(&SHEET), 1, &mut out, &mut page).number, 0);
     assert_eq!(page[16..32], [0; 16]);
@@ -136,7 +136,7 @@ fn opened_all_0() {
 #[test]
 fn a_refused_step_leaves_the_causes() {
     let image = bytes_of(&image_words(&setup(&SHEET), &fresh(&setup(&SHEET), 1)));
-    let (mut out, mut page) = ([0; 104], [0x77; 64]);
+    let (mut out, mut page) = ([0; 108], [0x77; 64]);
     assert_eq!(Model.page_step(&image, &bytes_of(&[0; 4]), 16, &mut out, &mut page).number, 10);
     assert_eq!(page, [0x77; 64]);
 }

@@ -199,14 +199,15 @@ fn a_returning_module_starts_at_0() {
 fn opened_at_0() {
     let setup = sheet_with(0.5, 2.0, 3);
     assert_eq!(fresh(&setup, 3).score, [Double(0.0); MAX]);
-    let mut out = vec![0xAA; 116];
+    let mut out = vec![0xAA; 120];
     assert_eq!(Model.open(&bytes_of(&setup.words()), 3, &mut out).number, 0);
-    let words: [&[u32]; 5] = [
+    let words: [&[u32]; 6] = [
         &[0x10000304, 0, 0x3FE00000, 0, 0x40000000, 0, 0x40880001, 0x41080001, 0x41880001, 0x42080001],
         &[0xA003000F, 0xB0C0000F, 0xB140000F, 0xB1C0000F, 0xB240000F],
         &[0xC000000F, 0xC000000F],
         &[0; 8],
         &[0xF0800000, 0xF1000000, 0xF1800000, 0xF2000000],
+        &[0],
     ];
     assert_eq!(out, bytes_of(&words.concat()));
 }

@@ -6,7 +6,9 @@ use common::{by_model, loss, play, run_both, script as script_of, setup, NO_CAST
 use harness::model::setup::Form;
 use harness::model::state::{fresh, Entry, State};
 use harness::model::step::{step, Outcome};
-use harness::model::words::bytes_of;
+use harness::model::words::{bytes_of, MAX};
+use harness::random::changes::pending_state;
+use harness::random::reads::read;
 use harness::random::scripts::{careful_script, returning_script, script, script_with_u_0};
 use harness::random::Random;
 use harness::renumber::Renumbering;
@@ -93,6 +95,36 @@ fn every_round_is_renumbered() {
     // The lowest number at which two vectors differ does not stay the lowest.
     assert!(accusations > 1_000 && other_number > 100, "{accusations} {other_number}");
     assert!(scores_moved > 1_000, "{scores_moved}");
+}
+
+/// Document 02, E10: a change that waits moves with the modules, and what it does is renumbered. If it did not move, that would be seen.
+#[test]
+fn a_pending_change_is_renumbered() {
+    let mut random = Random::new(80);
+    let (mut applied, mut seen) = (0, 0);
+    for _ in 0..3_000 {
+        let setup = script_with_u_0(&mut random).setup;
+        let mut state = pending_state(&mut random, &setup);
+        let Some(pending) = &mut state.pending else {
+            continue;
+        };
+        pending.left = random.between(1, 2);
+        applied += u32::from(pending.left == 1);
+        let renumbering = Renumbering::random(&mut random, setup.n);
+        let (words, controller) = read(&mut random, &setup, &state);
+        let mut whole_read = [0; MAX];
+        whole_read[..setup.n].copy_from_slice(&words);
+
+        let (moved_setup, mut moved) = (renumbering.setup(&setup), renumbering.state(&state));
+        let mut unmoved_change = State { pending: state.pending, ..moved };
+        let (moved_words, moved_controller) = (renumbering.read(&whole_read), renumbering.vector(controller));
+        step(&setup, &mut state, &words, controller).unwrap();
+        step(&moved_setup, &mut moved, &moved_words[..setup.n], moved_controller).unwrap();
+        step(&moved_setup, &mut unmoved_change, &moved_words[..setup.n], moved_controller).unwrap();
+        assert_eq!(renumbering.state(&state), moved);
+        seen += u32::from(unmoved_change.pending.is_none() && unmoved_change != moved);
+    }
+    assert!(applied > 300 && seen > 50, "{applied} {seen}");
 }
 
 /// A renumbering that leaves out one of its parts gives other lines, so the comparison sees each of them.

@@ -14,7 +14,7 @@ fn data(name: &str) -> PathBuf {
 
 fn all_calls() -> Vec<String> {
     let files = calls_files(data("").to_str().unwrap());
-    assert_eq!(files.len(), 7);
+    assert_eq!(files.len(), 8);
     files
 }
 
@@ -53,6 +53,7 @@ fn wrong_calls_written_anew() {
         ("open - 1 4 = 0 0 0000 00000000", "open - 1 4 = 1 0 0000 -"),
         ("step 00000000 - F 0 = 9 0 000F -", "step 00000000 - F 0 = 2 0 0000 -"),
         ("save 1000 0 = 0 0 0000 -", "save 1000 0 = 1 0 0000 -"),
+        ("change - - 0 0 = 24 0 0000 -", "change - - 0 0 = 1 0 0000 -"),
         ("outgoing - = 0 0 5000000F", "outgoing - = 1 0 00000000"),
         ("pageopen - 1 0 64 = 0 0 0000 - -", "pageopen - 1 0 64 = 1 0 0000 - -"),
         ("pagestep - - 0 0 0000 = 9 0 000F - 0000", "pagestep - - 0 0 0000 = 1 0 0000 - -"),
@@ -66,7 +67,7 @@ fn wrong_calls_written_anew() {
     ] {
         assert_eq!(answered(wrong, &Model).as_deref(), Ok(right));
     }
-    for wrong in ["setup - 0 0", "cause 1 5000000F 4 = 0 -", "cause 1 5000000F 4 = 3 000F", "cause 1 5000000F = 0 000F"] {
+    for wrong in ["setup - 0 0", "change - - = 1 0 0000 -", "change - - 1 0 = 1 0", "cause 1 5000000F 4 = 0 -", "cause 1 5000000F 4 = 3 000F", "cause 1 5000000F = 0 000F"] {
         assert!(answered(wrong, &Model).is_err());
     }
 }
@@ -78,7 +79,7 @@ fn own_calls_hold_every_number() {
     for text in fs::read_to_string(data("own-calls.txt")).unwrap().lines() {
         found.extend(parse(text).unwrap().iter().map(|case| case.number));
     }
-    assert_eq!(found, (0..=10).chain([17, 18, 22]).collect());
+    assert_eq!(found, (0..=10).chain([17, 18, 22, 23, 24]).collect());
 }
 
 /// Every script of a folder with its output; answers the outputs.

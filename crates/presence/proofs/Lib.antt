@@ -11,3 +11,4 @@ pub mod ImageState
 pub mod LoadLaws
 pub mod StateAnswers
 pub mod RoundTrip
+pub mod Applied

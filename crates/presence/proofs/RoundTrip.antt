@@ -32,7 +32,7 @@ use Rattle.rules.specs.Hearing.{readingOf}
 use Rattle.changes.specs.Words.{newCount, pendingIn, changeRuns}
 use Rattle.changes.specs.Books.{counted, booksAfter}
 use Rattle.changes.proofs.PendingLaws.{nothing-shaped, of-shaped, read-shaped as pending-shaped}
-use Rattle.changes.proofs.SectionLaws.{change-stands, change-back, change-same, read-left}
+use Rattle.changes.proofs.SectionLaws.{change-back, change-same, read-left}
 use Rattle.changes.proofs.TurnLaws.{turned-shaped}
 use Rattle.image.specs.Layout.{ownAt, latestAt, earlierAt, accountsAt, leftAt, imageWords, imageLength}
 use Rattle.image.specs.Words.{viewIn}
@@ -54,7 +54,7 @@ use Rattle.presence.specs.RoundTrip.{Shaped, RoundTrip}
 use Rattle.presence.specs.declared.State.{State}
 use Rattle.presence.specs.declared.Stepped.{Stepped}
 use Rattle.presence.proofs.SmallLaws.{Small, valid-small, valid-setup, valid-tail}
-use Rattle.presence.proofs.StateWords.{Stands, Read, stands-bytes, state-read, image-words, image-length, counters-total, state-total}
+use Rattle.presence.proofs.StateWords.{Stands, Read, stands-bytes, state-read, image-words, image-length, image-left, counters-total, state-total}
 use Rattle.presence.proofs.LoadLaws.{state-by}
 use Rattle.presence.proofs.ImageState.{load-valid}
 use Rattle.presence.proofs.StateChangeLaws.{change-taken, change-valid}
@@ -196,7 +196,7 @@ module _ (st : State) (v : Valid st) (a : Shaped st) where
   image-form = fades-same (wordAt image) (wordAt front) (sym (front-word 1 (omega (arith, front-least (fades (st .setup .limits)))))) ∙ front-form
 
   left-there : stateLength st (st .pending .left) ≡ imageLength (frontOf (st .setup)) n (wordAt image (leftAt (frontOf (st .setup)) n))
-  left-there = ap (stateLength st) (sym (change-stands (wordAt image) (leftAt (frontOf (st .setup)) n) (st .setup) (st .pending) (words .change) .left))
+  left-there = ap (stateLength st) (sym (image-left st))
 
   image-right : ImageFits image
   image-right =

@@ -1,9 +1,8 @@
 -- What a change answers: accepted, what it gives; refused, that the state stays. An accepted change gives a valid state.
-use mathlib.Core.Path.{_≡_, refl, ap, _∙_, subst, sym}
+use mathlib.Core.Path.{_≡_, ap, ap₂, _∙_, subst, sym}
 use mathlib.Core.Logic.{_≢_}
 use mathlib.Core.Bool.{cond}
 use Prim.Native.Nat.{ℕ}
-use lib.ListN.{length}
 use borrow.Author.Tests.{eq-eqb, ne-eqb}
 use Rattle.words.specs.Verdict.{isAccepted}
 use Rattle.words.specs.declared.Verdict.{Verdict}
@@ -14,6 +13,7 @@ use Rattle.setup.specs.declared.Setup.{Setup}
 use Rattle.setup.proofs.SetupLaws.{verdict-fits}
 use Rattle.changes.specs.Pending.{pendingOf}
 use Rattle.changes.specs.Frame.{frameVerdict}
+use Rattle.changes.specs.declared.Pending.{Pending}
 use Rattle.presence.specs.Valid.{stateVerdict, Valid}
 use Rattle.presence.specs.Change.{newVerdict, changeVerdict, withPending, changeOf}
 use Rattle.presence.specs.declared.State.{State}
@@ -50,3 +50,20 @@ change-fit st new lead zero =
 
 pub change-valid : (st : State) (new : Setup) (lead : ℕ) → changeOf st new lead .number ≡ 0 → Valid (changeOf st new lead .state)
 change-valid st new lead zero = fits-valid _ (change-fit st new lead zero)
+
+-- ---- as the code makes it, v being the answer of the checks
+
+module _ {v : Verdict} (st : State) (new : Setup) (lead : ℕ) (e : v ≡ changeVerdict st new lead) where
+  changes : {next : State} → next ≡ cond (isAccepted v) (withPending st (pendingOf new lead)) st
+      → _≡_ {A = Changed} (record { number = v .number; index = v .index; state = next }) (changeOf st new lead)
+  unfolding changeOf
+  changes {next} g =
+      ap₂ (λ (x : Verdict) (y : State). record { number = x .number; index = x .index; state = y }) e
+      (g ∙ ap (λ (x : Verdict). cond (isAccepted x) (withPending st (pendingOf new lead)) st) e)
+
+  pub change-stays : (v .number ≡ 0 → ⊥) → _≡_ {A = Changed} (record { number = v .number; index = v .index; state = st }) (changeOf st new lead)
+  change-stays f = changes (sym (cond-false _ _ (ne-eqb (v .number) 0 f)))
+
+  pub change-made : {p : Pending} → v .number ≡ 0 → p ≡ pendingOf new lead
+      → _≡_ {A = Changed} (record { number = v .number; index = v .index; state = withPending st p }) (changeOf st new lead)
+  change-made z h = changes (ap (withPending st) h ∙ sym (cond-true _ _ (eq-eqb (v .number) 0 z)))

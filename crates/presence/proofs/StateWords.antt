@@ -1,5 +1,5 @@
 -- Where the words of a state's image stand, and the fields that are read from them.
-use mathlib.Core.Path.{_≡_, refl, ap, _∙_, subst}
+use mathlib.Core.Path.{_≡_, refl, ap, _∙_, subst, sym}
 use mathlib.Core.Bool.{Bool, true, false}
 use mathlib.Core.List.{List, [], _++_}
 use Prim.Native.Nat.{ℕ, _+_, _<_}
@@ -10,6 +10,7 @@ use Rattle.words.specs.Bits.{bit}
 use Rattle.words.specs.Runs.{Run, total, runsOf, runWord}
 use Rattle.words.proofs.RunLaws.{Follows, runs-length, runs-follow, run-words}
 use Rattle.words.proofs.RunJoinLaws.{total-join, follow-split, follow-moved}
+use Rattle.setup.specs.Layout.{frontWords}
 use Rattle.setup.specs.Limits.{fades}
 use Rattle.setup.specs.Setup.{headWord, returnLimitIn, criticalityIn, frontOf}
 use Rattle.setup.proofs.BoundLaws.{LimitsStand, limits-back, fit-room}
@@ -18,8 +19,8 @@ use Rattle.setup.proofs.SetupWords.{moduleOf}
 use Rattle.setup.proofs.WordFields.{return-back, criticality-back}
 use Rattle.accounts.specs.declared.Counters.{Counters}
 use Rattle.changes.specs.Words.{newCount, changeRuns}
-use Rattle.changes.proofs.SectionLaws.{change-total}
-use Rattle.image.specs.Layout.{ownAt, rowsAt, latestAt, earlierAt, accountsAt, leftAt}
+use Rattle.changes.proofs.SectionLaws.{change-total, change-stands}
+use Rattle.image.specs.Layout.{ownAt, rowsAt, latestAt, earlierAt, accountsAt, leftAt, imageLength}
 use Rattle.image.specs.Words.{ownWord, ownIn, viewIn, syndromeWord, syndromeIn}
 use Rattle.image.specs.Rows.{rowWord}
 use Rattle.image.specs.Counters.{counterRuns}
@@ -97,6 +98,15 @@ stands-bytes st =
 
 pub stands : (st : State) → Stands st (runWord (imageRuns st))
 stands st = subst (Stands st) (image-words st) (stands-bytes st)
+
+-- its rounds left
+pub image-left : (st : State) → wordAt (imageOf st) (leftAt (frontOf (st .setup)) (st .setup .n)) ≡ st .pending .left
+image-left st = change-stands (wordAt (imageOf st)) (leftAt (frontOf (st .setup)) (st .setup .n)) (st .setup) (st .pending) (stands-bytes st .change) .left
+
+-- its length, by the word of the rounds left
+pub length-left : (st : State) {b : Bool} {x : List ℕ} → b ≡ fades (st .setup .limits) → x ≡ imageOf st
+    → length x ≡ imageLength (frontWords b) (st .setup .n) (wordAt x (leftAt (frontWords b) (st .setup .n)))
+length-left st f e = rw (f, e) (image-length st ∙ ap (stateLength st) (sym (image-left st)))
 
 -- ---- the fields
 

@@ -203,3 +203,12 @@ change-fits st new lead f g e =
       no-rows = f .no-rows;
       pending = frame-fits (st .setup) new (f .setup) g same lead least most;
     }
+
+-- ---- a change that takes effect
+
+-- its limits and criticalities are small enough to add to
+pub turn-small : (st : State) → StateFits st
+    → ((st .setup .n ≤ 16) × (st .pending .p < 2 ^ 28)) × ((j : ℕ) → j < st .setup .n → getD (st .pending .criticality) j 0 < 2 ^ 28)
+turn-small st f =
+    let m = fits-pending (st .setup) (st .pending) (f .setup) (f .pending) in
+    ((f .setup .most, m .p), λ j h. omega (arith, m .criticality j h))

@@ -10,7 +10,7 @@
 #define OUT_MAX 1024 /* longest output or page that a test lends */
 
 enum op {
-    SETUP, OPEN, STEP, SAVE, OUTGOING,
+    SETUP, OPEN, STEP, SAVE, CHANGE, OUTGOING,
     PAGE_OPEN, PAGE_STEP, PAGE_READ, PAGE_WRITE, INTERRUPT,
     READ_CAUSE
 };
@@ -19,9 +19,9 @@ struct call {
     enum op op;
     const uint8_t *in; /* setup or image */
     size_t in_len;
-    const uint8_t *read;
+    const uint8_t *read; /* or the new setup of a change */
     size_t read_len;
-    uint32_t argument; /* own number, controller bits or bit, or offset */
+    uint32_t argument; /* own number, controller bits or bit, lead, or offset */
     size_t out_len;
     const uint8_t *page; /* what the lent page holds */
     size_t page_len;

@@ -83,6 +83,21 @@ void save(const uint8_t *in, size_t in_len, size_t out_len, uint32_t number,
         differ("saved image is not the image", 1, 0);
 }
 
+void change(const uint8_t *in, size_t in_len, const uint8_t *setup,
+            size_t setup_len, uint32_t lead, size_t out_len, uint32_t number,
+            uint32_t index, uint8_t *image)
+{
+    struct call c = {.op = CHANGE, .in = in, .in_len = in_len, .read = setup,
+                     .read_len = setup_len, .argument = lead,
+                     .out_len = out_len};
+    struct result r;
+
+    expect(&c, number, index, &r);
+    same("health of a change", r.reply.value, 0);
+    if (r.reply.number == 0 && image != NULL)
+        memcpy(image, r.out, out_len);
+}
+
 uint32_t outgoing(const uint8_t *in, size_t in_len, uint32_t number,
                   uint32_t index)
 {

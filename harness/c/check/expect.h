@@ -31,6 +31,12 @@ uint32_t step(const uint8_t *in, size_t in_len, const uint8_t *read,
 void save(const uint8_t *in, size_t in_len, size_t out_len, uint32_t number,
           uint32_t index);
 
+/* A change to a new setup.  Image, if not NULL, is the output if it is
+   accepted; it may be the image passed. */
+void change(const uint8_t *in, size_t in_len, const uint8_t *setup,
+            size_t setup_len, uint32_t lead, size_t out_len, uint32_t number,
+            uint32_t index, uint8_t *image);
+
 /* Returns the word, 0 if refused. */
 uint32_t outgoing(const uint8_t *in, size_t in_len, uint32_t number,
                   uint32_t index);

@@ -113,6 +113,40 @@ void any_setup(enum form form, uint8_t *setup, uint32_t n, uint32_t u)
         random_setup(setup, n, u, p, r);
 }
 
+/* The same limit, the next one to it, a low one, or any. */
+static uint32_t beside(uint32_t limit, uint32_t most)
+{
+    switch (below(8)) {
+    case 0:
+    case 1:
+        return limit;
+    case 2:
+        return limit < most ? limit + 1 : limit;
+    case 3:
+        return limit > 1 ? limit - 1 : limit;
+    case 4:
+        return 1 + below(most);
+    default:
+        return 1 + below(8);
+    }
+}
+
+void new_limits(uint8_t *to, const uint8_t *setup, uint32_t n)
+{
+    uint32_t p = beside(get(setup, 1) & 0x0FFFFFFF, 1000000);
+    uint32_t r = beside(get(setup, 2) & 0x0FFFFFFF, 8000000);
+    uint32_t j, word;
+
+    put(to, 0, get(setup, 0));
+    put(to, 1, 0x20000000 | p);
+    put(to, 2, 0x30000000 | r);
+    for (j = 1; j <= n; j++) {
+        word = get(setup, module_at(COUNTS, j));
+        put(to, module_at(COUNTS, j),
+            (word & ~0x1FFFFu) | beside(word & 0x1FFFF, 100000));
+    }
+}
+
 /* From 0.0 on, below 1.0. */
 static double random_part(void)
 {
@@ -224,7 +258,16 @@ void fresh_image(enum form form, uint8_t *image, const uint8_t *setup,
     }
     put(image, latest_at(form, n), 0xC0000000 | ones(n));
     put(image, before_at(form, n), 0xC0000000 | ones(n));
+    put(image, left_at(form, n), 0);
     fresh_counters(form, image, n);
+}
+
+void put_pending(uint8_t *image, const uint8_t *setup, uint32_t n,
+                 uint32_t left)
+{
+    put(image, left_at(COUNTS, n), left);
+    memcpy(image + image_bytes(COUNTS, n), setup + 4,
+           setup_bytes(COUNTS, n) - 4);
 }
 
 void lived_image(enum form form, uint8_t *image, const uint8_t *setup,

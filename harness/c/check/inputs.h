@@ -31,6 +31,10 @@ void low_setup(enum form form, uint8_t *setup, uint32_t n, uint32_t u);
 /* The same with any accepted limits. */
 void any_setup(enum form form, uint8_t *setup, uint32_t n, uint32_t u);
 
+/* Other limits and criticalities for an accepted setup with counts, at times
+   the same; all else as it is. */
+void new_limits(uint8_t *to, const uint8_t *setup, uint32_t n);
+
 /* A factor from 0.0 to 1.0, both often, and a limit up to 1,000,000.0. */
 double random_factor(void);
 double random_limit(void);
@@ -44,6 +48,10 @@ uint32_t random_read(uint8_t *read, uint32_t n, uint32_t faults);
 /* A fresh image, as documents 01 and 02 describe it. */
 void fresh_image(enum form form, uint8_t *image, const uint8_t *setup,
                  uint32_t n, uint32_t own);
+
+/* The image with a pending change to this setup. */
+void put_pending(uint8_t *image, const uint8_t *setup, uint32_t n,
+                 uint32_t left);
 
 /* An image after some rounds by plain.c, with many different words. */
 void lived_image(enum form form, uint8_t *image, const uint8_t *setup,

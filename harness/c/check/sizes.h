@@ -6,7 +6,7 @@
 
 #define MAX_N PRESENCE_MAX_MODULES
 #define SETUP_MAX PRESENCE_MAX_FADING_SETUP_BYTES /* of either form */
-#define IMAGE_MAX PRESENCE_MAX_FADING_IMAGE_BYTES
+#define IMAGE_MAX PRESENCE_MAX_PENDING_IMAGE_BYTES /* of any image */
 #define COUNT(array) (sizeof (array) / sizeof (array)[0])
 
 #endif

@@ -93,6 +93,26 @@ uint32_t returns_at(enum form form, uint32_t n, uint32_t j)
     return 4 * n + 5 + j + later(form);
 }
 
+uint32_t left_at(enum form form, uint32_t n)
+{
+    return 5 * n + 6 + later(form);
+}
+
+uint32_t new_p_at(uint32_t n)
+{
+    return 5 * n + 7;
+}
+
+uint32_t new_r_at(uint32_t n)
+{
+    return 5 * n + 8;
+}
+
+uint32_t new_module_at(uint32_t n, uint32_t j)
+{
+    return 5 * n + 8 + j;
+}
+
 uint32_t penalty_at(uint32_t n, uint32_t j)
 {
     return 2 * n + 5 + j;
@@ -118,6 +138,11 @@ size_t image_bytes(enum form form, uint32_t n)
 {
     return form == FADING ? PRESENCE_FADING_IMAGE_BYTES(n)
                           : PRESENCE_IMAGE_BYTES(n);
+}
+
+size_t pending_bytes(uint32_t n)
+{
+    return PRESENCE_PENDING_IMAGE_BYTES(n);
 }
 
 uint32_t view_of(enum form form, const uint8_t *image, uint32_t n)

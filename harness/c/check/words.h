@@ -35,17 +35,24 @@ uint32_t previous_at(enum form form, uint32_t n, uint32_t j);
 uint32_t latest_at(enum form form, uint32_t n);
 uint32_t before_at(enum form form, uint32_t n);
 uint32_t returns_at(enum form form, uint32_t n, uint32_t j);
+uint32_t left_at(enum form form, uint32_t n);
 
 /* Of counts. */
 uint32_t penalty_at(uint32_t n, uint32_t j);
 uint32_t reward_at(uint32_t n, uint32_t j);
 
+/* Of counts with a pending change: its P, its R, its word of module j. */
+uint32_t new_p_at(uint32_t n);
+uint32_t new_r_at(uint32_t n);
+uint32_t new_module_at(uint32_t n, uint32_t j);
+
 /* Of fading: the score's high half. */
 uint32_t score_at(uint32_t n, uint32_t j);
 
-/* The length of a setup and of an image. */
+/* The length of a setup, of an image, and of an image with a pending change. */
 size_t setup_bytes(enum form form, uint32_t n);
 size_t image_bytes(enum form form, uint32_t n);
+size_t pending_bytes(uint32_t n);
 
 uint32_t view_of(enum form form, const uint8_t *image, uint32_t n);
 

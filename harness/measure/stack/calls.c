@@ -21,6 +21,8 @@
     CALL(presence_step, UP_TO(10), \
          BYTES(image), BYTES(read), in.controller, BYTES(out)) \
     CALL(presence_save, UP_TO(9), BYTES(image), BYTES(out)) \
+    CALL(presence_change, UP_TO(9) AND(23) AND(24), \
+         BYTES(image), BYTES(new_setup), in.lead, BYTES(changed)) \
     CALL(presence_outgoing, UP_TO(8), BYTES(image)) \
     CALL(presence_read_cause, UP_TO(0) AND(2) AND(10), in.n, in.bit, in.word) \
     CALL(presence_page_open, UP_TO(7) AND(9), \

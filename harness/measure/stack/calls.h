@@ -6,13 +6,15 @@
 
 /* Has room for a length that is a word too long. */
 struct block {
-    uint8_t bytes[PRESENCE_MAX_FADING_IMAGE_BYTES + 4];
+    uint8_t bytes[PRESENCE_MAX_PENDING_IMAGE_BYTES + 4];
     size_t len;
 };
 
 struct inputs {
     struct block setup, image, read, out, page; /* a module and its page */
     uint32_t own, controller, offset, value;
+    struct block new_setup, changed; /* a change and its output */
+    uint32_t lead;
     uint32_t bit, word; /* a bus word and its controller bit */
     struct block lock, lock_out; /* a scan lock */
     uint32_t n, view, module, axis;
@@ -22,7 +24,8 @@ struct call {
     const char *name;
     uint32_t (*make)(void); /* with the inputs below; returns the number */
     uint32_t numbers;       /* bit i is 1 if the header names number i for it;
-                               with fading 22 stands in the place of 4 */
+                               with fading 22 stands in the place of 4, and a
+                               change is refused by 23 at the latest */
 };
 
 extern struct inputs in;

@@ -30,6 +30,9 @@ int give_opened(char **argument)
     given.setup.len = r.setup_len;
     memcpy(given.setup.bytes, r.setup, given.setup.len);
     given.own = r.own;
+    given.new_setup = given.setup;
+    given.lead = 1;
+    given.changed.len = PRESENCE_PENDING_IMAGE_BYTES(r.n);
     given.image.len = given.out.len = r.image_len;
     given.read.len = PRESENCE_READ_BYTES(r.n);
     given.page.len = PRESENCE_PAGE_BYTES;
@@ -42,6 +45,13 @@ int give_opened(char **argument)
         return 0;
     rounds_begin(&r, given.image.bytes);
     return 1;
+}
+
+void give_change(uint32_t left)
+{
+    rounds_change(&r, given.image.bytes, 0, left);
+    given.image.len = PRESENCE_PENDING_IMAGE_BYTES(r.n);
+    given.out.len = left > 1 ? given.image.len : r.image_len;
 }
 
 int given_fading(void)

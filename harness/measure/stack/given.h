@@ -19,6 +19,9 @@ extern const uint32_t given_rounds;
 /* The read of round k. */
 void give_round(uint32_t k);
 
+/* The image gets a pending change; only with counts. */
+void give_change(uint32_t left);
+
 /* Makes the step of the round.  Returns 0 if it is refused. */
 int give_step(void);
 

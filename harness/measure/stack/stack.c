@@ -4,7 +4,8 @@
  *   stack N U counts|fading quiet|loud|late|away|back
  *
  * Makes the calls in every round; then, on the state that the rounds left,
- * with every bit of every input flipped in turn and with wrong lengths.
+ * with every bit of every input flipped in turn and with wrong lengths; with
+ * counts also with a pending change, which a step applies or does not.
  * Prints a line a call: its name, the largest depth when it was accepted and
  * when it was refused (painted.h), and in hex the numbers that the header
  * names for it and those that it answered.
@@ -71,11 +72,12 @@ static void try_lengths(struct block *b)
 static void try_wrong_inputs(void)
 {
     struct block *const blocks[] = {&given.setup, &given.image, &given.read,
-                                    &given.page, &given.lock};
+                                    &given.page, &given.lock,
+                                    &given.new_setup};
     uint32_t *const words[] = {&given.own, &given.controller, &given.offset,
                                &given.value, &given.bit, &given.word,
                                &given.n, &given.view, &given.module,
-                               &given.axis};
+                               &given.axis, &given.lead};
     size_t i;
 
     for (i = 0; i < COUNT(blocks); i++) {
@@ -84,22 +86,27 @@ static void try_wrong_inputs(void)
     }
     try_lengths(&given.out);
     try_lengths(&given.lock_out);
+    try_lengths(&given.changed);
     for (i = 0; i < COUNT(words); i++)
         try_flips(words[i], sizeof *words[i]);
 }
 
 /* The numbers that the header names for a call; with fading it has 22 in the
-   place of 4. */
+   place of 4, and a change never comes further than 23. */
 static uint32_t named(const struct call *c)
 {
-    if (!given_fading() || (c->numbers & 1u << 4) == 0)
-        return c->numbers;
-    return (c->numbers & ~(1u << 4)) | 1u << 22;
+    uint32_t numbers = c->numbers;
+
+    if (!given_fading() || (numbers & 1u << 4) == 0)
+        return numbers;
+    if ((numbers & 1u << 23) != 0)
+        numbers &= ~(1u << 0 | 1u << 9 | 1u << 24);
+    return (numbers & ~(1u << 4)) | 1u << 22;
 }
 
 int main(int argc, char **argv)
 {
-    uint32_t k;
+    uint32_t k, left;
     size_t c;
 
     if (argc != 5 || !give_opened(argv + 1) || call_count > MAX_CALLS) {
@@ -114,6 +121,11 @@ int main(int argc, char **argv)
             return 1;
     }
     try_wrong_inputs();
+    for (left = 1; left <= 2 && !given_fading(); left++) {
+        give_change(left);
+        try_calls();
+        try_wrong_inputs();
+    }
     for (c = 0; c < call_count; c++)
         printf("%s %u %u %X %X\n", calls[c].name, (unsigned)seen[c].accepted,
                (unsigned)seen[c].refused, (unsigned)named(&calls[c]),

@@ -2,24 +2,27 @@
 //! Usage: differential ROUNDS SEED
 //!
 //! A round is one of: a setup with openings, a state with its calls, a damaged state, any bytes,
-//! a page with the host's calls, words with the causes why they are not heard, or a life of many
-//! steps in which each output image is the next input. Openings and steps are made with a page too;
-//! in a life the page goes on as the image does, and the host reads and writes it between steps. All
-//! calls follow from the seed. The first difference is shown with all arguments and ends the run.
+//! a page with the host's calls, words with the causes why they are not heard, changes of the limits
+//! of a state, or a life of many steps in which each output image is the next input. Openings and
+//! steps are made with a page too; in a life the page goes on as the image does, the host reads and
+//! writes it between steps, and changes are offered. In some states a change waits. All calls follow
+//! from the seed. The first difference is shown with all arguments and ends the run.
 
 use harness::call::{Buffers, Call, Reply};
 use harness::ffi::Library;
 use harness::hex::to_hex;
 use harness::model::calls::Model;
+use harness::model::change::MOST_LEAD;
 use harness::model::setup::{Form, Setup};
-use harness::model::state::{image_words, State};
+use harness::model::state::{image_length, image_words, read_image, stepped_length, State};
 use harness::model::words::{bytes_of, words_of};
+use harness::random::changes::{lead, more_than_limits, new_limits, pending_state};
 use harness::random::damage::{any_bytes, damaged};
 use harness::random::pages::{offset, page, page_length, value};
 use harness::random::reads::{read, spoiled_controller, word};
 use harness::random::scripts::{script, script_bytes, WAYS};
 use harness::random::setups::{lively_setup, setup};
-use harness::random::states::{reached_state, state};
+use harness::random::states::{reached_state, reached_with_changes, state};
 use harness::random::Random;
 use std::collections::BTreeMap;
 use std::env;
@@ -56,7 +59,7 @@ fn main() -> ExitCode {
 
 impl Comparison {
     fn round(&mut self) {
-        match self.random.below(12) {
+        match self.random.below(13) {
             0 => self.setups(),
             1 => self.damaged_setups(),
             2 => self.states(),
@@ -65,6 +68,7 @@ impl Comparison {
             6 => self.wrong_lengths(),
             7 => self.pages(),
             8 => self.causes(),
+            9 => self.changes(),
             _ => self.life(),
         }
     }
@@ -77,12 +81,16 @@ impl Comparison {
         }
     }
 
-    fn state(&mut self, setup: &Setup) -> State {
-        if self.random.chance(1, 3) {
-            reached_state(&mut self.random, setup)
-        } else {
-            state(&mut self.random, setup)
-        }
+    /// A state, reached or not, in some a change waits; with its setup, which a change may have made another.
+    fn state(&mut self) -> (Setup, State) {
+        let setup = self.setup();
+        let state = match self.random.below(6) {
+            0 => reached_state(&mut self.random, &setup),
+            1 => return reached_with_changes(&mut self.random, &setup),
+            2 => pending_state(&mut self.random, &setup),
+            _ => state(&mut self.random, &setup),
+        };
+        (setup, state)
     }
 
     /// An accepted setup: checked, and opened with numbers in and out of range.
@@ -95,7 +103,7 @@ impl Comparison {
         }
         for _ in 0..3 {
             let own = self.own_number(setup.n);
-            let out_len = self.out_length(setup.form(), setup.n);
+            let out_len = self.out_length(setup.image_length(), setup.n);
             self.open(bytes.clone(), own, out_len);
         }
     }
@@ -110,33 +118,34 @@ impl Comparison {
             };
             self.compare(Call::CheckSetup { setup: bytes.clone() });
             let own = self.own_number(setup.n);
-            let out_len = self.out_length(setup.form(), setup.n);
+            let out_len = self.out_length(setup.image_length(), setup.n);
             self.open(bytes, own, out_len);
         }
     }
 
     /// An accepted state: saved, its outgoing word, and several steps from it.
     fn states(&mut self) {
-        let setup = self.setup();
-        let state = self.state(&setup);
+        let (setup, state) = self.state();
         let bytes = bytes_of(&image_words(&setup, &state));
         self.compare(Call::Outgoing { state: bytes.clone() });
         self.compare(Call::Save { state: bytes.clone(), out_len: bytes.len() });
         for _ in 0..6 {
             let (words, controller) = read(&mut self.random, &setup, &state);
-            self.step(bytes.clone(), bytes_of(&words), controller, bytes.len());
+            self.step(bytes.clone(), bytes_of(&words), controller, 4 * stepped_length(&setup, &state));
         }
     }
 
     fn damaged_states(&mut self) {
-        let setup = self.setup();
-        let state = self.state(&setup);
+        let (setup, state) = self.state();
         let words = image_words(&setup, &state);
         for _ in 0..6 {
             let bytes = damaged(&mut self.random, &words);
             self.compare(Call::Outgoing { state: bytes.clone() });
-            let out_len = self.out_length(setup.form(), setup.n);
+            let out_len = self.out_length(image_length(&setup, &state.pending), setup.n);
             self.compare(Call::Save { state: bytes.clone(), out_len });
+            if self.random.chance(1, 4) {
+                self.change(&setup, bytes.clone());
+            }
             self.any_step(&setup, &state, bytes);
         }
     }
@@ -153,24 +162,50 @@ impl Comparison {
                 any_bytes(&mut self.random)
             };
             let own = self.own_number(n);
-            let out_len = self.out_length(form, n);
+            let out_len = self.out_length(form.image_length(n), n);
             let controller = self.random.word();
             let read = any_bytes(&mut self.random);
             self.compare(Call::CheckSetup { setup: bytes.clone() });
             self.open(bytes.clone(), own, out_len);
             self.compare(Call::Outgoing { state: bytes.clone() });
             self.compare(Call::Save { state: bytes.clone(), out_len });
+            let (new, lead) = (any_bytes(&mut self.random), lead(&mut self.random));
+            self.compare(Call::Change { state: bytes.clone(), setup: new, lead, out_len });
             self.step(bytes, read, controller, out_len);
         }
     }
 
+    /// Changes of an accepted state: new setups that it takes and such that it does not, each with any lead.
+    fn changes(&mut self) {
+        let (setup, state) = self.state();
+        let bytes = bytes_of(&image_words(&setup, &state));
+        for _ in 0..12 {
+            self.change(&setup, bytes.clone());
+        }
+    }
+
+    /// A change of a state, in which new setup, lead and output may each be wrong. The answer is what was lent if it is accepted.
+    fn change(&mut self, setup: &Setup, state: Vec<u8>) -> Option<Buffers> {
+        let new = match self.random.below(8) {
+            0 | 1 => bytes_of(&more_than_limits(&mut self.random, setup).words()),
+            2 => {
+                let words = new_limits(&mut self.random, setup).words();
+                damaged(&mut self.random, &words)
+            }
+            3 if self.random.chance(1, 8) => state.clone(),
+            _ => bytes_of(&new_limits(&mut self.random, setup).words()),
+        };
+        let lead = lead(&mut self.random);
+        let out_len = self.out_length(setup.form().pending_image_length(setup.n), setup.n);
+        self.compare(Call::Change { state, setup: new, lead, out_len })
+    }
+
     /// Accepted states with reads and outputs of wrong length and controller bits at N or above.
     fn wrong_lengths(&mut self) {
-        let setup = self.setup();
-        let state = self.state(&setup);
+        let (setup, state) = self.state();
         let bytes = bytes_of(&image_words(&setup, &state));
         for _ in 0..6 {
-            let out_len = self.out_length(setup.form(), setup.n);
+            let out_len = self.out_length(image_length(&setup, &state.pending), setup.n);
             self.compare(Call::Save { state: bytes.clone(), out_len });
             self.any_step(&setup, &state, bytes.clone());
         }
@@ -184,10 +219,10 @@ impl Comparison {
         }
         let mut read = bytes_of(&words);
         if self.random.chance(1, 3) {
-            let length = self.other_length(read.len());
+            let length = self.other_length(read.len(), setup.n);
             read.resize(length, 0x55);
         }
-        let out_len = self.out_length(setup.form(), setup.n);
+        let out_len = self.out_length(stepped_length(setup, state), setup.n);
         self.step(bytes, read, controller, out_len);
     }
 
@@ -253,7 +288,7 @@ impl Comparison {
     }
 
     /// Opening and many steps; each output image is the next input, with the page beside it in half
-    /// of the lives. Refused calls and calls of the host lie between.
+    /// of the lives. Changes of the limits, refused calls and calls of the host lie between.
     fn life(&mut self) {
         let setup = self.setup();
         let own = self.random.between(1, setup.n as u32);
@@ -268,19 +303,19 @@ impl Comparison {
         let mut held = self.compare(call).expect("opening an accepted setup is accepted");
         let steps = if self.random.chance(1, 200) { 2_000 } else { 5 + self.random.below(60) };
         for _ in 0..steps {
-            held = self.life_step(&setup, held, paged);
+            held = self.life_step(held, paged);
         }
         let image = held.out.written().to_vec();
-        self.compare(Call::Save { state: image.clone(), out_len });
+        self.compare(Call::Save { state: image.clone(), out_len: image.len() });
         self.compare(Call::Outgoing { state: image });
     }
 
     /// One round of a life, from image and page to image and page.
-    fn life_step(&mut self, setup: &Setup, held: Buffers, paged: bool) -> Buffers {
-        let state_bytes = held.out.written().to_vec();
-        let out_len = state_bytes.len();
-        let (_, state) =
-            harness::model::state::read_image(&state_bytes).expect("an image of a life is accepted");
+    fn life_step(&mut self, held: Buffers, paged: bool) -> Buffers {
+        let state_bytes = self.life_change(held.out.written().to_vec());
+        let (setup, state) = read_image(&state_bytes).expect("an image of a life is accepted");
+        let setup = &setup;
+        let out_len = 4 * stepped_length(setup, &state);
         if self.random.chance(1, 15) {
             self.any_step(setup, &state, state_bytes.clone());
         }
@@ -307,6 +342,23 @@ impl Comparison {
         stepped
     }
 
+    /// Between two rounds of a life, at times: a change that takes effect within a few rounds, if none waits, or any other; the image then.
+    fn life_change(&mut self, image: Vec<u8>) -> Vec<u8> {
+        if !self.random.chance(1, 10) {
+            return image;
+        }
+        let (setup, _) = read_image(&image).expect("an image of a life is accepted");
+        let lent = if self.random.chance(1, 3) {
+            self.change(&setup, image.clone())
+        } else {
+            let new = bytes_of(&new_limits(&mut self.random, &setup).words());
+            let lead = if self.random.chance(1, 10) { MOST_LEAD } else { self.random.between(1, 6) };
+            let out_len = 4 * setup.form().pending_image_length(setup.n);
+            self.compare(Call::Change { state: image.clone(), setup: new, lead, out_len })
+        };
+        lent.map_or(image, |lent| lent.out.written().to_vec())
+    }
+
     fn form(&mut self) -> Form {
         self.random.pick(&[Form::Counts, Form::Fading])
     }
@@ -325,19 +377,21 @@ impl Comparison {
         }
     }
 
-    /// Bytes of an output: mostly right.
-    fn out_length(&mut self, form: Form, n: usize) -> usize {
-        let right = 4 * form.image_length(n);
+    /// Bytes of an output, for n modules: mostly `words`.
+    fn out_length(&mut self, words: usize, n: usize) -> usize {
+        let right = 4 * words;
         if self.random.chance(2, 3) {
             right
         } else {
-            self.other_length(right)
+            self.other_length(right, n)
         }
     }
 
-    /// A length other than `right`: 0, off by a byte, off by a word, another N or form, the same N in the other form, huge.
-    fn other_length(&mut self, right: usize) -> usize {
-        let length = match self.random.below(40) {
+    /// A length other than `right`: 0, off by a byte, off by a word, another N or form, the same N in the other form, with the words of a change more or
+    /// less, huge.
+    fn other_length(&mut self, right: usize, n: usize) -> usize {
+        let of_change = 4 * (n + 2);
+        let length = match self.random.below(46) {
             0..=7 => 0,
             8..=12 => right - 1,
             13..=17 => right + 1,
@@ -348,6 +402,8 @@ impl Comparison {
             32 => right.saturating_sub(12),
             33..=35 => self.random.below(2 * right),
             36..=38 => right + 256,
+            39..=41 => right + of_change,
+            42..=44 => right.saturating_sub(of_change),
             _ => {
                 if self.random.chance(1, 20) {
                     1 << 20

@@ -2,15 +2,17 @@
 //! Usage: renumber RUNS SEED BENCH
 //!
 //! Random scripts and random permutations: what the bench prints for the renumbered script must be what it prints for the script, renumbered; and in
-//! every round the library's images and pages of the renumbered rack must be those of the rack, renumbered. Then single steps from random
+//! every round the library's images and pages of the renumbered rack must be those of the rack, renumbered; there changes of the limits are offered
+//! to all modules between rounds (document 02, E10), which a script does not have. Then single steps from random
 //! images, those that no run reaches too. The first difference ends the run; it also fails if one of the names below was reached by no run.
 
 use harness::ffi::Library;
 use harness::model::calls::Functions;
 use harness::model::setup::{Form, Setup};
-use harness::model::state::{image_words, read_image, State};
+use harness::model::state::{image_words, stepped_length, State};
 use harness::model::step::{read_word, Reading};
 use harness::model::words::{bytes_of, full, words_of, MAX};
+use harness::random::changes::{new_limits, pending_state};
 use harness::random::pages::page;
 use harness::random::reads::read;
 use harness::random::scripts::script_with_u_0;
@@ -18,7 +20,7 @@ use harness::random::states::{reached_state, state};
 use harness::random::Random;
 use harness::renumber::Renumbering;
 use harness::script::check::words;
-use harness::script::images::Images;
+use harness::script::images::{held, Images};
 use harness::script::print::each_round;
 use harness::script::program::output_of;
 use harness::script::{Item, Script};
@@ -77,16 +79,18 @@ fn usage() -> Result<(), String> {
 fn compare(runs: usize, seed: u64, bench: &str) -> Result<(), String> {
     let mut random = Random::new(seed);
     let mut reached: BTreeMap<&str, u64> = NAMES.map(|name| (name, 0)).into();
-    let mut rounds = 0;
+    let mut all = Played::default();
     for run in 0..runs {
         let script = script_with_u_0(&mut random);
         let renumbering = Renumbering::random(&mut random, script.setup.n);
         let same = same_lines(bench, &script, &renumbering)
-            .and_then(|output| same_images(&script, &renumbering).map(|played| (output, played)));
+            .and_then(|output| same_images(&mut random, &script, &renumbering).map(|played| (output, played)));
         let (output, played) = same.map_err(|error| {
             format!("DIFFERENCE at run {run}, seed {seed}: {error}\n{}", kept(&script, &renumbering, seed, run))
         })?;
-        rounds += played;
+        all.rounds += played.rounds;
+        all.taken += played.taken;
+        all.refused += played.refused;
         for name in names_of(&script, &renumbering, &output) {
             *reached.get_mut(name).expect("every name is listed") += 1;
         }
@@ -98,7 +102,14 @@ fn compare(runs: usize, seed: u64, bench: &str) -> Result<(), String> {
     if let Some(name) = NAMES.iter().find(|name| reached[**name] == 0) {
         return Err(format!("no run has this: {name}"));
     }
-    println!("renumber: {runs} runs with {rounds} rounds, {} single steps, seed {seed}: all renumbered", runs * STEPS);
+    let Played { rounds, taken, refused } = all;
+    if taken == 0 || refused == 0 {
+        return Err(format!("{taken} changes taken, {refused} refused"));
+    }
+    println!(
+        "renumber: {runs} runs with {rounds} rounds, {taken} changes taken and {refused} refused, {} single steps, seed {seed}: all renumbered",
+        runs * STEPS
+    );
     Ok(())
 }
 
@@ -126,18 +137,54 @@ fn same_lines(bench: &str, script: &Script, renumbering: &Renumbering) -> Result
     }
 }
 
-/// Plays script and renumbered script by the library; answers how many rounds.
-fn same_images(script: &Script, renumbering: &Renumbering) -> Result<u32, String> {
+/// A round that the library played.
+struct Round {
+    /// The change that was offered before it, and what each module answered.
+    offered: Option<(Setup, u32, Vec<u32>)>,
+    images: Vec<Vec<u8>>,
+    pages: Vec<Vec<u8>>,
+    health: Vec<u32>,
+}
+
+/// What the library played.
+#[derive(Default)]
+struct Played {
+    rounds: u64,
+    /// Changes that all took, and that all refused.
+    taken: u64,
+    refused: u64,
+}
+
+/// Plays script and renumbered script by the library, with the same changes between the rounds, renumbered.
+fn same_images(random: &mut Random, script: &Script, renumbering: &Renumbering) -> Result<Played, String> {
     let moved = renumbering.script(script);
     let mut rack = Images::opened(&Library, &script.setup)?;
     let mut rebuilt = Images::opened(&Library, &moved.setup)?;
     let mut rounds = Vec::new();
-    each_round(script, |events| rack.play_round(events).map(|()| rounds.push((rack.images.clone(), rack.pages.clone(), rack.health.clone()))))?;
+    let mut played = Played::default();
+    each_round(script, |events| {
+        let offered = random.chance(1, 4).then(|| {
+            let new = new_limits(random, &held(&rack.images[0]).0);
+            let lead = random.between(1, 4);
+            let numbers = rack.offer(&new, lead);
+            (new, lead, numbers)
+        });
+        rack.play_round(events)?;
+        rounds.push(Round { offered, images: rack.images.clone(), pages: rack.pages.clone(), health: rack.health.clone() });
+        Ok::<(), String>(())
+    })?;
     let mut at = 0;
     each_round(&moved, |events| {
-        rebuilt.play_round(events)?;
-        let (images, pages, health) = &rounds[at];
+        let Round { offered, images, pages, health } = &rounds[at];
         at += 1;
+        if let Some((new, lead, numbers)) = offered {
+            if rebuilt.offer(&renumbering.setup(new), *lead) != *numbers || numbers.iter().any(|number| *number != numbers[0]) {
+                return Err(format!("round {at}: a change is answered otherwise"));
+            }
+            played.taken += u64::from(numbers[0] == 0);
+            played.refused += u64::from(numbers[0] != 0);
+        }
+        rebuilt.play_round(events)?;
         for j in 1..=renumbering.n() {
             let new = renumbering.of(j) - 1;
             if rebuilt.images[new] != image_of(renumbering, &images[j - 1])
@@ -149,13 +196,18 @@ fn same_images(script: &Script, renumbering: &Renumbering) -> Result<u32, String
         }
         Ok(())
     })?;
-    Ok(at as u32)
+    played.rounds = at as u64;
+    Ok(played)
 }
 
-/// A step from a random image with a random read and page, and the same renumbered.
+/// A step from a random image with a random read and page, and the same renumbered. In some a change of the limits waits.
 fn same_step(random: &mut Random) -> Result<(), String> {
     let setup = script_with_u_0(random).setup;
-    let before = if random.chance(1, 3) { reached_state(random, &setup) } else { state(random, &setup) };
+    let before = match random.below(3) {
+        0 => reached_state(random, &setup),
+        1 => pending_state(random, &setup),
+        _ => state(random, &setup),
+    };
     let (read, controller) = read(random, &setup, &before);
     let page = page(random);
     let renumbering = Renumbering::random(random, setup.n);
@@ -184,7 +236,7 @@ fn same_step(random: &mut Random) -> Result<(), String> {
 /// Health, image and page after a step by the library.
 fn stepped(setup: &Setup, state: &State, read: &[u32], controller: u32, page: &[u8]) -> Result<(u32, Vec<u8>, Vec<u8>), String> {
     let image = bytes_of(&image_words(setup, state));
-    let (mut out, mut page) = (vec![0; image.len()], page.to_vec());
+    let (mut out, mut page) = (vec![0; 4 * stepped_length(setup, state)], page.to_vec());
     let answer = Library.page_step(&image, &bytes_of(read), controller, &mut out, &mut page);
     if answer.number != 0 {
         return Err(format!("refused {} at {}", answer.number, answer.index));
@@ -193,7 +245,7 @@ fn stepped(setup: &Setup, state: &State, read: &[u32], controller: u32, page: &[
 }
 
 fn image_of(renumbering: &Renumbering, image: &[u8]) -> Vec<u8> {
-    let (setup, state) = read_image(image).expect("the library's image is accepted");
+    let (setup, state) = held(image);
     bytes_of(&image_words(&renumbering.setup(&setup), &renumbering.state(&state)))
 }
 

@@ -1,8 +1,9 @@
 //! The calls as C makes them: numbers and byte slices. A refused call writes nothing.
 
+use super::change::{accept, setup_after};
 use super::page::Page;
-use super::setup::{read_setup, Holds};
-use super::state::{fresh, handed_out, image_words, read_image};
+use super::setup::{read_setup, Holds, Setup};
+use super::state::{fresh, handed_out, image_length, image_words, read_image, stepped_length, State};
 use super::step::{read_word, step, Outcome, Reading};
 use super::words::{bytes_of, words_of};
 use super::{refusal, Refusal};
@@ -39,6 +40,7 @@ pub trait Functions {
     fn open(&self, setup: &[u8], own: u32, out: &mut [u8]) -> Answer;
     fn step(&self, state: &[u8], read: &[u8], controller: u32, out: &mut [u8]) -> Answer;
     fn save(&self, state: &[u8], out: &mut [u8]) -> Answer;
+    fn change(&self, state: &[u8], setup: &[u8], lead: u32, out: &mut [u8]) -> Answer;
     fn outgoing(&self, state: &[u8]) -> WordAnswer;
     fn page_open(&self, setup: &[u8], own: u32, out: &mut [u8], page: &mut [u8]) -> Answer;
     fn page_step(&self, state: &[u8], read: &[u8], controller: u32, out: &mut [u8], page: &mut [u8]) -> Answer;
@@ -62,6 +64,9 @@ impl Functions for Model {
     }
     fn save(&self, state: &[u8], out: &mut [u8]) -> Answer {
         answer(try_save(state, out))
+    }
+    fn change(&self, state: &[u8], setup: &[u8], lead: u32, out: &mut [u8]) -> Answer {
+        answer(try_change(state, setup, lead, out))
     }
     fn outgoing(&self, state: &[u8]) -> WordAnswer {
         word(read_image(state).map(|(setup, state)| handed_out(&setup, &state)))
@@ -115,33 +120,41 @@ fn try_open(setup: &[u8], own: u32, out: &mut [u8]) -> Result<u32, Refusal> {
     if own < 1 || own > setup.n as u32 {
         return Err(refusal(7, 0));
     }
-    if out.len() != 4 * setup.image_length() {
-        return Err(refusal(9, 0));
-    }
-    let state = fresh(&setup, own as usize);
-    out.copy_from_slice(&bytes_of(&image_words(&setup, &state)));
-    Ok(0)
+    write_image(&setup, &fresh(&setup, own as usize), out)
 }
 
-/// Numbers 1 to 8, 9, 10.
+/// Numbers 1 to 8, 9, 10. The output has the length of the image after the step.
 fn try_step(state: &[u8], read: &[u8], controller: u32, out: &mut [u8]) -> Result<Outcome, Refusal> {
     let (setup, mut state) = read_image(state)?;
     let read = words_of(read).filter(|words| words.len() == setup.n).ok_or(refusal(9, 0))?;
-    if out.len() != 4 * setup.image_length() {
+    if out.len() != 4 * stepped_length(&setup, &state) {
         return Err(refusal(9, 0));
     }
+    let after = *setup_after(&setup, &state);
     let outcome = step(&setup, &mut state, &read, controller)?;
-    out.copy_from_slice(&bytes_of(&image_words(&setup, &state)));
+    out.copy_from_slice(&bytes_of(&image_words(&after, &state)));
     Ok(outcome)
 }
 
 /// Numbers 1 to 8, 9.
 fn try_save(state: &[u8], out: &mut [u8]) -> Result<u32, Refusal> {
     let (setup, state) = read_image(state)?;
-    if out.len() != 4 * setup.image_length() {
+    write_image(&setup, &state, out)
+}
+
+/// Numbers 1 to 8 of the state, 1 to 6 of the new setup with 22 in the place of 4, 23, 24, 9.
+fn try_change(state: &[u8], new: &[u8], lead: u32, out: &mut [u8]) -> Result<u32, Refusal> {
+    let (setup, state) = read_image(state)?;
+    let state = accept(&setup, &state, new, lead)?;
+    write_image(&setup, &state, out)
+}
+
+/// Number 9 for an output that has not the image's length.
+fn write_image(setup: &Setup, state: &State, out: &mut [u8]) -> Result<u32, Refusal> {
+    if out.len() != 4 * image_length(setup, &state.pending) {
         return Err(refusal(9, 0));
     }
-    out.copy_from_slice(&bytes_of(&image_words(&setup, &state)));
+    out.copy_from_slice(&bytes_of(&image_words(setup, state)));
     Ok(0)
 }
 
@@ -164,11 +177,11 @@ fn try_page_step(
     out: &mut [u8],
     page: &mut [u8],
 ) -> Result<u32, Refusal> {
-    let (setup, before) = read_image(state)?;
+    let (setup, _) = read_image(state)?;
     let mut after = Page::read(page)?;
     let outcome = try_step(state, read, controller, out)?;
     let (_, left) = read_image(out)?;
-    after.step(setup.n, before.view, &outcome, left.view);
+    after.step(setup.n, &outcome, left.view);
     page.copy_from_slice(&after.bytes());
     Ok(outcome.health)
 }

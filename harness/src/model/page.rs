@@ -1,4 +1,4 @@
-//! The register page of a module, after document 02, E1 and E5. Numbers 9, 17 and 18.
+//! The register page of a module, after document 02, E1, E5 and E10. Numbers 9, 17 and 18.
 
 use super::step::Outcome;
 use super::words::{bytes_of, full, has, words_of};
@@ -40,13 +40,13 @@ impl Page {
         bytes_of(&self.words)
     }
 
-    /// A step of n modules that found the view `before` and left the view `after`.
-    pub fn step(&mut self, n: usize, before: u32, outcome: &Outcome, after: u32) {
+    /// A step of n modules that left the view `after`.
+    pub fn step(&mut self, n: usize, outcome: &Outcome, after: u32) {
         let health = outcome.health;
         if self.words[VIEW] != after {
             self.words[FLAGS] |= VIEW_CHANGED;
         }
-        if (1..=n).any(|j| has(before, j) && !has(health, j)) {
+        if (1..=n).any(|j| has(outcome.found, j) && !has(health, j)) {
             self.words[FLAGS] |= SOMEBODY_CHARGED;
         }
         self.words[HEALTH] = health;

@@ -72,11 +72,25 @@ impl Form {
         self.first_module() + n
     }
 
-    /// Words of a saved state.
+    /// Words of a saved state without a change that waits; the last one is the rounds-left word (document 02, E10).
     pub fn image_length(self, n: usize) -> usize {
         match self {
-            Form::Counts => 5 * n + 6,
-            Form::Fading => 5 * n + 9,
+            Form::Counts => 5 * n + 7,
+            Form::Fading => 5 * n + 10,
+        }
+    }
+
+    /// The same with a change that waits: kinds 2, 3 and N of 4 more. Only counts have one; a fading image that calls for it is of this length too.
+    pub fn pending_image_length(self, n: usize) -> usize {
+        self.image_length(n) + n + 2
+    }
+
+    /// Whether these words have the length that the rounds-left word among them calls for.
+    fn is_image_length(self, n: usize, words: &[u32]) -> bool {
+        match words.get(self.image_length(n) - 1) {
+            None => false,
+            Some(0) => words.len() == self.image_length(n),
+            Some(_) => words.len() == self.pending_image_length(n),
         }
     }
 }
@@ -115,7 +129,7 @@ impl Setup {
         self.form().setup_length(self.n)
     }
 
-    /// Words of the saved state of one of its modules.
+    /// Words of the saved state of one of its modules, without a change that waits.
     pub fn image_length(&self) -> usize {
         self.form().image_length(self.n)
     }
@@ -152,14 +166,14 @@ pub fn read_setup(bytes: &[u8], holds: Holds) -> Result<(Setup, Vec<u32>), Refus
     let form = Form::of(&words);
     let length_right = match holds {
         Holds::Setup => words.len() == form.setup_length(n),
-        Holds::State => words.len() == form.image_length(n),
+        Holds::State => form.is_image_length(n, &words),
         Holds::Run => words.len() >= form.setup_length(n),
     };
     if !length_right {
         return Err(refusal(3, 0));
     }
     let limits = match form {
-        Form::Counts => read_counts(&words)?,
+        Form::Counts => read_counts_at(&words, 1).map_err(|at| refusal(4, at))?,
         Form::Fading => read_fading(&words)?,
     };
     let first = form.first_module();
@@ -184,10 +198,10 @@ fn read_head(word: u32) -> Option<(usize, u32)> {
     right.then_some((head.n as usize, head.return_limit))
 }
 
-/// Number 4.
-fn read_counts(words: &[u32]) -> Result<Limits, Refusal> {
-    let penalty = read_limit(2, words[1], 1_000_000).ok_or(refusal(4, 1))?;
-    let reward = read_limit(3, words[2], 8_000_000).ok_or(refusal(4, 2))?;
+/// P and R, that of P at `at`; else the place of the first wrong word.
+pub(super) fn read_counts_at(words: &[u32], at: usize) -> Result<Limits, usize> {
+    let penalty = read_limit(2, words[at], 1_000_000).ok_or(at)?;
+    let reward = read_limit(3, words[at + 1], 8_000_000).ok_or(at + 1)?;
     Ok(Limits::Counts { penalty, reward })
 }
 
@@ -212,7 +226,7 @@ fn read_fading(words: &[u32]) -> Result<Limits, Refusal> {
 }
 
 /// The word of module j; `None` if it is wrong or out of turn.
-fn read_module(word: u32, j: usize, n: usize) -> Option<Module> {
+pub(super) fn read_module(word: u32, j: usize, n: usize) -> Option<Module> {
     let module = ModuleWord::split(word)?;
     let right = module.number as usize == j
         && module.place as usize <= n

@@ -1,5 +1,7 @@
-//! A module's state and its saved image, with the return counts and the fading scores of document 02, E6 and E9. Numbers 7 and 8.
+//! A module's state and its saved image, with the return counts, the fading scores and the pending change of document 02, E6, E9 and E10.
+//! Numbers 7 and 8.
 
+use super::change::{pending_words, read_pending, Pending};
 use super::setup::{read_setup, Holds, Limits, Setup};
 use super::words::{bits, full, has, kind, Double, OwnWord, PenaltyWord, PreviousRead, ReturnWord, RewardWord, Vector, MAX};
 use super::{refusal, Refusal};
@@ -28,9 +30,11 @@ pub struct State {
     pub score: [Double; MAX],
     /// For a module outside the view how many rounds running its health was 1.
     pub returns: [u32; MAX],
+    /// A change of the limits that waits.
+    pub pending: Option<Pending>,
 }
 
-/// A fresh module: all-ones syndromes and rows, all heard, zero counters, every score 0.0, full view.
+/// A fresh module: all-ones syndromes and rows, all heard, zero counters, every score 0.0, full view, no change.
 pub fn fresh(setup: &Setup, own: usize) -> State {
     let ones = full(setup.n);
     let mut previous = [Entry::default(); MAX];
@@ -39,7 +43,18 @@ pub fn fresh(setup: &Setup, own: usize) -> State {
     }
     let zeros = [0; MAX];
     let score = [Double(0.0); MAX];
-    State { own, view: ones, previous, latest: ones, before: ones, penalty: zeros, reward: zeros, score, returns: zeros }
+    State {
+        own,
+        view: ones,
+        previous,
+        latest: ones,
+        before: ones,
+        penalty: zeros,
+        reward: zeros,
+        score,
+        returns: zeros,
+        pending: None,
+    }
 }
 
 /// Rule 7 read from the image: the syndrome that the step which made this state handed out.
@@ -49,7 +64,8 @@ pub fn handed_out(setup: &Setup, state: &State) -> u32 {
     Vector { kind: 5, bits: syndrome }.word()
 }
 
-/// The setup, one 10, N of 11, the latest and the one before as two 12, N of 13 and N of 14 or a pair of plain words for each score, N of 15.
+/// The setup, one 10, N of 11, the latest and the one before as two 12, N of 13 and N of 14 or a pair of plain words for each score, N of 15, the
+/// rounds-left word and the words of a change that waits.
 pub fn image_words(setup: &Setup, state: &State) -> Vec<u32> {
     let n = setup.n;
     let mut words = setup.words();
@@ -78,7 +94,22 @@ pub fn image_words(setup: &Setup, state: &State) -> Vec<u32> {
     for j in 1..=n {
         words.push(ReturnWord { module: j as u32, count: state.returns[j - 1] }.word());
     }
+    words.extend(pending_words(&state.pending));
     words
+}
+
+/// Words of the image.
+pub fn image_length(setup: &Setup, pending: &Option<Pending>) -> usize {
+    match pending {
+        None => setup.image_length(),
+        Some(_) => setup.form().pending_image_length(setup.n),
+    }
+}
+
+/// Words of the image after a step.
+pub fn stepped_length(setup: &Setup, state: &State) -> usize {
+    let waits = state.pending.filter(|pending| pending.left > 1);
+    image_length(setup, &waits)
 }
 
 /// Numbers 1 to 8. Words are tested in their order, so the first wrong one is named.
@@ -102,6 +133,7 @@ pub fn read_image(bytes: &[u8]) -> Result<(Setup, State), Refusal> {
         Limits::Fading { limit, .. } => state.score = read_scores(&words, first, n, limit, view)?,
     }
     state.returns = read_each(&words, first + 2 * n, n, |word, j| read_returns(word, j, &setup, has(view, j)))?;
+    state.pending = read_pending(&words, first + 3 * n, &setup)?;
     Ok((setup, state))
 }
 

@@ -1,6 +1,7 @@
-//! One step of one module: rules 1 to 8, struck-off modules, why a word was not heard, modules that come back, and fading scores (document 02, E4,
-//! E5, E6, E9). Number 10.
+//! One step of one module: rules 1 to 8, struck-off modules, why a word was not heard, modules that come back, fading scores, and changes of
+//! the limits (document 02, E4, E5, E6, E9, E10). Number 10.
 
+use super::change::due;
 use super::setup::{Limits, Setup};
 use super::state::{Entry, State};
 use super::words::{bits, full, has, kind, only, Double, Vector, MAX};
@@ -45,6 +46,8 @@ pub struct Outcome {
     pub accused: [u32; MAX],
     /// The syndrome of this round.
     pub syndrome: u32,
+    /// The view that rule 8 finds, after a change of the limits took effect.
+    pub found: u32,
     /// The outgoing word.
     pub word: u32,
 }
@@ -223,7 +226,7 @@ fn count_absent(setup: &Setup, state: &mut State, j: usize, healthy: bool) {
     }
 }
 
-/// One step with a read of N words. A refusal leaves the state as it was.
+/// One step with a read of N words. A refusal leaves the state as it was. The setup of the state after it is `setup_after`.
 pub fn step(setup: &Setup, state: &mut State, read: &[u32], controller: u32) -> Result<Outcome, Refusal> {
     let n = setup.n;
     let u = setup.u();
@@ -249,6 +252,11 @@ pub fn step(setup: &Setup, state: &mut State, read: &[u32], controller: u32) -> 
     // Rule 7.
     let word = outgoing_word(own.send_mark, state.latest, syndrome);
 
+    // A change that is due takes effect after the vote and before the counting.
+    let changed = due(state);
+    let setup = changed.as_ref().unwrap_or(setup);
+    let found = state.view;
+
     // Rule 8, on the view that it finds.
     for j in 1..=n {
         let count = if has(state.view, j) { count_present } else { count_absent };
@@ -257,5 +265,5 @@ pub fn step(setup: &Setup, state: &mut State, read: &[u32], controller: u32) -> 
     state.previous = this;
     state.before = state.latest;
     state.latest = syndrome;
-    Ok(Outcome { causes, health, accused, syndrome, word })
+    Ok(Outcome { causes, health, accused, syndrome, found, word })
 }

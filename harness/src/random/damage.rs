@@ -55,7 +55,7 @@ fn damage_once(random: &mut Random, words: &mut Vec<u32>) {
         return;
     }
     let at = random.below(words.len());
-    match random.below(17) {
+    match random.below(18) {
         // The fields of one word, at or beyond their limits.
         0..=5 => spoil_field(random, words, at),
         6 | 7 => words[at] ^= 1 << random.below(32),
@@ -78,6 +78,7 @@ fn damage_once(random: &mut Random, words: &mut Vec<u32>) {
                 if random.chance(1, 2) { words[at].wrapping_add(1) } else { words[at].wrapping_sub(1) }
         }
         15 => other_form(random, words),
+        16 => other_tail(random, words),
         _ => match random.below(3) {
             0 => words.truncate(at),
             1 => words.push(random.word()),
@@ -96,9 +97,45 @@ fn other_form(random: &mut Random, words: &mut Vec<u32>) {
     words.splice(end.min(1)..end, limits);
 }
 
+/// From the rounds-left word of a state on: another one, with the words of a change behind it or without (document 02, E10).
+fn other_tail(random: &mut Random, words: &mut Vec<u32>) {
+    let n = modules(words);
+    let (form, at) = (Form::of(words), left_at(words));
+    if words.len() <= at {
+        return;
+    }
+    words.truncate(at);
+    words.push(any_left(random));
+    if random.chance(2, 3) {
+        words.extend([2 << 28 | random.limit(1_000_000), 3 << 28 | random.limit(8_000_000)]);
+        for j in 0..n {
+            let module = words[form.first_module() + j];
+            words.push(field(module, 16, 0, random.limit(100_000)));
+        }
+    }
+}
+
+/// Where the rounds-left word of a state stands.
+fn left_at(words: &[u32]) -> usize {
+    Form::of(words).image_length(modules(words)) - 1
+}
+
+/// N, or the next one to it that a setup may have.
+fn modules(words: &[u32]) -> usize {
+    (words[0] & 31).clamp(2, 16) as usize
+}
+
+fn any_left(random: &mut Random) -> u32 {
+    random.pick(&[0, 1, 2, 999, 1_000, 1_001, 1_024, 1 << 16 | 1, 1 << 31 | 1, u32::MAX])
+}
+
 /// Sets one field of a word, or a double, to a value at or just beyond its limit.
 fn spoil_field(random: &mut Random, words: &mut [u32], at: usize) {
-    let n = (words[0] & 31).clamp(2, 16);
+    let n = modules(words) as u32;
+    if at == left_at(words) {
+        words[at] = any_left(random);
+        return;
+    }
     if Form::of(words) == Form::Fading && spoil_double(random, words, n as usize, at) {
         return;
     }
@@ -133,7 +170,7 @@ fn spoil_double(random: &mut Random, words: &mut [u32], n: usize, at: usize) -> 
         return false;
     }
     let first = Form::Fading.setup_length(n) + n + 3;
-    let is_state = words.len() == Form::Fading.image_length(n);
+    let is_state = words.len() >= Form::Fading.image_length(n);
     let right = random.chance(1, 3);
     match at {
         2 | 3 => put(words, 2, if right { factor(random) } else { wrong_factor(random) }),

@@ -1,12 +1,14 @@
 //! Accepted states: made from fields, and reached by stepping.
 
+use super::changes::new_limits;
 use super::doubles::{score_below, score_from};
 use super::reads::read;
 use super::Random;
+use crate::model::change::{accept, setup_after};
 use crate::model::setup::{Limits, Setup};
 use crate::model::state::{fresh, Entry, State};
 use crate::model::step::step;
-use crate::model::words::{has, only, Double, MAX};
+use crate::model::words::{bytes_of, has, only, Double, MAX};
 
 /// A state made from fields within the limits of number 8.
 pub fn state(random: &mut Random, setup: &Setup) -> State {
@@ -87,6 +89,24 @@ fn any_returns(random: &mut Random, setup: &Setup) -> u32 {
         3 => most.saturating_sub(1),
         _ => random.between(0, most),
     }
+}
+
+/// A state reached from opening by some steps with losses and lies, and with changes of the limits between; with the setup that it then has.
+pub fn reached_with_changes(random: &mut Random, setup: &Setup) -> (Setup, State) {
+    let mut setup = *setup;
+    let mut state = fresh(&setup, random.between(1, setup.n as u32) as usize);
+    for _ in 0..random.below(25) {
+        if random.chance(1, 4) {
+            let new = bytes_of(&new_limits(random, &setup).words());
+            // Refused while one waits and by a setup that fades.
+            state = accept(&setup, &state, &new, random.between(1, 5)).unwrap_or(state);
+        }
+        let (words, controller) = read(random, &setup, &state);
+        let after = *setup_after(&setup, &state);
+        step(&setup, &mut state, &words, controller).expect("a made read is accepted");
+        setup = after;
+    }
+    (setup, state)
 }
 
 /// A state reached from opening by some steps with losses and lies.

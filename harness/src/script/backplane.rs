@@ -1,10 +1,12 @@
 //! A whole backplane, played round by round.
 
 use super::limit::{kept, Hearing};
+use crate::model::change::{accept, next_setup};
 use crate::model::setup::Setup;
 use crate::model::state::{fresh, handed_out, State};
 use crate::model::step::{step, Outcome};
 use crate::model::words::{full, has, only, Vector, MAX};
+use crate::model::Refusal;
 
 /// What one receiver gets from one sender in one round.
 #[derive(Clone, Copy, PartialEq, Eq, Debug)]
@@ -38,7 +40,10 @@ pub fn add_event(events: &mut Events, sender: usize, receivers: u32, event: Even
 }
 
 pub struct Backplane {
+    /// The setup that all were opened from.
     pub setup: Setup,
+    /// The setup that each module has, which a change of the limits makes another (document 02, E10). N, Q, read places and marks stay.
+    setups: [Setup; MAX],
     pub cast: u32,
     u: usize,
     /// Modules by read place, smallest first.
@@ -78,12 +83,13 @@ impl Backplane {
 
         Backplane {
             setup: *setup,
+            setups: [*setup; MAX],
             cast,
             u: setup.u(),
             order,
             round: 0,
             states,
-            outcomes: [Outcome { causes: [0; MAX], health: 0, accused: [0; MAX], syndrome: 0, word: 0 }; MAX],
+            outcomes: [Outcome { causes: [0; MAX], health: 0, accused: [0; MAX], syndrome: 0, found: 0, word: 0 }; MAX],
             handed_out: handed,
             arrivals,
             hearings: [faultless; 3],
@@ -93,8 +99,20 @@ impl Backplane {
 
     /// Between two rounds: module j has lost its state and is opened anew from the setup. What it has on the bus stays as it was.
     pub fn open_anew(&mut self, j: usize) {
+        self.setups[j - 1] = self.setup;
         self.states[j - 1] = fresh(&self.setup, j);
         self.handed_out[j - 1] = handed_out(&self.setup, &self.states[j - 1]);
+    }
+
+    /// Between two rounds: module j is offered a change. A run script has none. A refusal leaves the module as it was.
+    pub fn offer(&mut self, j: usize, new: &[u8], lead: u32) -> Result<(), Refusal> {
+        self.states[j - 1] = accept(&self.setups[j - 1], &self.states[j - 1], new, lead)?;
+        Ok(())
+    }
+
+    /// The setup that module j has now.
+    pub fn setup_of(&self, j: usize) -> &Setup {
+        &self.setups[j - 1]
     }
 
     /// Plays one round; the events count for the words sent in it.
@@ -162,8 +180,12 @@ impl Backplane {
                 controller |= only(j);
             }
         }
-        let state = &mut self.states[i - 1];
-        let outcome = step(&self.setup, state, &read, controller).expect("a step of the bench is accepted");
+        let (setup, state) = (&mut self.setups[i - 1], &mut self.states[i - 1]);
+        let new = next_setup(state).copied();
+        let outcome = step(setup, state, &read, controller).expect("a step of the bench is accepted");
+        if let Some(new) = new {
+            *setup = new;
+        }
         self.handed_out[i - 1] = outcome.word;
         self.outcomes[i - 1] = outcome;
     }

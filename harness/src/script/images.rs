@@ -4,6 +4,7 @@
 use super::backplane::{Event, Events};
 use crate::model::calls::{Answer, Functions};
 use crate::model::setup::Setup;
+use crate::model::state::{read_image, stepped_length, State};
 use crate::model::words::{bytes_of, only};
 
 pub struct Images<'a> {
@@ -31,13 +32,29 @@ impl<'a> Images<'a> {
         Ok(opened)
     }
 
+    /// Between two rounds: all are offered the same change (document 02, E10); the number that each answers.
+    pub fn offer(&mut self, new: &Setup, lead: u32) -> Vec<u32> {
+        let mut numbers = Vec::new();
+        for image in &mut self.images {
+            let (setup, _) = held(image);
+            let mut out = vec![0; 4 * setup.form().pending_image_length(setup.n)];
+            let answer = self.calls.change(image, &bytes_of(&new.words()), lead, &mut out);
+            if answer.number == 0 {
+                *image = out;
+            }
+            numbers.push(answer.number);
+        }
+        numbers
+    }
+
     /// All send what their images hand out, then all step; the events count for the words sent.
     pub fn play_round(&mut self, events: &Events) -> Result<(), String> {
         let sent: Vec<u32> = self.images.iter().map(|image| self.calls.outgoing(image).word).collect();
         for receiver in 1..=self.n {
             let (read, controller) = arrived(&sent, events, receiver);
             let at = receiver - 1;
-            let mut image = vec![0; self.images[at].len()];
+            let (setup, state) = held(&self.images[at]);
+            let mut image = vec![0; 4 * stepped_length(&setup, &state)];
             let page = &mut self.pages[at];
             let answer = self.calls.page_step(&self.images[at], &bytes_of(&read), controller, &mut image, page);
             self.health[at] = accepted(answer)?;
@@ -45,6 +62,11 @@ impl<'a> Images<'a> {
         }
         Ok(())
     }
+}
+
+/// Setup and state of an image.
+pub fn held(image: &[u8]) -> (Setup, State) {
+    read_image(image).expect("the image that a call wrote is accepted")
 }
 
 /// The words that reach a receiver, and its controller word.

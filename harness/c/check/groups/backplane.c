@@ -21,7 +21,8 @@ static void open_all(struct backplane *b)
 /* Module i + 1 takes the word that its image hands out. */
 static void take_word(struct backplane *b, uint32_t i)
 {
-    b->word[i] = outgoing(b->image[i], image_bytes(b->form, b->n), 0, 0);
+    b->word[i] = outgoing(b->image[i], presence_image_bytes(b->image[i], b->n),
+                          0, 0);
 }
 
 /* Module j sends in round k. */
@@ -40,16 +41,22 @@ static void send_word(struct backplane *b, uint32_t k, uint32_t j)
 /* Those with read place l make their step of round k. */
 static void step_at(struct backplane *b, uint32_t k, uint32_t l)
 {
-    size_t len = image_bytes(b->form, b->n);
     uint32_t n = b->n, i, of_setup;
+    uint8_t *image;
 
     for (i = 0; i < n; i++) {
+        image = b->image[i];
         of_setup = get(b->setup, module_at(b->form, i + 1));
         if ((of_setup >> 17 & 0x1F) != l)
             continue;
-        b->health[k][i] = step(b->image[i], len, b->read[i], 4 * n,
-                               b->controller[i], len, 0, 0, b->image[i]);
-        b->view[k][i] = view_of(b->form, b->image[i], n);
+        if (k == b->change_in)
+            change(image, image_bytes(b->form, n), b->new_setup,
+                   setup_bytes(b->form, n), b->lead, pending_bytes(n), 0, 0,
+                   image);
+        b->health[k][i] = step(image, presence_image_bytes(image, n),
+                               b->read[i], 4 * n, b->controller[i],
+                               presence_stepped_bytes(image, n), 0, 0, image);
+        b->view[k][i] = view_of(b->form, image, n);
         if (of_setup >> 22 & 1) /* with the mark */
             take_word(b, i);
     }

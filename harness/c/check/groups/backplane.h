@@ -7,12 +7,16 @@
 
 #define ROUNDS 24 /* most rounds that are played */
 
-/* A backplane; form, n, setup and silent are given.  Module j stands at j-1,
-   round k at k. */
+/* A backplane; form, n, setup and silent are given, and where a change is
+   offered to all before the step of a round, that round, the new setup and the
+   lead.  Module j stands at j-1, round k at k. */
 struct backplane {
     enum form form;
     uint32_t n;
     const uint8_t *setup;
+    uint32_t change_in; /* 0 for no change */
+    const uint8_t *new_setup;
+    uint32_t lead;
     uint32_t silent[ROUNDS + 1][MAX_N]; /* receivers without j */
     uint8_t image[MAX_N][IMAGE_MAX];
     uint32_t word[MAX_N]; /* what the module sends next */

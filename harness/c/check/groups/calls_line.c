@@ -50,6 +50,7 @@ static const struct form forms[] = {
     {"open", OPEN, 3, 4},
     {"step", STEP, 4, 4},
     {"save", SAVE, 2, 4},
+    {"change", CHANGE, 4, 4},
     {"pageopen", PAGE_OPEN, 4, 5},
     {"pagestep", PAGE_STEP, 5, 5},
     {"pageread", PAGE_READ, 2, 3},
@@ -151,6 +152,9 @@ static int parse_call(char **field, const struct form *form, struct call *c)
         return 0;
     if (c->op == STEP && (!parse_block(field[2], &c->read, &c->read_len) ||
                           !parse_number(field[3], 16, &c->argument)))
+        return 0;
+    if (c->op == CHANGE && (!parse_block(field[2], &c->read, &c->read_len) ||
+                            !parse_number(field[3], 10, &c->argument)))
         return 0;
     /* Whatever answers an image takes the output's length last. */
     return form->answers != 4 ||

@@ -1,6 +1,6 @@
 /*
  * calls_line.h - a line of a calls file: a call, and what must come out of it.
- * The head of harness/data/e06-calls.txt says how it is written, and that of
+ * The head of harness/data/e10-calls.txt says how it is written, and that of
  * own-calls.txt how a cause that is refused.
  */
 #ifndef CHECK_CALLS_LINE_H

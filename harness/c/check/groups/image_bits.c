@@ -8,8 +8,9 @@
 #include "check/sizes.h"
 #include "check/words.h"
 
-/* Outgoing word, saving and step of the image in the call. */
-static void all_of_image(struct call *c)
+/* Outgoing word, saving and step of the image in the call; the output of the
+   step has this length. */
+static void all_of_image(struct call *c, size_t stepped_len)
 {
     struct result r;
 
@@ -20,6 +21,7 @@ static void all_of_image(struct call *c)
     c->out_len = c->in_len;
     both(c, &r);
     c->op = STEP;
+    c->out_len = stepped_len;
     both(c, &r);
 }
 
@@ -29,13 +31,14 @@ static void turn_bits(uint8_t *image, size_t len, uint32_t n,
     struct call c = {.in = image, .in_len = len, .read = read,
                      .read_len = PRESENCE_READ_BYTES(n),
                      .argument = controller};
+    size_t stepped_len = presence_stepped_bytes(image, n);
     uint32_t at, b, word;
 
     for (at = 0; at < len / 4; at++) {
         word = get(image, at);
         for (b = 0; b < 32; b++) {
             put(image, at, word ^ 1u << b);
-            all_of_image(&c);
+            all_of_image(&c, stepped_len);
         }
         put(image, at, word);
     }
@@ -52,6 +55,21 @@ static void turn_bits_of(enum form form, uint32_t n, uint32_t u)
     turn_bits(image, image_bytes(form, n), n, read, controller);
 }
 
+/* The same with a pending change, which the step applies or does not. */
+static void turn_bits_of_change(uint32_t n, uint32_t u, uint32_t left)
+{
+    uint8_t s[SETUP_MAX], image[IMAGE_MAX], read[PRESENCE_MAX_READ_BYTES];
+    uint8_t new_setup[SETUP_MAX];
+    uint32_t controller;
+
+    low_setup(COUNTS, s, n, u);
+    lived_image(COUNTS, image, s, n, 1 + below(n), 40);
+    new_limits(new_setup, s, n);
+    put_pending(image, new_setup, n, left);
+    controller = random_read(read, n, 6);
+    turn_bits(image, pending_bytes(n), n, read, controller);
+}
+
 void group_image_bits(void)
 {
     uint32_t n, u;
@@ -61,6 +79,7 @@ void group_image_bits(void)
         for (u = 0; u < 2; u++) {
             turn_bits_of(COUNTS, n, u);
             turn_bits_of(FADING, n, u);
+            turn_bits_of_change(n, u, 1 + u);
         }
     end_group();
 }

@@ -37,6 +37,32 @@ static void lengths_of(enum form form, uint32_t n)
         save(image, image_len, len, len == image_len ? 0 : 9, 0);
 }
 
+/* An image with a pending change: only the length that its rounds-left word
+   calls for. */
+static void pending_lengths(uint32_t n)
+{
+    uint8_t s[SETUP_MAX], new_setup[SETUP_MAX], image[2 * IMAGE_MAX];
+    size_t long_len = pending_bytes(n), len;
+    uint32_t number;
+
+    memset(image, 0xEE, sizeof image);
+    low_setup(COUNTS, s, n, 0);
+    lived_image(COUNTS, image, s, n, 1, 10);
+    new_limits(new_setup, s, n);
+    put_pending(image, new_setup, n, 2);
+    for (len = 0; len <= long_len + 12; len++) {
+        number = len == 0 || len % 4 != 0 ? 1 : len != long_len ? 3 : 0;
+        outgoing(image, len, number, 0);
+        save(image, len, long_len, number, 0);
+        save(image, long_len, len, len == long_len ? 0 : 9, 0);
+        change(image, len, new_setup, setup_bytes(COUNTS, n), 1, long_len,
+               number == 0 ? 24 : number, 0, NULL);
+    }
+    put(image, left_at(COUNTS, n), 0); /* none is pending */
+    outgoing(image, long_len, 3, 0);
+    outgoing(image, image_bytes(COUNTS, n), 0, 0);
+}
+
 void group_image_lengths(void)
 {
     uint32_t n;
@@ -45,6 +71,7 @@ void group_image_lengths(void)
     for (n = 2; n <= MAX_N; n++) {
         lengths_of(COUNTS, n);
         lengths_of(FADING, n);
+        pending_lengths(n);
     }
     end_group();
 }

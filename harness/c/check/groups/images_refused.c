@@ -30,14 +30,15 @@ static void refused_word(enum form form, const uint8_t *image, uint32_t n,
                          uint32_t at, uint32_t word, uint32_t number)
 {
     uint8_t copy[IMAGE_MAX];
-    uint32_t words = (uint32_t)image_bytes(form, n) / 4, later;
+    uint32_t last = left_at(form, n), later;
 
-    memcpy(copy, image, 4 * words);
+    memcpy(copy, image, image_bytes(form, n));
     put(copy, at, word);
     refused_image(form, copy, n, number, at);
-    /* A second wrong word further on: the first is named. */
-    later = at + 1 + below(words - at);
-    if (later < words) {
+    /* A second wrong word further on: the first is named.  Another rounds-left
+       word would call for another length. */
+    later = at + 1 + below(last - at);
+    if (later < last) {
         put(copy, later, 0xFFFFFFFF);
         refused_image(form, copy, n, number, at);
     }

@@ -40,6 +40,10 @@ static void opening_accepted(enum form form, const uint8_t *setup, uint32_t n,
     same("view by the header's macro", view_of(form, image, n), ones(n));
     same("form by the header's macro", PRESENCE_IS_FADING(image),
          form == FADING);
+    same("rounds left by the header", presence_rounds_left(image, n), 0);
+    same("length by the header", presence_image_bytes(image, n), len);
+    same("length after a step by the header", presence_stepped_bytes(image, n),
+         len);
 }
 
 /* 7 for wrong own numbers; 9 for every other output length, whole words or
@@ -89,6 +93,8 @@ void group_opening(void)
          PRESENCE_MAX_FADING_SETUP_BYTES);
     same("fading image bytes", PRESENCE_FADING_IMAGE_BYTES(16),
          PRESENCE_MAX_FADING_IMAGE_BYTES);
+    same("image bytes with a change", PRESENCE_PENDING_IMAGE_BYTES(16),
+         PRESENCE_MAX_PENDING_IMAGE_BYTES);
     same("read bytes", PRESENCE_READ_BYTES(16), PRESENCE_MAX_READ_BYTES);
     for (n = 2; n <= MAX_N; n++) {
         openings(COUNTS, n);

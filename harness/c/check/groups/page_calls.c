@@ -39,15 +39,15 @@ void open_paged(enum form form, const uint8_t *setup, uint32_t n, uint32_t own,
     }
 }
 
-uint32_t step_paged(enum form form, uint32_t n, uint8_t *image,
-                    const uint8_t *read, uint32_t controller, uint8_t *page,
-                    size_t page_len, uint32_t number)
+uint32_t step_paged(uint32_t n, uint8_t *image, const uint8_t *read,
+                    uint32_t controller, uint8_t *page, size_t page_len,
+                    uint32_t number)
 {
     struct call c = {.op = PAGE_STEP, .in = image,
-                     .in_len = image_bytes(form, n), .read = read,
+                     .in_len = presence_image_bytes(image, n), .read = read,
                      .read_len = PRESENCE_READ_BYTES(n),
                      .argument = controller,
-                     .out_len = image_bytes(form, n), .page = page,
+                     .out_len = presence_stepped_bytes(image, n), .page = page,
                      .page_len = page_len};
     struct result r;
 

@@ -17,9 +17,9 @@ void open_paged(enum form form, const uint8_t *setup, uint32_t n, uint32_t own,
 
 /* A step with a page, which must answer number; returns the health vector.
    Image and page are those after it if it is accepted. */
-uint32_t step_paged(enum form form, uint32_t n, uint8_t *image,
-                    const uint8_t *read, uint32_t controller, uint8_t *page,
-                    size_t page_len, uint32_t number);
+uint32_t step_paged(uint32_t n, uint8_t *image, const uint8_t *read,
+                    uint32_t controller, uint8_t *page, size_t page_len,
+                    uint32_t number);
 
 void random_page(uint8_t *page, size_t len);
 

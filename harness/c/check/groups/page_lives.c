@@ -3,6 +3,7 @@
 
 #include <string.h>
 
+#include "check/expect.h"
 #include "check/groups/page_calls.h"
 #include "check/inputs.h"
 #include "check/random.h"
@@ -10,8 +11,8 @@
 #include "check/sizes.h"
 #include "check/words.h"
 
-/* Steps that changed the view. */
-static unsigned long changes;
+/* Steps that changed the view, and modules that a change put out. */
+static unsigned long changes, put_out;
 
 /* The cause of module j + 1 in a read by what the header says of it. */
 static uint32_t cause(uint32_t n, const uint8_t *read, uint32_t controller,
@@ -27,17 +28,36 @@ static uint32_t cause(uint32_t n, const uint8_t *read, uint32_t controller,
                                                : PRESENCE_CAUSE_HEARD;
 }
 
+/* The view that the step counts by: without those that a change puts out, which
+   it applies. */
+static uint32_t found_view(enum form form, const uint8_t *image, uint32_t n)
+{
+    uint32_t view = view_of(form, image, n), new_p, new_r, j;
+
+    if (presence_rounds_left(image, n) != 1)
+        return view;
+    new_p = get(image, new_p_at(n)) - 0x20000000;
+    new_r = get(image, new_r_at(n)) - 0x30000000;
+    for (j = 1; j <= n; j++)
+        if ((view >> (j - 1) & 1) == 1 &&
+            get(image, penalty_at(n, j)) > penalty_word(j, new_p) &&
+            get(image, reward_at(n, j)) < reward_word(j, new_r)) {
+            view &= ~(1u << (j - 1));
+            put_out++;
+        }
+    return view;
+}
+
 /* A step with a page by what the header says of it. */
 static void page_follows(enum form form, uint32_t n, uint8_t *image,
                          const uint8_t *read, uint32_t controller,
                          uint8_t *page)
 {
     uint8_t old[PRESENCE_PAGE_BYTES];
-    uint32_t found = view_of(form, image, n), words[8] = {0}, j;
+    uint32_t found = found_view(form, image, n), words[8] = {0}, j;
 
     memcpy(old, page, sizeof old);
-    words[0] = step_paged(form, n, image, read, controller, page, sizeof old,
-                          0);
+    words[0] = step_paged(n, image, read, controller, page, sizeof old, 0);
     words[1] = view_of(form, image, n);
     changes += words[1] != found;
     words[2] = get(old, 2) | (words[1] != get(old, 1));
@@ -54,6 +74,18 @@ static void page_follows(enum form form, uint32_t n, uint8_t *image,
              cause(n, read, controller, j - 1));
 }
 
+/* Between two steps, at times: new limits, if none are pending. */
+static void offer(uint8_t *image, uint32_t n)
+{
+    uint8_t new_setup[SETUP_MAX];
+
+    if (below(8) != 0 || presence_rounds_left(image, n) > 0)
+        return;
+    new_limits(new_setup, image, n); /* which begins with the setup */
+    change(image, image_bytes(COUNTS, n), new_setup, setup_bytes(COUNTS, n),
+           1 + below(4), pending_bytes(n), 0, 0, image);
+}
+
 static void page_life(enum form form, uint32_t n, uint32_t u, uint32_t steps)
 {
     uint8_t s[SETUP_MAX], read[PRESENCE_MAX_READ_BYTES];
@@ -65,6 +97,8 @@ static void page_life(enum form form, uint32_t n, uint32_t u, uint32_t steps)
     open_paged(form, s, n, 1 + below(n), sizeof page, 0, image, page);
     host(PAGE_WRITE, page, sizeof page, PRESENCE_PAGE_ENABLE, below(4), 0);
     for (k = 0; k < steps; k++) {
+        if (form == COUNTS)
+            offer(image, n);
         controller = random_read(read, n, below(9));
         page_follows(form, n, image, read, controller, page);
         flags = host(PAGE_READ, page, sizeof page, PRESENCE_PAGE_FLAGS, 0, 0);
@@ -75,9 +109,9 @@ static void page_life(enum form form, uint32_t n, uint32_t u, uint32_t steps)
         if (below(8) == 0)
             random_page(page, sizeof page);
         if (below(4) == 0) /* refused steps between */
-            step_paged(form, n, image, read, 1u << n, page, sizeof page, 10);
+            step_paged(n, image, read, 1u << n, page, sizeof page, 10);
         if (below(4) == 0)
-            step_paged(form, n, image, read, 1u << n, page, below(64), 9);
+            step_paged(n, image, read, 1u << n, page, below(64), 9);
     }
 }
 
@@ -93,5 +127,7 @@ void group_page_lives(void)
         }
     if (changes < 1000)
         differ("steps that changed the view", changes, 1000);
+    if (put_out < 100)
+        differ("modules that a change put out", put_out, 100);
     end_group();
 }

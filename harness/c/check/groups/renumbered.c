@@ -1,4 +1,7 @@
-/* renumbered.c - the same modules in other slots, u = 0: E8 of document 02. */
+/*
+ * renumbered.c - the same modules in other slots, u = 0: E8 of document 02;
+ * with changes of the limits, E10, between the steps.
+ */
 #include "check/groups/groups.h"
 
 #include <string.h>
@@ -17,8 +20,8 @@ struct renumbering {
     uint32_t number[MAX_N];
 };
 
-/* Modules seen to leave the view and to come back. */
-static unsigned long left, returned;
+/* Modules seen to leave the view and to come back, and changes. */
+static unsigned long left, returned, changes;
 
 static void any_numbers(struct renumbering *r, enum form form, uint32_t n)
 {
@@ -78,6 +81,34 @@ static void move_counters(uint8_t *to, const struct renumbering *r,
         numbered(get(from, returns_at(r->form, n, j)), i));
 }
 
+/* A setup, or the front of an image. */
+static void move_setup(uint8_t *to, const struct renumbering *r,
+                       const uint8_t *from)
+{
+    enum form f = r->form;
+    uint32_t j, i;
+
+    memcpy(to, from, 4 * module_at(f, 1)); /* head and limits */
+    for (j = 1; j <= r->n; j++) {
+        i = r->number[j - 1];
+        put(to, module_at(f, i), numbered(get(from, module_at(f, j)), i));
+    }
+}
+
+/* The words of a pending change. */
+static void move_pending(uint8_t *to, const struct renumbering *r,
+                         const uint8_t *from)
+{
+    uint32_t n = r->n, j, i;
+
+    memcpy(to + 4 * new_p_at(n), from + 4 * new_p_at(n), 8); /* P and R */
+    for (j = 1; j <= n; j++) {
+        i = r->number[j - 1];
+        put(to, new_module_at(n, i), numbered(get(from, new_module_at(n, j)),
+                                              i));
+    }
+}
+
 /* The setup stands in front of the image and goes with it. */
 static void move_image(uint8_t *to, const struct renumbering *r,
                        const uint8_t *from)
@@ -85,25 +116,27 @@ static void move_image(uint8_t *to, const struct renumbering *r,
     enum form f = r->form;
     uint32_t n = r->n, own = get(from, own_at(f, n)), j, i;
 
-    memcpy(to, from, 4 * module_at(f, 1)); /* head and limits */
+    move_setup(to, r, from);
     put(to, own_at(f, n), own_word(r->number[(own >> 16 & 31) - 1],
                                    moved(r, own & 0xFFFF)));
     put(to, latest_at(f, n), moved(r, get(from, latest_at(f, n))));
     put(to, before_at(f, n), moved(r, get(from, before_at(f, n))));
+    put(to, left_at(f, n), get(from, left_at(f, n)));
     for (j = 1; j <= n; j++) {
         i = r->number[j - 1];
-        put(to, module_at(f, i), numbered(get(from, module_at(f, j)), i));
         put(to, previous_at(f, n, i),
             numbered(moved(r, get(from, previous_at(f, n, j))), i));
         move_counters(to, r, from, j, i);
     }
+    if (presence_rounds_left(from, n) > 0)
+        move_pending(to, r, from);
 }
 
 static void image_is(const struct renumbering *r, const uint8_t *image,
                      const uint8_t *rebuilt)
 {
     uint8_t wanted[IMAGE_MAX];
-    size_t len = image_bytes(r->form, r->n);
+    size_t len = presence_image_bytes(image, r->n);
     uint32_t at;
 
     move_image(wanted, r, image);
@@ -111,6 +144,35 @@ static void image_is(const struct renumbering *r, const uint8_t *image,
         same("word of a renumbered image", get(rebuilt, at), get(wanted, at));
     same("word handed out, renumbered", outgoing(rebuilt, len, 0, 0),
          moved(r, outgoing(image, len, 0, 0)));
+}
+
+/* The same change for a module and for the module that it became, at times. */
+static void two_changes(const struct renumbering *r, uint8_t *image,
+                        uint8_t *rebuilt)
+{
+    uint8_t new_setup[SETUP_MAX], new_then[SETUP_MAX];
+    uint32_t n = r->n, lead = 1 + below(4);
+    size_t len = image_bytes(COUNTS, n), setup_len = setup_bytes(COUNTS, n);
+
+    if (r->form == FADING || below(8) != 0 ||
+        presence_rounds_left(image, n) > 0)
+        return;
+    new_limits(new_setup, image, n);
+    move_setup(new_then, r, new_setup);
+    change(image, len, new_setup, setup_len, lead, pending_bytes(n), 0, 0,
+           image);
+    change(rebuilt, len, new_then, setup_len, lead, pending_bytes(n), 0, 0,
+           rebuilt);
+    image_is(r, image, rebuilt);
+    changes++;
+}
+
+/* A step from an image to the one after it. */
+static uint32_t step_on(uint8_t *image, uint32_t n, const uint8_t *read,
+                        uint32_t controller)
+{
+    return step(image, presence_image_bytes(image, n), read, 4 * n, controller,
+                presence_stepped_bytes(image, n), 0, 0, image);
 }
 
 /* Makes the same steps of a module and of the module that it became. */
@@ -132,13 +194,13 @@ static void two_lives(enum form form, const uint8_t *setup, uint32_t n,
     for (k = 0; k < steps; k++) {
         if (k % 16 == 0)
             faults = below(9);
+        two_changes(&r, image, rebuilt);
         controller = random_read(read, n, faults);
         move_read(read_then, &r, read);
         view = view_of(form, image, n);
-        health = step(image, len, read, 4 * n, controller, len, 0, 0, image);
+        health = step_on(image, n, read, controller);
         same("health, renumbered",
-             step(rebuilt, len, read_then, 4 * n, moved(&r, controller), len, 0,
-                  0, rebuilt),
+             step_on(rebuilt, n, read_then, moved(&r, controller)),
              moved(&r, health));
         image_is(&r, image, rebuilt);
         left += (view & ~view_of(form, image, n)) != 0;
@@ -162,5 +224,7 @@ void group_renumbered(void)
         }
     if (left < 100 || returned < 100)
         differ("modules that left and came back", left, returned);
+    if (changes < 100)
+        differ("changes", changes, 100);
     end_group();
 }

@@ -11,8 +11,8 @@
 
 /*
  * A faulty setup of the right length: refused by the setup check and the
- * opening, and in an image by step, saving and outgoing word, always with the
- * same number and index.
+ * opening, and in an image by step, saving, change and outgoing word, always
+ * with the same number and index.
  */
 static void refused_setup(enum form form, const uint8_t *setup, uint32_t n,
                           uint32_t number, uint32_t index)
@@ -34,8 +34,10 @@ static void refused_setup(enum form form, const uint8_t *setup, uint32_t n,
     save(image, image_len, image_len, number, index);
     outgoing(image, image_len, number, index);
     step(image, image_len, read, 4 * n, 0, image_len, number, index, NULL);
-    /* The rest of the image, the lengths and the controller wrong too. */
-    memset(image + setup_len, 0xFF, image_len - setup_len);
+    change(image, image_len, good, setup_len, 0, 0, number, index, NULL);
+    /* The rest of the image, the lengths and the controller wrong too, but not
+       the rounds left, which call for a length. */
+    memset(image + setup_len, 0xFF, image_len - setup_len - 4);
     step(image, image_len, read, 3, 0xFFFFFFFF, 5, number, index, NULL);
     save(image, image_len, 0, number, index);
 }

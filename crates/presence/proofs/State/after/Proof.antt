@@ -1,22 +1,22 @@
+-- A change that is due, then rule 8, and the rest is as the definition says.
+use Rattle.presence.proofs.ValidLaws.{valid-fits}
+use Rattle.presence.proofs.StateRoundLaws.{after-made, books-range}
 use borrow.Author.Needs.{needs}
 use Rattle.presence.proofs.State.after.Statement.{statement}
 use Rattle.presence.proofs.State.after.Tie as tie
-use Rattle.presence.proofs.State.after.Reads as reads
-use Rattle.presence.proofs.State.after.Lts as lts
 use Rattle.accounts.proofs.round.counters.Reads as counters-reads
 use Rattle.presence.proofs.State.turned.Reads as turned-reads
 
--- src/step.rt:93:13
 turned-requires : tie.Need-turned-requires
 turned-requires c κs = search needs
 
--- src/step.rt:97:13
 counters-requires : tie.Need-counters-requires
-counters-requires c κs = ?
+counters-requires c κs =
+    books-range _ (valid-fits _ (c .before .before .before .before .pre .0)) (c .before .before .before .turned .ensures)
 
--- src/step.rt:88:5
 returns : tie.Need-returns
-returns c = ?
+returns c =
+    after-made _ _ (c .before .before .before .before .before .pre .1) (c .before .before .before .before .turned .ensures) (c .counters2 .ensures)
 
 pub after-spec : {M : Type 1} → statement M
 after-spec = tie.close (tie.spec turned-requires counters-requires returns)

@@ -1,17 +1,18 @@
+-- The view of the turned books.
+use mathlib.Core.Path.{ap}
+use Rattle.changes.specs.declared.Books.{Books}
+use Rattle.presence.specs.Step.{foundView}
 use borrow.Author.Needs.{needs}
 use Rattle.presence.proofs.State.found_view.Statement.{statement}
 use Rattle.presence.proofs.State.found_view.Tie as tie
-use Rattle.presence.proofs.State.found_view.Reads as reads
-use Rattle.presence.proofs.State.found_view.Lts as lts
 use Rattle.presence.proofs.State.turned.Reads as turned-reads
 
--- src/step.rt:82:13
 turned-requires : tie.Need-turned-requires
 turned-requires c κs = search needs
 
--- src/step.rt:78:5
 returns : tie.Need-returns
-returns c = ?
+unfolding foundView
+returns c = ap (λ (b : Books). b .counters .view) (c .before .turned .ensures)
 
 pub found-view-spec : {M : Type 1} → statement M
 found-view-spec = tie.close (tie.spec turned-requires returns)

@@ -1,14 +1,23 @@
 -- An accepted image gives its state, and another the answer of the check.
-use mathlib.Core.Path.{ap, _∙_, sym}
+use Rattle.setup.specs.Setup.{fadesIn, frontIn}
+use Rattle.words.specs.Word.{wordAt}
+use Prim.Native.Nat.{ℕ}
+use mathlib.Core.List.{List}
+use mathlib.Core.Path.{ap, _∙_, sym, _≡_}
 use mathlib.Core.Bool.{Bool}
 use borrow.Author.Tests.{not-true, not-false}
 use Rattle.setup.specs.Layout.{frontWords}
-use Rattle.image.specs.Layout.{imageLength}
+use Rattle.image.specs.Layout.{imageLength, leftAt}
 use Rattle.image.proofs.ImageAnswers.{size-refused, size-fits, size-return, by-words}
 use Rattle.presence.proofs.StateAnswers.{load-refused, load-accepted}
 use borrow.Author.Needs.{needs}
 use Rattle.presence.proofs.State.load.Statement.{statement}
 use Rattle.presence.proofs.State.load.Tie as tie
+
+-- the length, by the form
+by-form : {b : Bool} {k : ℕ} (s : List ℕ) (n : ℕ) → b ≡ fadesIn (wordAt s) → k ≡ imageLength (frontIn (wordAt s)) n (wordAt s (leftAt (frontIn (wordAt s)) n))
+    → k ≡ imageLength (frontWords b) n (wordAt s (leftAt (frontWords b) n))
+by-form s n e h = rw e h
 
 image-size-requires : tie.Need-image-size-requires
 image-size-requires c κs = search needs
@@ -27,7 +36,7 @@ load-requires : tie.Need-load-requires
 load-requires c κs =
     let f = size-fits _ (c .before .before .image-size .ensures) (c .before .if1 .left) in
     let form = c .fades-at .ensures in
-    (f .0, f .1 ∙ ap (λ (b : Bool). imageLength (frontWords b) (c .before .before .image-size .result)) (sym form), f .2, form, size-return _ (c .before .before .image-size .ensures) (c .before .if1 .left))
+    (f .0, by-form _ _ form (f .1), f .2, form, size-return _ (c .before .before .image-size .ensures) (c .before .if1 .left))
 
 refused-requires-2 : tie.Need-refused-requires-2
 refused-requires-2 c κs = search needs

@@ -1,15 +1,13 @@
+-- The parts of the state are small enough.
+use Rattle.presence.proofs.ValidLaws.{valid-fits, turn-small}
 use borrow.Author.Needs.{needs}
 use Rattle.presence.proofs.State.turned.Statement.{statement}
 use Rattle.presence.proofs.State.turned.Tie as tie
-use Rattle.presence.proofs.State.turned.Reads as reads
-use Rattle.presence.proofs.State.turned.Lts as lts
 use Rattle.changes.proofs.turn.turned.Reads as turned-reads
 
--- src/step.rt:70:9
 turned-requires : tie.Need-turned-requires
-turned-requires c κs = ?
+turned-requires c κs = turn-small _ (valid-fits _ (c .before .before .before .pre))
 
--- src/step.rt:63:5
 returns : tie.Need-returns
 returns c = search needs
 

@@ -1,8 +1,22 @@
+-- The parts give the state and the tests of their words; joined, the tests are those of the whole check.
+use native.Mathlib.Omega.{arith}
+use mathlib.Core.List.{List}
+use mathlib.Core.Path.{_≡_, refl, ap, _∙_, sym}
+use mathlib.Core.Bool.{Bool, true≢false}
+use Prim.Native.Nat.{ℕ, _+_, _*_, _≤_}
+use borrow.Author.Tests.{not-true, not-false}
+use Rattle.words.proofs.Truth.{and-l, and-r}
+use Rattle.words.proofs.ArrayLaws.{array-none}
+use Rattle.setup.specs.Layout.{frontWords}
+use Rattle.image.specs.Layout.{leftAt, beforeLeft, imageLength}
+use Rattle.words.specs.Word.{wordAt}
+use Rattle.changes.specs.Words.{newCount, pendingIn}
+use Rattle.image.proofs.ReadLaws.{change-good}
+use Rattle.image.proofs.LentLaws.{given-by, lent-read}
+use Rattle.presence.proofs.LoadLaws.{state-by, setup-wrong, setup-right, reading-read, limits-of, accounts-asked}
 use borrow.Author.Needs.{needs}
 use Rattle.presence.proofs.load.load.Statement.{statement}
 use Rattle.presence.proofs.load.load.Tie as tie
-use Rattle.presence.proofs.load.load.Reads as reads
-use Rattle.presence.proofs.load.load.Lts as lts
 use Rattle.changes.proofs.section.check_change.Reads as check-change-reads
 use Rattle.changes.proofs.section.load_change.Reads as load-change-reads
 use Rattle.image.proofs.left_at.Reads as left-at-reads
@@ -14,53 +28,88 @@ use Rattle.presence.proofs.State.blank.Reads as blank-reads
 use Rattle.setup.proofs.bounds.front_words.Reads as front-words-reads
 use Rattle.setup.proofs.read.load_setup.Reads as load-setup-reads
 
--- src/load.rt:43:9
+-- the length, by the number of words before those of the modules
+by-front : {front k : ℕ} (b : Bool) (n : ℕ) (s : List ℕ) → front ≡ frontWords b → k ≡ imageLength (frontWords b) n (wordAt s (leftAt (frontWords b) n))
+    → beforeLeft front n ≤ k
+by-front b n s e h = omega (arith, e)
+
+change-room : {front at k : ℕ} (b : Bool) (n : ℕ) (w : ℕ → ℕ) → front ≡ frontWords b → at ≡ leftAt front n
+    → k ≡ imageLength (frontWords b) n (w (leftAt (frontWords b) n)) → (at + 1 + newCount n (w at)) * 4 ≤ k
+change-room b n w e a h = rw (a, e) (omega (arith, h))
+
 load-setup-requires : tie.Need-load-setup-requires
 load-setup-requires c κs = search needs
 
--- src/load.rt:45:13
 blank-requires : tie.Need-blank-requires
 blank-requires c κs = search needs
 
--- src/load.rt:46:9
 returns : tie.Need-returns
-returns c = ?
+returns c =
+    let f = not-true _ (c .before .if1 .taken) in
+    let a = c .before .before .before .before .before .pre in
+    (setup-wrong _ _ (a .3) refl (c .before .before .before .load-setup .ensures .0) f, λ t. absurd (true≢false (sym t)))
 
--- src/load.rt:51:9
 front-words-requires : tie.Need-front-words-requires
 front-words-requires c κs = search needs
 
--- src/load.rt:52:9
 load-words-requires : tie.Need-load-words-requires
 load-words-requires c κs = search needs
 
--- src/load.rt:57:9
 load-rows-requires : tie.Need-load-rows-requires
-load-rows-requires c κs = ?
+load-rows-requires c κs =
+    let s = c .before .before .before .before .before .before .before .before .before in
+    let f = c .before .before .front-words .ensures in
+    (f .2, s .pre .0, by-front (s .args .fades) (s .args .n) (s .args .s .now) (f .0) (s .pre .1), array-none _)
 
--- src/load.rt:58:9
 load-accounts-requires : tie.Need-load-accounts-requires
-load-accounts-requires c κs = ?
+load-accounts-requires c κs =
+    let g = c .before .before .before .before .before .before .before .before .before .before .before .before .load-setup .ensures in
+    let s = c .before .before .before .before .before .before .before .before .before .before .before .before .before .before in
+    let a = s .pre in (
+      accounts-asked _ (g .1) (a .3) (a .2) (g .0) (not-false _ (c .before .before .before .before .before .before .before .before .before .before .if1 .left)) (c .before .before .before .before .before .before .before .front-words .ensures .0) (a .0) (by-front (s .args .fades) (s .args .n) (s .args .s .now) refl (a .1)) (a .4) (c .before .before .before .before .before .before .load-words .ensures .2),
+      (array-none _, array-none _, array-none _),
+    )
 
--- src/load.rt:69:9
 lent-counters-requires : tie.Need-lent-counters-requires
 lent-counters-requires c κs = search needs
 
--- src/load.rt:70:9
 left-at-requires : tie.Need-left-at-requires
-left-at-requires c κs = ?
+left-at-requires c κs =
+    (c .before .before .before .before .before .before .before .before .before .front-words .ensures .2, c .before .before .before .before .before .before .before .before .before .before .before .before .before .before .before .before .pre .0)
 
--- src/load.rt:71:9
 check-change-requires : tie.Need-check-change-requires
-check-change-requires c κs = ?
+check-change-requires c κs =
+    let s = c .before .before .before .before .before .before .before .before .before .before .before .before .before .before .before .before .before in
+    let f = c .before .before .before .before .before .before .before .before .before .before .front-words .ensures in
+    let e = c .left-at .ensures in
+    (s .pre .0, omega (arith, f .2, s .pre .0, e), change-room (s .args .fades) (s .args .n) (wordAt (s .args .s .now)) (f .0) e (s .pre .1))
 
--- src/load.rt:72:9
 load-change-requires : tie.Need-load-change-requires
-load-change-requires c κs = ?
+load-change-requires c κs =
+    let s = c .before .before .before .before .before .before .before .before .before .before .before .before .before .before .before .before .before .before in
+    let f = c .before .before .before .before .before .before .before .before .before .before .before .front-words .ensures in
+    let e = c .before .left-at .ensures in
+    (s .pre .0, omega (arith, f .2, s .pre .0, e), change-room (s .args .fades) (s .args .n) (wordAt (s .args .s .now)) (f .0) e (s .pre .1))
 
--- src/load.rt:38:1
 returns-2 : tie.Need-returns-2
-returns-2 c = ?
+returns-2 c =
+    let counted = c .before .before .before .before .before .before .before .load-accounts in
+    let read = c .before .before .before .before .before .before .before .before .before .before .before .before .load-rows in
+    let alone = c .before .before .before .before .before .before .before .before .before .before .before .before .before .before .load-words in
+    let s = c .before .before .before .before .before .before .before .before .before .before .before .before .before .before .before .before .before .before .before .before .before .before in
+    let at : c .before .before .before .before .before .before .before .before .before .before .before .before .before .before .before .front-words .result ≡ frontWords (s .args .fades) = c .before .before .before .before .before .before .before .before .before .before .before .before .before .before .before .front-words .ensures .0 in
+    let g = c .before .before .before .before .before .before .before .before .before .before .before .before .before .before .before .before .before .before .before .before .load-setup .ensures in
+    let a = s .pre in
+    let x = given-by _ _ _ (limits-of _ (g .1) (a .3) (a .2)) (counted .ensures) in (
+      setup-right _ _ (a .3) at (g .0) (not-false _ (c .before .before .before .before .before .before .before .before .before .before .before .before .before .before .before .before .before .before .if1 .left)) (alone .ensures .0) (read .ensures .0) (x .0)
+          (change-good (s .args .fades) (wordAt (s .args .s .now)) _ (s .args .n) (c .before .before .before .before .before .left-at .ensures) (c .before .before .before .before .check-change .ensures)),
+      λ t.
+          let arrays = x .1 (and-l (counted .result) _ (and-r (read .result .good) _ (and-r (alone .result .good) _ t))) in
+          let counters = c .before .before .before .before .before .before .lent-counters .ensures ∙ lent-read _ _ _ (a .0) (rw at at (alone .ensures .2)) (arrays .0) (arrays .1) (arrays .2) in
+          let previous = reading-read _ _ _ (read .ensures .1) (read .ensures .2) in
+          let pending = c .before .before .before .load-change .ensures ∙ ap (pendingIn (s .args .s .now) (s .args .n)) (c .before .before .before .before .before .left-at .ensures ∙ ap (λ (k : ℕ). leftAt k (s .args .n)) at) in
+          state-by _ (a .2) (a .3) (g .1) (rw at at (alone .ensures .1)) counters (rw at at previous) (rw at at (alone .ensures .3)) (rw at at (alone .ensures .4)) pending,
+    )
 
 pub load-spec : {M : Type 1} → statement M
 load-spec =

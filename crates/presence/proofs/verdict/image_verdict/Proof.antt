@@ -3,14 +3,11 @@ use mathlib.Core.Path.{ap, ap₂, _∙_, sym}
 use mathlib.Core.Bool.{Bool}
 use mathlib.Core.List.{List}
 use Prim.Native.Nat.{ℕ}
-use lib.ListN.{length}
 use Rattle.words.specs.Word.{wordAt}
-use Rattle.setup.specs.Layout.{frontWords}
 use Rattle.setup.specs.Limits.{fades}
 use Rattle.setup.proofs.SetupLaws.{verdict-fits}
-use Rattle.image.specs.Layout.{imageLength}
 use Rattle.image.specs.Check.{checkTail}
-use Rattle.presence.proofs.StateWords.{image-length, image-words}
+use Rattle.presence.proofs.StateWords.{length-left, image-words}
 use borrow.Author.Needs.{needs}
 use Rattle.presence.proofs.verdict.image_verdict.Statement.{statement}
 use Rattle.presence.proofs.verdict.image_verdict.Tie as tie
@@ -25,7 +22,7 @@ check-tail-requires : tie.Need-check-tail-requires
 check-tail-requires c κs =
     let a = c .before .before .before .before .before .before .before .before in
     let f = c .fades .ensures in
-    (verdict-fits _ (a .pre .0) .most, ap length (c .before .before .before .before .save-words .ensures) ∙ image-length (a .args .state) ∙ ap (λ (b : Bool). imageLength (frontWords b) (a .args .state .setup .n)) (sym f))
+    (verdict-fits _ (a .pre .0) .most, length-left (a .args .state) f (c .before .before .before .before .save-words .ensures))
 
 same-length : tie.Need-same-length
 same-length c = search needs
