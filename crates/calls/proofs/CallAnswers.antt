@@ -1,6 +1,6 @@
 -- What a call from C leaves in its output: accepted, the image of the state that it gives; refused, what was there.
 use Prim.Native.Nat.{ℕ}
-use mathlib.Core.Path.{_≡_, refl, ap, _∙_}
+use mathlib.Core.Path.{_≡_, refl, sym, ap, _∙_}
 use mathlib.Core.Bool.{Bool, true, false, cond}
 use mathlib.Core.Logic.{_≢_}
 use mathlib.Core.List.{List}
@@ -15,9 +15,11 @@ use Rattle.words.specs.declared.Verdict.{Verdict}
 use Rattle.image.specs.Check.{checkImage}
 use Rattle.presence.specs.Opening.{openOf}
 use Rattle.presence.specs.Step.{stepOf}
-use Rattle.presence.specs.Image.{imageOf, stateOf, roomFor}
-use Rattle.calls.specs.Calls.{Called, answer, refusedCall, wrote, openCall, stepCall, saveCall}
+use Rattle.presence.specs.Change.{changeOf}
+use Rattle.presence.specs.Image.{imageOf, stateOf, roomFor, roomAfter}
+use Rattle.calls.specs.Calls.{Called, answer, refusedCall, wrote, openCall, stepCall, changeCall, saveCall}
 use Rattle.presence.specs.declared.State.{State}
+use Rattle.presence.specs.declared.Changed.{Changed}
 
 -- ---- what a call of three tests gives: of what it reads, of what it makes, of the room in its output
 
@@ -106,7 +108,7 @@ module _ (image read : List ℕ) (controller : ℕ) (out : List ℕ) where
   step-writes z =
       step-wrote (checkImage image) (stepOf (stateOf image) read controller .number) (stepOf (stateOf image) read controller .index)
       (stepOf (stateOf image) read controller .health) (stepOf (stateOf image) read controller .state) out (isAccepted (checkImage image))
-      (eqb (stepOf (stateOf image) read controller .number) 0) (roomFor (stateOf image) out) refl refl z
+      (eqb (stepOf (stateOf image) read controller .number) 0) (roomAfter (stateOf image) out) refl refl z
 
   pub step-passed : stepCall image read controller out .answer .number ≡ 0
       → (checkImage image .number ≡ 0) × (stepOf (stateOf image) read controller .number ≡ 0)
@@ -114,7 +116,7 @@ module _ (image read : List ℕ) (controller : ℕ) (out : List ℕ) where
   step-passed z =
       let (v, t) = step-tests (checkImage image) (stepOf (stateOf image) read controller .number) (stepOf (stateOf image) read controller .index)
       (stepOf (stateOf image) read controller .health) (stepOf (stateOf image) read controller .state) out (isAccepted (checkImage image))
-      (eqb (stepOf (stateOf image) read controller .number) 0) (roomFor (stateOf image) out) refl refl z in
+      (eqb (stepOf (stateOf image) read controller .number) 0) (roomAfter (stateOf image) out) refl refl z in
       (eqb-true (checkImage image .number) 0 v, eqb-true (stepOf (stateOf image) read controller .number) 0 t)
 
   pub step-keeps : stepCall image read controller out .answer .number ≢ 0 → stepCall image read controller out .out ≡ out
@@ -122,14 +124,70 @@ module _ (image read : List ℕ) (controller : ℕ) (out : List ℕ) where
   step-keeps f =
       step-kept (checkImage image) (stepOf (stateOf image) read controller .number) (stepOf (stateOf image) read controller .index)
       (stepOf (stateOf image) read controller .health) (stepOf (stateOf image) read controller .state) out (isAccepted (checkImage image))
-      (eqb (stepOf (stateOf image) read controller .number) 0) (roomFor (stateOf image) out) f
+      (eqb (stepOf (stateOf image) read controller .number) 0) (roomAfter (stateOf image) out) f
 
-  pub step-passes : checkImage image .number ≡ 0 → roomFor (stateOf image) out ≡ true → stepOf (stateOf image) read controller .number ≡ 0
+  pub step-passes : checkImage image .number ≡ 0 → roomAfter (stateOf image) out ≡ true → stepOf (stateOf image) read controller .number ≡ 0
       → stepCall image read controller out .answer .number ≡ 0
   unfolding stepCall wrote
   step-passes v r z =
       ap (λ (c : Called). c .answer .number)
       (cond-true _ _ (eq-eqb (checkImage image .number) 0 v) ∙ cond-true _ _ r ∙ cond-true _ _ (eq-eqb (stepOf (stateOf image) read controller .number) 0 z))
+
+-- ---- change
+
+module _ (image new : List ℕ) (lead : ℕ) (out : List ℕ) where
+  abbrev changed : Changed
+  changed = changeOf (stateOf image) (setupOf new) lead
+
+  -- an image that is accepted: the new setup, the change, the room
+  abbrev rest : Called
+  rest = opening (checkSetup new) (changed .number) (changed .index) 0 (changed .state) out (isAccepted (checkSetup new)) (eqb (changed .number) 0) (roomFor (changed .state) out)
+
+  -- the test of the image, then the others
+  first : (a : Bool) → isAccepted (checkImage image) ≡ a → (c : Called) → c ≡ cond a rest (refusedCall (checkImage image .number) (checkImage image .index) out)
+      → c .answer .number ≡ 0 → (checkImage image .number ≡ 0) × (c ≡ rest)
+  unfolding refusedCall
+  first true e c h z = (eqb-true (checkImage image .number) 0 e, h)
+  first false e c h z = absurd (eqb-false (checkImage image .number) 0 e (ap (λ (x : Called). x .answer .number) (sym h) ∙ z))
+
+  taken : changeCall image new lead out .answer .number ≡ 0 → (checkImage image .number ≡ 0) × (changeCall image new lead out ≡ rest)
+  unfolding changeCall opening
+  taken z = first (isAccepted (checkImage image)) refl (changeCall image new lead out) refl z
+
+  pub change-passed : changeCall image new lead out .answer .number ≡ 0
+      → (checkImage image .number ≡ 0) × (checkSetup new .number ≡ 0) × (changeOf (stateOf image) (setupOf new) lead .number ≡ 0)
+  change-passed z =
+      let (v, e) = taken z in
+      let (w, o) = opening-tests (checkSetup new) (changed .number) (changed .index) 0 (changed .state) out (isAccepted (checkSetup new)) (eqb (changed .number) 0)
+      (roomFor (changed .state) out) refl refl (ap (λ (c : Called). c .answer .number) (sym e) ∙ z)
+      in
+      (v, eqb-true (checkSetup new .number) 0 w, eqb-true (changed .number) 0 o)
+
+  pub change-writes : changeCall image new lead out .answer .number ≡ 0
+      → changeCall image new lead out .out ≡ imageOf (changeOf (stateOf image) (setupOf new) lead .state)
+  change-writes z =
+      let (v, e) = taken z in
+      ap (λ (c : Called). c .out) e
+      ∙ opening-wrote (checkSetup new) (changed .number) (changed .index) 0 (changed .state) out (isAccepted (checkSetup new)) (eqb (changed .number) 0)
+      (roomFor (changed .state) out) refl refl (ap (λ (c : Called). c .answer .number) (sym e) ∙ z) .0
+
+  pub change-keeps : changeCall image new lead out .answer .number ≢ 0 → changeCall image new lead out .out ≡ out
+  unfolding changeCall opening refusedCall
+  change-keeps f = go (isAccepted (checkImage image)) f
+    where
+      go : (a : Bool) → cond a rest (refusedCall (checkImage image .number) (checkImage image .index) out) .answer .number ≢ 0
+          → cond a rest (refusedCall (checkImage image .number) (checkImage image .index) out) .out ≡ out
+      go true g = opening-kept (checkSetup new) (changed .number) (changed .index) 0 (changed .state) out (isAccepted (checkSetup new)) (eqb (changed .number) 0)
+          (roomFor (changed .state) out) g
+      go false g = refl
+
+  pub change-passes : checkImage image .number ≡ 0 → checkSetup new .number ≡ 0 → changeOf (stateOf image) (setupOf new) lead .number ≡ 0
+      → roomFor (changeOf (stateOf image) (setupOf new) lead .state) out ≡ true → changeCall image new lead out .answer .number ≡ 0
+  unfolding changeCall wrote
+  change-passes v w z r =
+      ap (λ (c : Called). c .answer .number)
+      (cond-true _ _ (eq-eqb (checkImage image .number) 0 v) ∙ cond-true _ _ (eq-eqb (checkSetup new .number) 0 w)
+      ∙ cond-true _ _ (eq-eqb (changed .number) 0 z) ∙ cond-true _ _ r)
 
 -- ---- saving
 

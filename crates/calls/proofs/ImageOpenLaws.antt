@@ -2,13 +2,13 @@
 use mathlib.Core.Path.{_≡_, refl, ap, ap₂, _∙_, sym}
 use mathlib.Core.Bool.{Bool, true, false, cond, _||_}
 use mathlib.Core.List.{List, [], _∷_, _++_}
-use Prim.Native.Nat.{ℕ, _*_, _^_, _<_, _≤_}
+use Prim.Native.Nat.{ℕ, _+_, _*_, _^_, _<_, _≤_}
 use native.Mathlib.Omega.{arith}
 use lib.Pow.{pow-mono}
 use lib.Dec.{ltb}
 use lib.ListN.{getD, length, drop, replicate, getD-replicate}
 use borrow.Author.Tests.{eq-eqb, ne-eqb}
-use Rattle.words.specs.Word.{wordAt, bytesOf}
+use Rattle.words.specs.Word.{wordAt, putWord, bytesOf}
 use Rattle.words.specs.Bits.{full}
 use Rattle.words.specs.Array.{array}
 use Rattle.words.specs.Runs.{one, putRun, putRuns}
@@ -31,7 +31,9 @@ use Rattle.setup.specs.declared.Setup.{Setup}
 use Rattle.setup.proofs.BoundLaws.{read-fades}
 use Rattle.setup.proofs.SetupCheckLaws.{BytesFit, setup-pass}
 use Rattle.setup.proofs.FrontLaws.{setup-written}
-use Rattle.image.specs.Layout.{ownAt, imageLength}
+use Rattle.changes.specs.Pending.{nothing}
+use Rattle.changes.specs.Words.{changeRuns}
+use Rattle.image.specs.Layout.{ownAt, leftAt, imageLength}
 use Rattle.image.specs.Words.{ownWord, syndromeWord}
 use Rattle.image.specs.Rows.{rowRun}
 use Rattle.image.specs.Part.{firstOf, secondOf, CountersSmall, lentRuns}
@@ -113,14 +115,14 @@ module _ (s : List ℕ) (ok : checkSetup s .number ≡ 0) where
           let (h, l) = is-between 1 n own inside in
           ap (λ (m : ℕ). between 1 m own) (sym en) ∙ between-of 1 n own h l
 
-      by-room : openVerdict s own out ≡ cond (hasRoom s out) accepted (verdict 9 0)
+      by-room : openVerdict s own out ≡ cond (hasRoom s 0 out) accepted (verdict 9 0)
       by-room = open-verdict s own out ∙ cond-true _ _ accepts ∙ cond-true _ _ range
 
       module _ {b : Bool} {front : ℕ} (eb : b ≡ fadesIn (wordAt s)) (ef : front ≡ frontWords b) where
-        length-is : imageLength front n ≡ imageLength (frontIn (wordAt s)) (sizeIn (wordAt s 0))
-        length-is = ap₂ imageLength (ef ∙ ap frontWords eb) en
+        length-is : imageLength front n 0 ≡ imageLength (frontIn (wordAt s)) (sizeIn (wordAt s 0)) 0
+        length-is = ap₂ (λ (x m : ℕ). imageLength x m 0) (ef ∙ ap frontWords eb) en
 
-        pub open-nine : {r : Answer} → (length out ≡ imageLength front n → ⊥) → r ≡ answer 9 0 0 → called r out ≡ openCall s own out
+        pub open-nine : {r : Answer} → (length out ≡ imageLength front n 0 → ⊥) → r ≡ answer 9 0 0 → called r out ≡ openCall s own out
         unfolding answering refusedCall
         open-nine f q =
             ap (λ (x : Answer). called x out) q
@@ -151,30 +153,39 @@ module _ (s : List ℕ) (ok : checkSetup s .number ≡ 0) where
             setup-written s (fits .front) (fits .words) (omega (arith, fits .size)) small
             ∙ ap₂ (λ (k m : ℕ). bytesOf (setupWords k m) (wordAt s)) (sym (read-front s)) (sym en ∙ size-is)
 
-        sections : {v : ℕ} {rows o₂ : List ℕ} (o₁ : List ℕ)
+        -- nothing is pending: the rounds left are 0
+        none-left : (o : List ℕ) → putRuns o (leftAt (frontWords b) (setupOf s .n)) (changeRuns (setupOf s) nothing) ≡ putWord o (leftAt (frontWords b) (setupOf s .n)) 0
+        unfolding nothing putRuns putRun
+        none-left o =
+            let e : leftAt (frontWords b) (setupOf s .n) + 0 ≡ leftAt (frontWords b) (setupOf s .n) = omega arith in
+            ap (λ (i : ℕ). putWord o i 0) e
+
+        sections : {v i : ℕ} {rows o₂ o₃ : List ℕ} (o₁ : List ℕ)
             → o₂ ≡ putRuns o₁ (ownAt (frontWords b) n) (one (ownWord own v) ∷ rowRun n (record { heard = v; rows = rows }) ∷ one (syndromeWord v) ∷ one (syndromeWord v)
             ∷ lentRuns b n (replicate 16 0) (replicate 16 0) (replicate 16 0))
-            → v ≡ full n → rows ≡ array n (λ j. v) → o₂ ≡ putRuns o₁ (ownAt (frontOf (setupOf s)) (setupOf s .n)) (stateRuns st)
+            → i ≡ leftAt front n → o₃ ≡ putWord o₂ i 0
+            → v ≡ full n → rows ≡ array n (λ j. v) → o₃ ≡ putRuns o₁ (ownAt (frontOf (setupOf s)) (setupOf s .n)) (stateRuns st)
         unfolding fresh
-        sections o₁ e ev er =
-            e ∙ rw (er, ev, size-is) (lent-state st form-is (first-zeros (setupOf s) own few b) (second-zeros (setupOf s) own few b) few o₁)
+        sections o₁ e ei e₃ ev er =
+            e₃ ∙ rw (ei, e, er, ev, ef, size-is)
+            (sym (none-left _) ∙ lent-state st form-is (first-zeros (setupOf s) own few b) (second-zeros (setupOf s) own few b) few o₁)
 
-        pub open-made : {r : Answer} {v k : ℕ} {rows o₁ o₂ : List ℕ} → ((i : ℕ) → getD s i 0 < 256) → length out ≡ imageLength front n → v ≡ full n
+        pub open-made : {r : Answer} {v k i : ℕ} {rows o₁ o₂ o₃ : List ℕ} → ((i : ℕ) → getD s i 0 < 256) → length out ≡ imageLength front n 0 → v ≡ full n
             → rows ≡ array n (λ j. v) → k ≡ setupWords front n → o₁ ≡ putRun out 0 k (wordAt s)
             → o₂ ≡ putRuns o₁ (ownAt (frontWords b) n) (one (ownWord own v) ∷ rowRun n (record { heard = v; rows = rows }) ∷ one (syndromeWord v) ∷ one (syndromeWord v)
             ∷ lentRuns b n (replicate 16 0) (replicate 16 0) (replicate 16 0))
-            → r ≡ answer 0 0 0 → called r o₂ ≡ openCall s own out
-        unfolding answering wrote fresh
-        open-made {v = v} {k = k} {rows = rows} {o₁ = o₁} {o₂ = o₂} small long ev er ek e₁ e₂ q =
+            → i ≡ leftAt front n → o₃ ≡ putWord o₂ i 0 → r ≡ answer 0 0 0 → called r o₃ ≡ openCall s own out
+        unfolding answering wrote fresh nothing
+        open-made {v = v} {k = k} {rows = rows} {o₁ = o₁} {o₃ = o₃} small long ev er ek e₁ e₂ ei e₃ q =
             let m = setupWords (frontOf (setupOf s)) (setupOf s .n) in
             let words : k ≡ m = ek ∙ ap₂ setupWords front-is size-is in
-            let room : length out ≡ imageLength (frontOf (setupOf s)) (setupOf s .n) = long ∙ ap₂ imageLength front-is size-is in
+            let room : length out ≡ imageLength (frontOf (setupOf s)) (setupOf s .n) 0 = long ∙ ap₂ (λ (x y : ℕ). imageLength x y 0) front-is size-is in
             let put : putRun out 0 m (wordAt s) ≡ bytesOf m (wordAt s) ++ drop (m * 4) out = put-run [] out 0 m (wordAt s) refl (omega arith) in
             let copied : o₁ ≡ setupBytes (setupOf s) ++ drop (setupLength (frontOf (setupOf s)) (setupOf s .n)) out =
             e₁ ∙ ap (λ (i : ℕ). putRun out 0 i (wordAt s)) words ∙ put ∙ ap (λ (x : List ℕ). x ++ drop (m * 4) out) (sym (bytes-are small))
             in
-            let written : o₂ ≡ putRuns o₁ (ownAt (frontOf (setupOf s)) (setupOf s .n)) (stateRuns st) = sections o₁ e₂ ev er in
-            let image : o₂ ≡ imageOf st =
+            let written : o₃ ≡ putRuns o₁ (ownAt (frontOf (setupOf s)) (setupOf s .n)) (stateRuns st) = sections o₁ e₂ ei e₃ ev er in
+            let image : o₃ ≡ imageOf st =
             image-written st out (setupLength (frontOf (setupOf s)) (setupOf s .n)) refl refl
             (written ∙ ap (λ (x : List ℕ). putRuns x (ownAt (frontOf (setupOf s)) (setupOf s .n)) (stateRuns st)) copied) room
             in

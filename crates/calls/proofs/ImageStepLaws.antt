@@ -6,20 +6,19 @@ use Prim.Native.Nat.{ℕ, _+_, _-_, _*_, _^_, _<_, _≤_}
 use native.Mathlib.Omega.{arith}
 use lib.ListN.{getD, length, drop}
 use lib.Dec.{eqb}
-use Rattle.words.specs.Word.{wordAt, bytesOf}
+use Rattle.words.specs.Word.{wordAt}
 use Rattle.words.specs.Array.{Filled}
-use Rattle.words.specs.Runs.{one, putRun, putRuns}
+use Rattle.words.specs.Runs.{one, putRuns}
 use borrow.Author.Tests.{eqb-true, eqb-false}
 use Rattle.words.proofs.Truth.{not-both, not-neither, or-false-l, or-false-r}
 use Rattle.words.proofs.ArrayLaws.{array-at, array-filled}
 use Rattle.words.proofs.CountLaws.{any-ext}
 use Rattle.words.proofs.WordLaws.{word-lt}
-use Rattle.words.proofs.RunLaws.{put-run}
-use Rattle.setup.specs.Layout.{frontWords, setupWords, setupLength}
+use Rattle.setup.specs.Layout.{frontWords, setupLength}
 use Rattle.setup.specs.Limits.{fades}
-use Rattle.setup.specs.Setup.{sizeIn, placeIn, fadesIn, frontIn, setupOf, setupBytes}
+use Rattle.setup.specs.Setup.{sizeIn, placeIn, fadesIn, frontIn, frontOf, setupOf, setupBytes}
+use Rattle.setup.specs.declared.Limits.{Limits}
 use Rattle.setup.proofs.BoundLaws.{front-most, read-fades}
-use Rattle.setup.proofs.FrontLaws.{setup-written}
 use Rattle.rules.specs.Lag.{skewed}
 use Rattle.rules.specs.Hearing.{readingOf, causesOf}
 use Rattle.rules.specs.Alignment.{alignedOf}
@@ -28,7 +27,12 @@ use Rattle.rules.specs.declared.Reading.{Reading}
 use Rattle.rules.proofs.SyndromeLaws.{health-lt}
 use Rattle.accounts.specs.Round.{accountAt}
 use Rattle.accounts.proofs.RoundLaws.{Kept}
-use Rattle.image.specs.Layout.{ownAt, imageLength}
+use Rattle.changes.specs.Adjust.{adjustedOf}
+use Rattle.changes.specs.Books.{turned, counted, booksAfter}
+use Rattle.changes.specs.Words.{changeRuns}
+use Rattle.changes.specs.declared.Books.{Books}
+use Rattle.changes.proofs.TurnLaws.{turned-both, turned-left, turned-size, turned-fades, turned-setup-fits, turned-kept}
+use Rattle.image.specs.Layout.{ownAt, leftAt, imageLength}
 use Rattle.image.specs.Words.{ownWord, syndromeWord}
 use Rattle.image.specs.Rows.{rowRun, readingIn}
 use Rattle.image.specs.CounterSection.{valuesIn}
@@ -40,8 +44,8 @@ use Rattle.image.specs.declared.ImagePart.{ImagePart}
 use Rattle.image.proofs.CounterLaws.{within-kept}
 use Rattle.image.proofs.LentLaws.{lent-small, lent-first, lent-second, filled-lent}
 use Rattle.image.proofs.TailLaws.{image-pass}
-use Rattle.presence.specs.Step.{skewOf, placeOf, ownSyndrome, alignedFor, judgementFor, afterRound, refusedStep, acceptedStep, readStep, stepOf}
-use Rattle.presence.specs.Image.{stateRuns, imageOf, stateOf}
+use Rattle.presence.specs.Step.{skewOf, placeOf, ownSyndrome, alignedFor, judgementFor, booksOf, afterRound, refusedStep, acceptedStep, readStep, stepOf}
+use Rattle.presence.specs.Image.{stateRuns, imageOf, stateOf, stateLength}
 use Rattle.presence.specs.declared.State.{State}
 use Rattle.presence.specs.declared.Stepped.{Stepped}
 use Rattle.presence.proofs.ImageState.{view-in, image-state}
@@ -49,20 +53,21 @@ use Rattle.presence.proofs.ValidLaws.{StateFits, fits-valid, after-fits}
 use Rattle.presence.proofs.SmallLaws.{Small, valid-small}
 use Rattle.presence.proofs.StateRoundLaws.{in-range, read-length as read-nine, read-controller, read-taken, step-of}
 use Rattle.presence.proofs.SaveLaws.{lent-state, image-written}
-use Rattle.calls.specs.Held.{HeldBy, LentRange, keptView, keptFirst, keptSecond, keptReturns}
+use Rattle.calls.specs.Held.{HeldBy, CountedBy, LentRange, keptView, keptFirst, keptSecond, keptReturns}
 use Rattle.calls.specs.Calls.{answer, called, stepCall}
 use Rattle.calls.specs.declared.Answer.{Answer}
 use Rattle.calls.proofs.KeptLaws.{lent-range, KeptNext, kept-next}
-use Rattle.calls.proofs.ModuleCallLaws.{read-front, read-length, same-room, copy-no-room, read-valid, step-no-room, step-refused-call, step-wrote}
+use Rattle.calls.proofs.ModuleCallLaws.{read-front, read-length, left-is, after-room, after-no-room, read-valid, step-no-room, step-refused-call, step-wrote}
+use Rattle.calls.proofs.ImageTurnLaws.{read-filled}
 
 returns-in : (b : Bool) (s : List ℕ) (n : ℕ) → countersIn b s n .returns ≡ valuesIn s (frontWords b) n returnCounts
 unfolding countersIn
 returns-in true s n = refl
 returns-in false s n = refl
 
--- what the words of an accepted image hold is its state
+-- what the words of an accepted image hold is its state, and its books
 pub part-held : {part : ImagePart} {k l x y z : List ℕ} {n : ℕ} {b : Bool} (s : List ℕ) → ((i : ℕ) → getD s i 0 < 256) → checkImage s .number ≡ 0 → n ≡ sizeIn (wordAt s 0)
-    → b ≡ fadesIn (wordAt s) → PartOf s b n part k l x y z → HeldBy (stateOf s) part k l x y z
+    → b ≡ fadesIn (wordAt s) → PartOf s b n part k l x y z → HeldBy (stateOf s) part l × CountedBy (booksOf (stateOf s)) (part .limits) (part .q) k x y z
 unfolding stateOf setupOf skewed
 part-held {part = part} {k = k} {l = l} {x = x} {y = y} {z = z} {b = b} s small ok e form f =
     let m = sizeIn (wordAt s 0) in
@@ -70,22 +75,26 @@ part-held {part = part} {k = k} {l = l} {x = x} {y = y} {z = z} {b = b} s small 
     let fit = image-pass s ok in
     let few = fit .front .most in
     let g = subst (λ (d : Bool). PartOf s d m part k l x y z) form (subst (λ (i : ℕ). PartOf s b i part k l x y z) e f) in
-    let back = sym (read-fades t (wordAt s)) in
-    record {
-      skew = g .skew ∙ any-ext m _ _ (λ j h. ap (λ (v : ℕ). not (eqb v m)) (sym (array-at m _ j h few)));
-      q = g .q;
-      limits = g .limits;
-      own = g .own;
-      view = g .view ∙ sym (view-in t s m);
-      heard = g .heard;
-      latest = g .latest;
-      earlier = g .earlier;
-      criticality = g .criticality;
-      rows = g .rows;
-      first = g .first ∙ lent-first s m few (word-lt s small) t (fit .tail .counters) ∙ ap (λ (d : Bool). firstOf d m (countersIn t s m)) back;
-      second = g .second ∙ lent-second s m few (word-lt s small) t (fit .tail .counters) ∙ ap (λ (d : Bool). secondOf d m (countersIn t s m)) back;
-      returns = g .returns ∙ sym (returns-in t s m);
-    }
+    let back = sym (read-fades t (wordAt s)) in (
+      record {
+        skew = g .skew ∙ any-ext m _ _ (λ j h. ap (λ (v : ℕ). not (eqb v m)) (sym (array-at m _ j h few)));
+        own = g .own;
+        view = g .view ∙ sym (view-in t s m);
+        heard = g .heard;
+        latest = g .latest;
+        earlier = g .earlier;
+        rows = g .rows;
+        left = g .left ∙ sym (left-is s);
+      },
+      record {
+        limits = g .limits;
+        q = g .q;
+        criticality = g .criticality;
+        first = g .first ∙ lent-first s m few (word-lt s small) t (fit .tail .counters) ∙ ap (λ (d : Bool). firstOf d m (countersIn t s m)) back;
+        second = g .second ∙ lent-second s m few (word-lt s small) t (fit .tail .counters) ∙ ap (λ (d : Bool). secondOf d m (countersIn t s m)) back;
+        returns = g .returns ∙ sym (returns-in t s m);
+      },
+    )
 
 module _ (s : List ℕ) (ok : checkImage s .number ≡ 0) where
   abbrev st : State
@@ -104,6 +113,10 @@ module _ (s : List ℕ) (ok : checkImage s .number ≡ 0) where
   abbrev start : ℕ
   start = frontWords form
 
+  -- what rule 8 counts with
+  abbrev books : Books
+  books = turned (booksOf st)
+
   pub most : size ≤ 16
   most = fits .setup .most
 
@@ -111,14 +124,53 @@ module _ (s : List ℕ) (ok : checkImage s .number ≡ 0) where
   unfolding stateOf
   start-is = read-front s
 
+  -- size and form stay
+  same-size : books .setup .n ≡ size
+  same-size = turned-size (booksOf st)
+
+  same-form : fades (books .setup .limits) ≡ form
+  same-form = turned-fades (booksOf st) (fits .pending)
+
+  few : books .setup .n ≤ 16
+  few = turned-setup-fits (booksOf st) (fits .pending) (fits .setup) .most
+
   -- the arrays of a state that is read
-  filled-state : Filled size (st .setup .criticality) × Filled size (st .previous .rows)
+  filled-rows-read : Filled size (st .previous .rows)
   unfolding stateOf setupOf readingIn
-  filled-state = (array-filled _ _ most, array-filled _ _ most)
+  filled-rows-read = array-filled _ _ most
+
+  filled-held : Filled size (st .setup .criticality)
+  unfolding stateOf setupOf
+  filled-held = array-filled _ _ most
 
   filled-arrays : Filled size (firstOf form size (st .counters)) × Filled size (secondOf form size (st .counters)) × Filled size (st .counters .returns)
   unfolding stateOf setupOf
   filled-arrays = rw (read-fades (fadesIn (wordAt s)) (wordAt s)) (filled-lent (fadesIn (wordAt s)) s (sizeIn (wordAt s 0)) most)
+
+  abbrev FilledBooks : Books → Type 0
+  FilledBooks b =
+      Filled size (b .setup .criticality) × Filled size (firstOf (fades (b .setup .limits)) (b .setup .n) (b .counters))
+      × Filled size (secondOf (fades (b .setup .limits)) (b .setup .n) (b .counters)) × Filled size (b .counters .returns)
+
+  -- those of its books, and after a change that is due
+  filled-before : FilledBooks (booksOf st)
+  filled-before = (filled-held, filled-arrays .0, filled-arrays .1, filled-arrays .2)
+
+  filled-pending : Filled size (st .pending .criticality)
+  unfolding stateOf setupOf
+  filled-pending = read-filled s (sizeIn (wordAt s 0)) (leftAt (frontIn (wordAt s)) (sizeIn (wordAt s 0))) most
+
+  filled-after : FilledBooks books
+  unfolding adjustedOf
+  filled-after =
+      turned-both (booksOf st) FilledBooks (λ _. (filled-pending, array-filled _ _ most, array-filled _ _ most, filled-arrays .2)) (λ _. filled-before)
+
+  filled-by : {b : Books} {l : Limits} {m n : ℕ} {k x y z : List ℕ} → n ≡ size → FilledBooks b → CountedBy b l m k x y z
+      → Filled n k × Filled n x × Filled n y × Filled n z
+  filled-by en f h = rw (en, h .criticality, h .first, h .second, h .returns) f
+
+  pub filled-counted : {l : Limits} {m n : ℕ} {k x y z : List ℕ} → n ≡ size → CountedBy (booksOf st) l m k x y z → Filled n k × Filled n x × Filled n y × Filled n z
+  filled-counted en h = filled-by en filled-before h
 
   -- the module's own read place, by its word
   pub place-is : {front own place : ℕ} → front ≡ start → own ≡ st .own → place ≡ placeIn (wordAt s (front + (own - 1))) → place ≡ placeOf st
@@ -127,23 +179,18 @@ module _ (s : List ℕ) (ok : checkImage s .number ≡ 0) where
       ep ∙ ap₂ (λ (k i : ℕ). placeIn (wordAt s (k + (i - 1)))) (ef ∙ start-is) eo
       ∙ sym (array-at (sizeIn (wordAt s 0)) _ _ (omega (arith, fits .first, fits .last)) most)
 
-  -- the words of the setup are in their one form
-  setup-bytes : ((i : ℕ) → getD s i 0 < 256) → setupBytes (st .setup) ≡ bytesOf (setupWords start size) (wordAt s)
-  unfolding stateOf setupOf
-  setup-bytes small =
-      setup-written s (image-pass s ok .front) (image-pass s ok .words) (omega (arith, image-pass s ok .size)) small
-      ∙ ap (λ (k : ℕ). bytesOf (setupWords k size) (wordAt s)) (sym start-is)
-
-  pub length-is : length s ≡ imageLength start size
+  pub length-is : length s ≡ imageLength start size (st .pending .left)
   length-is = read-length s ok
 
-  -- every account is as rounds leave it
-  kept : (j : ℕ) → j < size → Kept (st .setup .limits) (getD (st .setup .criticality) j 0) (accountAt (st .counters) j)
-  kept = within-kept (st .setup .limits) (st .setup) (st .counters) most (fits .counters)
+  -- every account is as rounds leave it, by the limits that hold
+  kept : (j : ℕ) → j < books .setup .n → Kept (books .setup .limits) (getD (books .setup .criticality) j 0) (accountAt (books .counters) j)
+  kept j h =
+      turned-kept (booksOf st) (fits .setup) (fits .pending) (within-kept (st .setup .limits) (st .setup) (st .counters) most (fits .counters)) j
+      (rw same-size at h)
 
   -- ---- what the parts of the round ask, n being the size and b the form
 
-  module _ {part : ImagePart} {k l x y z : List ℕ} (h : HeldBy st part k l x y z) {n : ℕ} {b : Bool} (en : n ≡ size) (eb : b ≡ form) where
+  module _ {part : ImagePart} {l : List ℕ} (h : HeldBy st part l) {n : ℕ} {b : Bool} (en : n ≡ size) (eb : b ≡ form) where
     pub own-place : {front : ℕ} → front ≡ frontWords b → (front ≤ 6) × (part .own - 1 < 16) × ((front + (part .own - 1)) * 4 + 4 ≤ length s)
     own-place ef =
         let o = h .own in
@@ -158,16 +205,16 @@ module _ (s : List ℕ) (ok : checkImage s .number ≡ 0) where
     small-view = rw (en, h .view) (fits .view)
 
     pub filled-rows : Filled n l
-    filled-rows = rw (en, h .rows) (filled-state .1)
+    filled-rows = rw (en, h .rows) filled-rows-read
 
+  module _ {l : Limits} {m : ℕ} {k x y z : List ℕ} (h : CountedBy books l m k x y z) {n : ℕ} (en : n ≡ size) where
     pub filled-counters : Filled n k × Filled n x × Filled n y × Filled n z
-    filled-counters =
-        rw (en, h .criticality, h .first, h .second, h .returns) (filled-state .0, filled-arrays .0, filled-arrays .1, filled-arrays .2)
+    filled-counters = filled-by en filled-after h
 
-    pub counted-range : (j : ℕ) → j < n → LentRange (part .limits) (part .q) k x y z j
+    pub counted-range : (j : ℕ) → j < n → LentRange l m k x y z j
     counted-range =
-        rw (en, h .limits, h .q, h .criticality, h .first, h .second, h .returns)
-        (λ j l. lent-range (st .setup .limits) (st .setup .q) (st .setup .criticality) size (st .counters) j (in-range st fits j l))
+        rw (en ∙ sym same-size, h .limits, h .q, h .criticality, h .first, h .second, h .returns)
+        (λ j i. lent-range (books .setup .limits) (books .setup .q) (books .setup .criticality) (books .setup .n) (books .counters) j (in-range st fits j i))
 
   -- ---- the round
 
@@ -192,24 +239,17 @@ module _ (s : List ℕ) (ok : checkImage s .number ≡ 0) where
     pub next-small : Small next
     next-small = valid-small next (fits-valid next (after-fits st read controller fits))
 
-    -- what is written after the words of the setup
-    pub image-next : {k : ℕ} {p q : List ℕ} (o : List ℕ) → ((i : ℕ) → getD s i 0 < 256) → k ≡ setupWords start size → length o ≡ imageLength start size → p ≡ putRun o 0 k (wordAt s)
-        → q ≡ putRuns p (ownAt start size) (stateRuns next) → q ≡ imageOf next
-    unfolding afterRound
-    image-next {k} o b ek l ep eq =
-        let bytes = setup-bytes b in
-        let put : putRun o 0 (setupWords start size) (wordAt s) ≡ bytesOf (setupWords start size) (wordAt s) ++ drop (setupWords start size * 4) o =
-        put-run [] o 0 (setupWords start size) (wordAt s) refl (omega arith)
-        in
-        image-written next o (setupLength start size) refl refl
-        (eq ∙ ap (λ (x : List ℕ). putRuns x (ownAt start size) (stateRuns next))
-        (ep ∙ ap (λ (i : ℕ). putRun o 0 i (wordAt s)) ek ∙ put ∙ ap (λ (x : List ℕ). x ++ drop (setupLength start size) o) (sym bytes))) l
+    -- how long the next image is
+    next-length : {n left : ℕ} {b : Bool} → n ≡ size → b ≡ form → left ≡ st .pending .left → imageLength (frontWords b) n (left - 1) ≡ stateLength next (next .pending .left)
+    unfolding afterRound booksAfter counted
+    next-length en eb el =
+        (λ i. imageLength (frontWords ((eb ∙ sym same-form) i)) ((en ∙ sym same-size) i) (((ap (λ (x : ℕ). x - 1) el) ∙ sym (turned-left (booksOf st))) i))
 
-    module _ {part : ImagePart} {k l x y z : List ℕ} (h : HeldBy st part k l x y z) {n : ℕ} {b : Bool} (en : n ≡ size) (eb : b ≡ form) where
+    module _ {part : ImagePart} {rows₀ : List ℕ} (h : HeldBy st part rows₀) {n : ℕ} {b : Bool} (en : n ≡ size) (eb : b ≡ form) where
       -- the judgement, where `own` is picked and the read place read
       pub judged-held : {front place own : ℕ} → front ≡ frontWords b → place ≡ placeIn (wordAt s (front + (part .own - 1)))
           → own ≡ cond (part .skew) (part .earlier) (part .latest)
-          → judgementOf n (part .view) (alignedOf n (part .skew) place (record { heard = part .heard; rows = l }) (readingOf n read controller)) own ≡ judgementFor st this
+          → judgementOf n (part .view) (alignedOf n (part .skew) place (record { heard = part .heard; rows = rows₀ }) (readingOf n read controller)) own ≡ judgementFor st this
       judged-held ef ep eo =
           judged-is en (h .view) (h .skew) (place-is (ef ∙ ap frontWords eb) (h .own) ep) (h .heard) (h .rows)
           (eo ∙ ap₂ (λ (u v : ℕ). cond (part .skew) u v) (h .earlier) (h .latest))
@@ -217,29 +257,36 @@ module _ (s : List ℕ) (ok : checkImage s .number ≡ 0) where
       pub small-health : {health : ℕ} → health ≡ judgementFor st this .health → health < 2 ^ n
       small-health e = rw (e, en) health-small
 
-      module _ {health view latest heard : ℕ} {x′ y′ z′ rows : List ℕ} (eh : health ≡ judgementFor st this .health) (el : latest ≡ judgementFor st this .syndrome)
+      module _ {lim : Limits} {m : ℕ} {k x y z : List ℕ} (c : CountedBy books lim m k x y z) {health view latest heard : ℕ} {x′ y′ z′ rows : List ℕ}
+          (eh : health ≡ judgementFor st this .health) (el : latest ≡ judgementFor st this .syndrome)
           (ed : heard ≡ readingOf n read controller .heard) (er : rows ≡ readingOf n read controller .rows)
-          (ev : view ≡ keptView (part .limits) n (part .q) health k x y z) (ex : x′ ≡ keptFirst (part .limits) n (part .q) health k x y z)
-          (ey : y′ ≡ keptSecond (part .limits) n (part .q) health k x y z) (ez : z′ ≡ keptReturns (part .limits) n (part .q) health k x y z) where
-        after : KeptNext (st .setup .limits) (st .setup) (judgementFor st this .health) (st .counters)
-        after = kept-next (st .setup) (judgementFor st this .health) (st .counters) most (st .setup .limits) refl kept
+          (ev : view ≡ keptView lim n m health k x y z) (ex : x′ ≡ keptFirst lim n m health k x y z)
+          (ey : y′ ≡ keptSecond lim n m health k x y z) (ez : z′ ≡ keptReturns lim n m health k x y z) where
+        after : KeptNext (books .setup .limits) (books .setup) (judgementFor st this .health) (books .counters)
+        after = kept-next (books .setup) (judgementFor st this .health) (books .counters) few (books .setup .limits) refl kept
+
+        here : n ≡ books .setup .n
+        here = en ∙ sym same-size
+
+        formed : b ≡ fades (books .setup .limits)
+        formed = eb ∙ sym same-form
 
         -- the accounts of the next state
         view-next : view ≡ next .counters .view
-        unfolding afterRound
-        view-next = ev ∙ rw (eh, en, h .limits, h .q, h .criticality, h .first, h .second, h .returns) (after .view)
+        unfolding afterRound booksAfter counted
+        view-next = ev ∙ rw (eh, here, c .limits, c .q, c .criticality, c .first, c .second, c .returns) (after .view)
 
         first-next : x′ ≡ firstOf b n (next .counters)
-        unfolding afterRound
-        first-next = ex ∙ rw (eb, eh, en, h .limits, h .q, h .criticality, h .first, h .second, h .returns) (after .first)
+        unfolding afterRound booksAfter counted
+        first-next = ex ∙ rw (formed, eh, here, c .limits, c .q, c .criticality, c .first, c .second, c .returns) (after .first)
 
         second-next : y′ ≡ secondOf b n (next .counters)
-        unfolding afterRound
-        second-next = ey ∙ rw (eb, eh, en, h .limits, h .q, h .criticality, h .first, h .second, h .returns) (after .second)
+        unfolding afterRound booksAfter counted
+        second-next = ey ∙ rw (formed, eh, here, c .limits, c .q, c .criticality, c .first, c .second, c .returns) (after .second)
 
         returns-next : z′ ≡ next .counters .returns
-        unfolding afterRound
-        returns-next = ez ∙ rw (eh, en, h .limits, h .q, h .criticality, h .first, h .second, h .returns) (after .returns)
+        unfolding afterRound booksAfter counted
+        returns-next = ez ∙ rw (eh, here, c .limits, c .q, c .criticality, c .first, c .second, c .returns) (after .returns)
 
         read-next : record { heard = heard; rows = rows } ≡ next .previous
         unfolding afterRound
@@ -248,23 +295,37 @@ module _ (s : List ℕ) (ok : checkImage s .number ≡ 0) where
         -- what writing it asks
         pub small-next : ((part .own ≤ 16) × (view < 2 ^ 16) × (latest < 2 ^ 16) × (part .latest < 2 ^ 16))
             × (((j : ℕ) → j < n → getD rows j 0 < 2 ^ 16) × CountersSmall b n x′ y′ z′)
-        unfolding afterRound
+        unfolding afterRound booksAfter counted
         small-next =
             let m = next-small in (
               (rw (h .own) (m .own), rw view-next (m .view), rw el (m .latest), rw (h .latest) (m .earlier)),
               (
-                rw (en, ap (λ (r : Reading). r .rows) read-next) (m .rows .row),
-                rw (first-next, second-next, returns-next, en, eb) (lent-small form size (next .counters) (m .counters)),
+                rw (here, ap (λ (r : Reading). r .rows) read-next) (m .rows .row),
+                rw (first-next, second-next, returns-next, here, formed) (lent-small (fades (books .setup .limits)) (books .setup .n) (next .counters) (m .counters)),
               ),
             )
 
-        -- and what is written
-        pub runs-next : {q : List ℕ} (p : List ℕ) → q ≡ putRuns p (ownAt (frontWords b) n) (one (ownWord (part .own) view) ∷ rowRun n (record { heard = heard; rows = rows })
+        -- and what is written after the words of the setup
+        pub runs-next : {q q′ : List ℕ} (p : List ℕ) → q ≡ putRuns p (ownAt (frontWords b) n) (one (ownWord (part .own) view) ∷ rowRun n (record { heard = heard; rows = rows })
             ∷ one (syndromeWord latest) ∷ one (syndromeWord (part .latest)) ∷ lentRuns b n x′ y′ z′)
-            → q ≡ putRuns p (ownAt start size) (stateRuns next)
-        unfolding afterRound
-        runs-next p e =
-            e ∙ rw (view-next, ed, er, first-next, second-next, returns-next, el, h .own, h .latest, en, eb) (lent-state next refl refl refl most p)
+            → q′ ≡ putRuns q (leftAt (frontWords b) n) (changeRuns (books .setup) (books .pending))
+            → q′ ≡ putRuns p (ownAt (frontOf (next .setup)) (next .setup .n)) (stateRuns next)
+        unfolding afterRound booksAfter counted
+        runs-next p e e′ =
+            e′ ∙ rw (e, view-next, ap (λ (r : Reading). r .heard) read-next, ap (λ (r : Reading). r .rows) read-next, first-next, second-next, returns-next, el, h .own, h .latest, here, formed) (lent-state next refl refl refl few p)
+
+        -- the whole image
+        pub image-next : {front : ℕ} {p q q′ : List ℕ} (o : List ℕ) → front ≡ frontWords b → length o ≡ imageLength (frontWords b) n (part .left - 1)
+            → p ≡ setupBytes (books .setup) ++ drop (setupLength front n) o
+            → q ≡ putRuns p (ownAt (frontWords b) n) (one (ownWord (part .own) view) ∷ rowRun n (record { heard = heard; rows = rows })
+            ∷ one (syndromeWord latest) ∷ one (syndromeWord (part .latest)) ∷ lentRuns b n x′ y′ z′)
+            → q′ ≡ putRuns q (leftAt front n) (changeRuns (books .setup) (books .pending)) → q′ ≡ imageOf next
+        unfolding afterRound booksAfter counted
+        image-next {front} {p} {q} {q′} o ef long ep eq eq′ =
+            image-written next o (setupLength front n) (ap₂ setupLength (ef ∙ ap frontWords formed) here) refl
+            (runs-next p eq (eq′ ∙ ap (λ (i : ℕ). putRuns q (leftAt i n) (changeRuns (books .setup) (books .pending))) ef)
+            ∙ ap (λ (x : List ℕ). putRuns x (ownAt (frontOf (next .setup)) (next .setup .n)) (stateRuns next)) ep)
+            (long ∙ next-length en eb (h .left))
 
 -- ---- what a step answers
 
@@ -277,34 +338,35 @@ module _ (s : List ℕ) (ok : checkImage s .number ≡ 0) (read : List ℕ) (con
   answered : {t : Stepped} → t ≡ readStep (stateOf s) read controller → t ≡ stepOf (stateOf s) read controller
   answered h = step-of _ _ _ refl (read-valid s refl ok) h
 
-  pub step-nine : {r : Answer} → not (eqb (length out) (length s)) || not (eqb (length read) (n * 4)) ≡ true → r ≡ answer 9 0 0
-      → called r out ≡ stepCall s read controller out
-  unfolding refusedStep
-  step-nine {r} e q = ap (λ (x : Answer). called x out) q ∙ go (eqb (length out) (length s)) refl e
-    where
-      go : (b : Bool) → eqb (length out) (length s) ≡ b → not b || not (eqb (length read) (n * 4)) ≡ true
-          → called (answer 9 0 0) out ≡ stepCall s read controller out
-      go false f t = step-no-room s out refl read controller ok (copy-no-room s out ok (eqb-false (length out) _ f))
-      go true f t =
-          step-refused-call s out refl read controller ok (same-room s out ok (eqb-true (length out) _ f))
-          (answered (read-nine (stateOf s) read controller refl (λ l. eqb-false (length read) (n * 4) (not-both _ t) (l ∙ ap (λ (m : ℕ). m * 4) en)))) (λ e. omega (arith, e))
-
-  module _ (room : length out ≡ length s) (words : length read ≡ n * 4) where
-    pub step-ten : {r : Answer} → 2 ^ n ≤ controller → r ≡ answer 10 0 0 → called r out ≡ stepCall s read controller out
+  module _ {long : ℕ} (el : long ≡ stateLength (stateOf s) (stateOf s .pending .left - 1)) where
+    pub step-nine : {r : Answer} → not (eqb (length out) long) || not (eqb (length read) (n * 4)) ≡ true → r ≡ answer 9 0 0
+        → called r out ≡ stepCall s read controller out
     unfolding refusedStep
-    step-ten {r} over q =
-        ap (λ (x : Answer). called x out) q
-        ∙ step-refused-call s out refl read controller ok (same-room s out ok room)
-        (answered (read-controller (stateOf s) read controller refl (words ∙ ap (λ (m : ℕ). m * 4) (sym en)) (subst (λ (m : ℕ). 2 ^ m ≤ controller) (sym en) over))) (λ e. omega (arith, e))
+    step-nine {r} e q = ap (λ (x : Answer). called x out) q ∙ go (eqb (length out) long) refl e
+      where
+        go : (b : Bool) → eqb (length out) long ≡ b → not b || not (eqb (length read) (n * 4)) ≡ true
+            → called (answer 9 0 0) out ≡ stepCall s read controller out
+        go false f t = step-no-room s out refl read controller ok (after-no-room s out ok el (eqb-false (length out) _ f))
+        go true f t =
+            step-refused-call s out refl read controller ok (after-room s out ok el (eqb-true (length out) _ f))
+            (answered (read-nine (stateOf s) read controller refl (λ l. eqb-false (length read) (n * 4) (not-both _ t) (l ∙ ap (λ (m : ℕ). m * 4) en)))) (λ e. omega (arith, e))
 
-    pub step-made : {health : ℕ} {b : List ℕ} → controller < 2 ^ n → health ≡ judgementFor (stateOf s) (readingOf n read controller) .health
-        → b ≡ imageOf (afterRound (stateOf s) (readingOf n read controller)) → called (answer 0 0 health) b ≡ stepCall s read controller out
-    unfolding acceptedStep
-    step-made {health} {b} below eh eb =
-        let this = readingOf (stateOf s .setup .n) read controller in
-        let t = acceptedStep (stateOf s) this (causesOf (stateOf s .setup .n) read controller) in
-        let e : health ≡ t .health = eh ∙ ap (λ (m : ℕ). judgementFor (stateOf s) (readingOf m read controller) .health) (sym en) in
-        ap (λ (v : ℕ). called (answer 0 0 v) b) e
-        ∙ step-wrote s out refl read controller ok (same-room s out ok room)
-        (answered (read-taken (stateOf s) read controller refl (words ∙ ap (λ (m : ℕ). m * 4) (sym en)) (subst (λ (m : ℕ). controller < 2 ^ m) (sym en) below))) refl
-        (eb ∙ ap (λ (m : ℕ). imageOf (afterRound (stateOf s) (readingOf m read controller))) (sym en))
+    module _ (room : length out ≡ long) (words : length read ≡ n * 4) where
+      pub step-ten : {r : Answer} → 2 ^ n ≤ controller → r ≡ answer 10 0 0 → called r out ≡ stepCall s read controller out
+      unfolding refusedStep
+      step-ten {r} over q =
+          ap (λ (x : Answer). called x out) q
+          ∙ step-refused-call s out refl read controller ok (after-room s out ok el room)
+          (answered (read-controller (stateOf s) read controller refl (words ∙ ap (λ (m : ℕ). m * 4) (sym en)) (subst (λ (m : ℕ). 2 ^ m ≤ controller) (sym en) over))) (λ e. omega (arith, e))
+
+      pub step-made : {health : ℕ} {b : List ℕ} → controller < 2 ^ n → health ≡ judgementFor (stateOf s) (readingOf n read controller) .health
+          → b ≡ imageOf (afterRound (stateOf s) (readingOf n read controller)) → called (answer 0 0 health) b ≡ stepCall s read controller out
+      unfolding acceptedStep
+      step-made {health} {b} below eh eb =
+          let this = readingOf (stateOf s .setup .n) read controller in
+          let t = acceptedStep (stateOf s) this (causesOf (stateOf s .setup .n) read controller) in
+          let e : health ≡ t .health = eh ∙ ap (λ (m : ℕ). judgementFor (stateOf s) (readingOf m read controller) .health) (sym en) in
+          ap (λ (v : ℕ). called (answer 0 0 v) b) e
+          ∙ step-wrote s out refl read controller ok (after-room s out ok el room)
+          (answered (read-taken (stateOf s) read controller refl (words ∙ ap (λ (m : ℕ). m * 4) (sym en)) (subst (λ (m : ℕ). controller < 2 ^ m) (sym en) below))) refl
+          (eb ∙ ap (λ (m : ℕ). imageOf (afterRound (stateOf s) (readingOf m read controller))) (sym en))

@@ -1,9 +1,12 @@
 pub mod ModuleCallLaws
 pub mod KeptLaws
+pub mod ImageTurnLaws
 pub mod ImageStepLaws
 pub mod CallAnswers
 pub mod Refusals
 pub mod ImageOpenLaws
+pub mod ChangeCallLaws
 pub mod OutgoingImage
 pub mod ReturnCases
 pub mod Cases
+pub mod NewLimitCases

@@ -24,14 +24,17 @@ use Rattle.setup.proofs.BoundLaws.{read-fades}
 use Rattle.words.proofs.VerdictLaws.{between-of}
 use Rattle.setup.specs.Check.{checkSetup}
 use Rattle.words.specs.declared.Verdict.{Verdict}
+use Rattle.changes.specs.Books.{counted, booksAfter}
+use Rattle.changes.proofs.TurnLaws.{turned-marks}
+use Rattle.changes.proofs.SectionLaws.{read-left}
 use Rattle.image.specs.Layout.{ownAt, latestAt, earlierAt, imageLength}
 use Rattle.image.specs.Words.{ownIn, syndromeIn}
-use Rattle.image.specs.Check.{imageTests, imageSize, checkImage}
+use Rattle.image.specs.Check.{leftIn, imageTests, imageSize, checkImage}
 use Rattle.image.proofs.ImageAnswers.{size-fits, by-words}
 use Rattle.image.proofs.TailLaws.{ImageFits, image-pass, image-zero}
 use Rattle.presence.specs.Valid.{Valid}
-use Rattle.presence.specs.Step.{markOf, outgoingFor, afterRound, acceptedStep, stepOf}
-use Rattle.presence.specs.Image.{imageOf, stateOf, roomFor}
+use Rattle.presence.specs.Step.{markOf, judgementFor, outgoingFor, booksOf, afterRound, acceptedStep, stepOf}
+use Rattle.presence.specs.Image.{imageOf, stateOf, stateLength, roomFor, roomAfter}
 use Rattle.calls.specs.Calls.{answer, called, refusedCall, wrote, openCall, stepCall, saveCall, handedOut, outgoingCall, refusedCause, causeCall}
 use Rattle.presence.specs.declared.State.{State}
 use Rattle.calls.specs.declared.Answer.{Answer}
@@ -56,21 +59,29 @@ pub read-form : (s : List ℕ) → fades (stateOf s .setup .limits) ≡ fadesIn 
 unfolding stateOf setupOf
 read-form s = read-fades (fadesIn (wordAt s)) (wordAt s)
 
--- an accepted image has the length of its state's image
-pub read-sized : (s : List ℕ) → imageLength (frontIn (wordAt s)) (sizeIn (wordAt s 0)) ≡ imageLength (frontOf (setupOf s)) (setupOf s .n)
+-- an image with so many rounds left of a setup that is read
+pub read-sized : (s : List ℕ) (left : ℕ) → imageLength (frontIn (wordAt s)) (sizeIn (wordAt s 0)) left ≡ imageLength (frontOf (setupOf s)) (setupOf s .n) left
 unfolding setupOf
-read-sized s = ap (λ (k : ℕ). imageLength k (sizeIn (wordAt s 0))) (sym (read-front s))
+read-sized s left = ap (λ (k : ℕ). imageLength k (sizeIn (wordAt s 0)) left) (sym (read-front s))
 
-pub read-length : (s : List ℕ) → checkImage s .number ≡ 0 → length s ≡ imageLength (frontOf (stateOf s .setup)) (stateOf s .setup .n)
+-- the rounds left of a state that is read are those of its word
+pub left-is : (s : List ℕ) → stateOf s .pending .left ≡ leftIn s
 unfolding stateOf
-read-length s z = image-pass s z .size ∙ read-sized s
+left-is s = read-left s _ _
+
+-- an accepted image has the length of its state's image
+pub read-length : (s : List ℕ) → checkImage s .number ≡ 0 → length s ≡ stateLength (stateOf s) (stateOf s .pending .left)
+unfolding stateOf
+read-length s z =
+    image-pass s z .size ∙ read-sized s (leftIn s) ∙ ap (λ (left : ℕ). imageLength (frontOf (setupOf s)) (setupOf s .n) left) (sym (left-is s))
 
 -- ---- the word to put on the bus
 
 -- The word that a step hands out is told by the state that it leaves: a marked module delays its syndrome once.
 pub handed-out : (st : State) (this : Reading) (causes : List ℕ) → acceptedStep st this causes .word ≡ handedOut (acceptedStep st this causes .state)
-unfolding acceptedStep outgoingFor outgoingOf handedOut afterRound markOf
-handed-out st this causes = refl
+unfolding acceptedStep outgoingFor outgoingOf handedOut afterRound booksAfter counted markOf
+handed-out st this causes =
+    ap (λ (marks : ℕ). busWord (cond (bit marks (st .own - 1)) (st .latest) (judgementFor st this .syndrome))) (sym (turned-marks (booksOf st)))
 
 -- n is the size, own the own number; wm is the word of the module itself, we and wl are the two syndromes
 module _ (s : List ℕ) (f : ImageFits s) {n front own : ℕ} (en : n ≡ sizeIn (wordAt s 0)) (ef : front ≡ frontIn (wordAt s)) (eo : own ≡ ownIn (wordAt s (ownAt front n))) where
@@ -152,11 +163,11 @@ module _ (image out : List ℕ) {v : Verdict} (e : v ≡ checkImage image) where
     unfolding stepCall
     step-bad-image f = refused-by out e ∙ sym (cond-false _ _ (ap isAccepted (sym e) ∙ ne-eqb (v .number) 0 f))
 
-    pub step-no-room : v .number ≡ 0 → roomFor (stateOf image) out ≡ false → called (answer 9 0 0) out ≡ stepCall image read controller out
+    pub step-no-room : v .number ≡ 0 → roomAfter (stateOf image) out ≡ false → called (answer 9 0 0) out ≡ stepCall image read controller out
     unfolding stepCall refusedCall
     step-no-room z f = sym (cond-true _ _ (ap isAccepted (sym e) ∙ eq-eqb (v .number) 0 z) ∙ cond-false _ _ f)
 
-    module _ (z : v .number ≡ 0) (room : roomFor (stateOf image) out ≡ true) {t : Stepped} (h : t ≡ stepOf (stateOf image) read controller) where
+    module _ (z : v .number ≡ 0) (room : roomAfter (stateOf image) out ≡ true) {t : Stepped} (h : t ≡ stepOf (stateOf image) read controller) where
       within : cond (eqb (stepOf (stateOf image) read controller .number) 0)
           (wrote (stepOf (stateOf image) read controller .health) (stepOf (stateOf image) read controller .state))
           (refusedCall (stepOf (stateOf image) read controller .number) (stepOf (stateOf image) read controller .index) out)
@@ -210,6 +221,15 @@ module _ (image out : List ℕ) (z : checkImage image .number ≡ 0) where
   pub copy-no-room : (length out ≡ length image → ⊥) → roomFor (stateOf image) out ≡ false
   unfolding roomFor
   copy-no-room f = ne-eqb (length out) _ (λ l. f (l ∙ sym (read-length image z)))
+
+  -- the output of a step
+  pub after-room : {long : ℕ} → long ≡ stateLength (stateOf image) (stateOf image .pending .left - 1) → length out ≡ long → roomAfter (stateOf image) out ≡ true
+  unfolding roomAfter
+  after-room e l = eq-eqb (length out) _ (l ∙ e)
+
+  pub after-no-room : {long : ℕ} → long ≡ stateLength (stateOf image) (stateOf image .pending .left - 1) → (length out ≡ long → ⊥) → roomAfter (stateOf image) out ≡ false
+  unfolding roomAfter
+  after-no-room e f = ne-eqb (length out) _ (λ l. f (l ∙ sym e))
 
   -- saving copies the bytes
   pub copy-wrote : {v : Verdict} {r : Answer} {b : List ℕ} → v ≡ checkImage image → r ≡ answer 0 0 0 → ((i : ℕ) → getD image i 0 < 256)

@@ -14,27 +14,33 @@ use Rattle.words.specs.declared.Verdict.{Verdict}
 use Rattle.words.proofs.Truth.{which, cond-true, cond-false, and-l, and-r, and-true, cond-both}
 use Rattle.words.proofs.VerdictLaws.{Passed, between-is, between-of, and-then-next, single-refused, tests-ok}
 use Rattle.setup.specs.Layout.{frontWords}
-use Rattle.setup.specs.Setup.{fadesIn, setupOf}
+use Rattle.setup.specs.Setup.{fadesIn, frontIn, frontOf, setupOf}
 use Rattle.setup.specs.Check.{headTests, limitTests, moduleTests, wordTests, checkHead, checkWords, checkSetup, setupVerdict}
 use Rattle.setup.specs.declared.Setup.{Setup}
 use Rattle.setup.proofs.SetupLaws.{SetupFits, fits-verdict as setup-accepted}
 use Rattle.setup.proofs.SetupRoundTrip.{read-fits}
 use Rattle.rules.specs.Hearing.{readingOf, causesOf}
 use Rattle.rules.specs.declared.Reading.{Reading}
-use Rattle.image.specs.Check.{imageLengthIn, tailTests, imageTests, checkImage}
+use Rattle.changes.specs.Pending.{mostLead, nothing, pendingOf}
+use Rattle.changes.specs.Frame.{sameFrame, mayFollow, frameVerdict}
+use Rattle.image.specs.Layout.{imageLength}
+use Rattle.image.specs.Check.{leftIn, imageLengthIn, tailTests, imageTests, checkImage}
+use Rattle.presence.specs.Valid.{stateVerdict}
+use Rattle.presence.specs.Change.{newVerdict, changeVerdict, withPending, changeOf}
 use Rattle.presence.specs.Opening.{fresh, blank, checkOpening, openOf}
 use Rattle.presence.specs.Step.{judgementFor, afterRound, refusedStep, acceptedStep, readStep, stepOf}
-use Rattle.presence.specs.Image.{stateOf, roomFor}
+use Rattle.presence.specs.Image.{stateOf, roomFor, roomAfter}
 use Rattle.presence.specs.declared.State.{State}
 use Rattle.presence.specs.declared.Opened.{Opened}
 use Rattle.presence.specs.declared.Stepped.{Stepped}
+use Rattle.presence.specs.declared.Changed.{Changed}
 use Rattle.presence.proofs.ValidLaws.{StateFits, valid-fits, fits-verdict}
 use Rattle.presence.proofs.StateStepLaws.{open-accepts}
 use Rattle.presence.proofs.ImageState.{load-valid}
-use Rattle.calls.specs.Calls.{Called, refusedCall, wrote, checkCall, openCall, stepCall, saveCall, outgoingCall, causeCall}
-use Rattle.calls.specs.Refusals.{sizeOf, hasRoom, openVerdict, stepVerdict, savingVerdict, answering, oneOf, Refusals}
+use Rattle.calls.specs.Calls.{Called, refusedCall, wrote, checkCall, openCall, stepCall, changeCall, saveCall, outgoingCall, causeCall}
+use Rattle.calls.specs.Refusals.{sizeOf, hasRoom, openVerdict, stepVerdict, changingVerdict, savingVerdict, answering, oneOf, Refusals}
 use Rattle.calls.specs.declared.CauseAnswer.{CauseAnswer}
-use Rattle.calls.proofs.ModuleCallLaws.{read-sized}
+use Rattle.calls.proofs.ModuleCallLaws.{read-sized, left-is}
 
 -- ---- what a call does is what its verdict says
 
@@ -55,6 +61,15 @@ two-answers k m h true true = refl
 two-answers k m h true false = refl
 two-answers k m h false c = rw h
 
+-- and of three
+three-answers : (k l m : ℕ) → eqb k 0 ≡ false → eqb l 0 ≡ false → (a b c : Bool)
+    → firstRefusal (single a k 0 ∷ single b l 0 ∷ single c m 0 ∷ []) ≡ cond a (cond b (cond c accepted (verdict m 0)) (verdict l 0)) (verdict k 0)
+unfolding thenTests outcome andThen lowest
+three-answers k l m h i true true true = refl
+three-answers k l m h i true true false = refl
+three-answers k l m h i true false c = rw i
+three-answers k l m h i false b c = rw (h, h)
+
 answered : (v : Verdict) (health : ℕ) (st : State) (out : List ℕ) → answering v health st out .answer .number ≡ v .number
 unfolding answering wrote refusedCall
 answered v health st out =
@@ -66,10 +81,18 @@ answered v health st out =
     by-refusal : isAccepted v ≡ false → answering v health st out .answer .number ≡ v .number
     by-refusal f = ap (λ (c : Called). c .answer .number) (cond-false (wrote health st) _ f)
 
--- the room for the state that is read, by the bytes
-room-by : (image out : List ℕ) → roomFor (stateOf image) out ≡ hasRoom image out
+-- the room for the state that is read, by the bytes, and that after a step
+room-by : (image out : List ℕ) → roomFor (stateOf image) out ≡ hasRoom image (leftIn image) out
 unfolding roomFor stateOf
-room-by image out = ap (eqb (length out)) (sym (read-sized image))
+room-by image out =
+    ap (λ (left : ℕ). eqb (length out) (imageLength (frontOf (setupOf image)) (setupOf image .n) left)) (left-is image)
+    ∙ ap (eqb (length out)) (sym (read-sized image (leftIn image)))
+
+after-by : (image out : List ℕ) → roomAfter (stateOf image) out ≡ hasRoom image (leftIn image - 1) out
+unfolding roomAfter stateOf
+after-by image out =
+    ap (λ (left : ℕ). eqb (length out) (imageLength (frontOf (setupOf image)) (setupOf image .n) (left - 1))) (left-is image)
+    ∙ ap (eqb (length out)) (sym (read-sized image (leftIn image - 1)))
 
 -- ---- opening
 
@@ -111,32 +134,32 @@ module _ (setup : List ℕ) (own : ℕ) (out : List ℕ) where
   writes o =
       cond (eqb (o .number) 0) (cond (roomFor (o .state) out) (wrote 0 (o .state)) (refusedCall 9 0 out)) (refusedCall (o .number) (o .index) out)
 
-  fresh-room : roomFor (fresh s own) out ≡ hasRoom setup out
-  unfolding roomFor fresh
-  fresh-room = ap (eqb (length out)) (sym (read-sized setup))
+  fresh-room : roomFor (fresh s own) out ≡ hasRoom setup 0 out
+  unfolding roomFor fresh nothing
+  fresh-room = ap (eqb (length out)) (sym (read-sized setup 0))
 
   writes-by : (b : Bool)
       → writes (cond b (record { number = 0; index = 0; state = fresh s own }) (record { number = 7; index = 0; state = blank }))
-      ≡ cond b (cond (hasRoom setup out) (wrote 0 (fresh s own)) (refusedCall 9 0 out)) (refusedCall 7 0 out)
+      ≡ cond b (cond (hasRoom setup 0 out) (wrote 0 (fresh s own)) (refusedCall 9 0 out)) (refusedCall 7 0 out)
   unfolding writes
   writes-by true = ap (λ (b : Bool). cond b (wrote 0 (fresh s own)) (refusedCall 9 0 out)) fresh-room
   writes-by false = refl
 
   -- the verdict by these tests
   pub open-verdict : openVerdict setup own out
-      ≡ cond (isAccepted (checkSetup setup)) (cond (between 1 (sizeOf setup) own) (cond (hasRoom setup out) accepted (verdict 9 0)) (verdict 7 0))
+      ≡ cond (isAccepted (checkSetup setup)) (cond (between 1 (sizeOf setup) own) (cond (hasRoom setup 0 out) accepted (verdict 9 0)) (verdict 7 0))
       (checkSetup setup)
   unfolding openVerdict andThen
   open-verdict =
       ap (λ (v : Verdict). cond (isAccepted (checkSetup setup)) v (checkSetup setup))
-      (two-answers 7 9 refl (between 1 (sizeOf setup) own) (hasRoom setup out))
+      (two-answers 7 9 refl (between 1 (sizeOf setup) own) (hasRoom setup 0 out))
 
   opening : openCall setup own out ≡ answering (openVerdict setup own out) 0 (fresh s own) out
   unfolding openCall writes setupOf
   opening =
       cond-then (isAccepted (checkSetup setup)) _ _ _
       (λ t. ap writes (opened-by s own (read-fits setup (eqb-true (checkSetup setup .number) 0 t))) ∙ writes-by (between 1 (sizeOf setup) own))
-      ∙ open-chain (checkSetup setup) (isAccepted (checkSetup setup)) (between 1 (sizeOf setup) own) (hasRoom setup out) refl
+      ∙ open-chain (checkSetup setup) (isAccepted (checkSetup setup)) (between 1 (sizeOf setup) own) (hasRoom setup 0 out) refl
       ∙ ap (λ (v : Verdict). answering v 0 (fresh s own) out) (sym open-verdict)
 
 -- ---- step
@@ -188,12 +211,12 @@ module _ (image read : List ℕ) (controller : ℕ) (out : List ℕ) where
   -- the verdict by these tests
   pub step-verdict : stepVerdict image read controller out
       ≡ cond (isAccepted (checkImage image))
-      (cond (hasRoom image out && eqb (length read) (sizeOf image * 4)) (cond (ltb controller (2 ^ sizeOf image)) accepted (verdict 10 0)) (verdict 9 0))
+      (cond (hasRoom image (leftIn image - 1) out && eqb (length read) (sizeOf image * 4)) (cond (ltb controller (2 ^ sizeOf image)) accepted (verdict 10 0)) (verdict 9 0))
       (checkImage image)
   unfolding stepVerdict andThen
   step-verdict =
       ap (λ (v : Verdict). cond (isAccepted (checkImage image)) v (checkImage image))
-      (two-answers 9 10 refl (hasRoom image out && eqb (length read) (sizeOf image * 4)) (ltb controller (2 ^ sizeOf image)))
+      (two-answers 9 10 refl (hasRoom image (leftIn image - 1) out && eqb (length read) (sizeOf image * 4)) (ltb controller (2 ^ sizeOf image)))
 
   step : stepCall image read controller out ≡ answering (stepVerdict image read controller out) (judgementFor st this .health) (afterRound st this) out
   unfolding stepCall tells stateOf setupOf
@@ -201,11 +224,109 @@ module _ (image read : List ℕ) (controller : ℕ) (out : List ℕ) where
       cond-then (isAccepted (checkImage image)) _ _ _
       (λ t.
       let f = valid-fits st (load-valid image (eqb-true (checkImage image .number) 0 t)) in
-      ap₂ (λ (b : Bool) (c : Called). cond b c (refusedCall 9 0 out)) (room-by image out)
+      ap₂ (λ (b : Bool) (c : Called). cond b c (refusedCall 9 0 out)) (after-by image out)
       (ap tells (stepped-by st read controller f) ∙ tells-by _ (eqb (length read) (sizeOf image * 4)) (ltb controller (2 ^ sizeOf image))))
-      ∙ step-chain (checkImage image) (isAccepted (checkImage image)) (hasRoom image out) (eqb (length read) (sizeOf image * 4))
+      ∙ step-chain (checkImage image) (isAccepted (checkImage image)) (hasRoom image (leftIn image - 1) out) (eqb (length read) (sizeOf image * 4))
       (ltb controller (2 ^ sizeOf image)) refl
       ∙ ap (λ (v : Verdict). answering v (judgementFor st this .health) (afterRound st this) out) (sym step-verdict)
+
+-- ---- change
+
+module _ (image new : List ℕ) (lead : ℕ) (out : List ℕ) where
+  abbrev held : State
+  held = stateOf image
+
+  abbrev asked : Setup
+  asked = setupOf new
+
+  -- the state with the change pending
+  abbrev changed : State
+  changed = withPending held (pendingOf asked lead)
+
+  -- of a state and a new setup within the limits only 23 and 24 are left to test
+  change-verdict : StateFits held → SetupFits asked → changeVerdict held asked lead
+      ≡ cond (sameFrame (held .setup) asked) (cond (mayFollow (held .pending) lead) accepted (verdict 24 0)) (verdict 23 0)
+  unfolding changeVerdict newVerdict frameVerdict
+  change-verdict f g =
+      and-then-next (stateVerdict held) _ (ap (λ (v : Verdict). v .number) (fits-verdict held f))
+      ∙ and-then-next (setupVerdict asked) _ (ap (λ (v : Verdict). v .number) (setup-accepted asked g))
+      ∙ two-answers 23 24 refl (sameFrame (held .setup) asked) (mayFollow (held .pending) lead)
+
+  -- what a change answers by its verdict
+  by-verdict : Verdict → Changed
+  by-verdict v = record { number = v .number; index = v .index; state = cond (isAccepted v) changed held }
+
+  -- what a change makes of the struct
+  puts : Changed → Called
+  puts c =
+      cond (eqb (c .number) 0) (cond (roomFor (c .state) out) (wrote 0 (c .state)) (refusedCall 9 0 out)) (refusedCall (c .number) (c .index) out)
+
+  changed-room : roomFor changed out ≡ hasRoom image lead out
+  unfolding roomFor stateOf pendingOf
+  changed-room = ap (eqb (length out)) (sym (read-sized image lead))
+
+  puts-by : (a b : Bool) → puts (by-verdict (cond a (cond b accepted (verdict 24 0)) (verdict 23 0)))
+      ≡ cond a (cond b (cond (hasRoom image lead out) (wrote 0 changed) (refusedCall 9 0 out)) (refusedCall 24 0 out)) (refusedCall 23 0 out)
+  unfolding puts by-verdict
+  puts-by true true = ap (λ (b : Bool). cond b (wrote 0 changed) (refusedCall 9 0 out)) changed-room
+  puts-by true false = refl
+  puts-by false b = refl
+
+  -- by the tests of the image, of the new setup, of 23, of 24 and of the room
+  change-chain : (v w : Verdict) (a b c d e : Bool) → isAccepted v ≡ a → isAccepted w ≡ b
+      → cond a (cond b (cond c (cond d (cond e (wrote 0 changed) (refusedCall 9 0 out)) (refusedCall 24 0 out)) (refusedCall 23 0 out)) (refusedCall (w .number) (w .index) out))
+      (refusedCall (v .number) (v .index) out)
+      ≡ answering (cond a (cond b (cond c (cond d (cond e accepted (verdict 9 0)) (verdict 24 0)) (verdict 23 0)) w) v) 0 changed out
+  unfolding answering
+  change-chain v w true true true true true p q = refl
+  change-chain v w true true true true false p q = refl
+  change-chain v w true true true false e p q = refl
+  change-chain v w true true false d e p q = refl
+  change-chain v w true false c d e p q = sym (cond-false _ _ q)
+  change-chain v w false b c d e p q = sym (cond-false _ _ p)
+
+  -- the verdict by these tests
+  changing-verdict : changingVerdict image new lead out
+      ≡ cond (isAccepted (checkImage image))
+      (cond (isAccepted (checkSetup new))
+      (cond (sameFrame (setupOf image) asked)
+      (cond (eqb (leftIn image) 0 && between 1 mostLead lead) (cond (hasRoom image lead out) accepted (verdict 9 0)) (verdict 24 0)) (verdict 23 0))
+      (checkSetup new)) (checkImage image)
+  unfolding changingVerdict andThen
+  changing-verdict =
+      ap (λ (v : Verdict). cond (isAccepted (checkImage image)) (cond (isAccepted (checkSetup new)) v (checkSetup new)) (checkImage image))
+      (three-answers 23 24 9 refl refl (sameFrame (setupOf image) asked) (eqb (leftIn image) 0 && between 1 mostLead lead) (hasRoom image lead out))
+
+  may-follow : mayFollow (held .pending) lead ≡ eqb (leftIn image) 0 && between 1 mostLead lead
+  unfolding mayFollow
+  may-follow = ap (λ (left : ℕ). eqb left 0 && between 1 mostLead lead) (left-is image)
+
+  frame-is : sameFrame (held .setup) asked ≡ sameFrame (setupOf image) asked
+  unfolding stateOf
+  frame-is = refl
+
+  -- what is put where image and new setup are accepted
+  put-is : isAccepted (checkImage image) ≡ true → isAccepted (checkSetup new) ≡ true → puts (changeOf held asked lead)
+      ≡ cond (sameFrame (setupOf image) asked)
+      (cond (eqb (leftIn image) 0 && between 1 mostLead lead) (cond (hasRoom image lead out) (wrote 0 changed) (refusedCall 9 0 out)) (refusedCall 24 0 out))
+      (refusedCall 23 0 out)
+  unfolding changeOf by-verdict
+  put-is t u =
+      let f = valid-fits held (load-valid image (eqb-true (checkImage image .number) 0 t)) in
+      let g = read-fits new (eqb-true (checkSetup new .number) 0 u) in
+      ap (λ (v : Verdict). puts (by-verdict v)) (change-verdict f g)
+      ∙ puts-by (sameFrame (held .setup) asked) (mayFollow (held .pending) lead)
+      ∙ ap₂ (λ (a b : Bool). cond a (cond b (cond (hasRoom image lead out) (wrote 0 changed) (refusedCall 9 0 out)) (refusedCall 24 0 out)) (refusedCall 23 0 out))
+      frame-is may-follow
+
+  changing : changeCall image new lead out ≡ answering (changingVerdict image new lead out) 0 changed out
+  unfolding changeCall puts
+  changing =
+      cond-then (isAccepted (checkImage image)) _ _ _
+      (λ t. cond-then (isAccepted (checkSetup new)) _ _ _ (λ u. put-is t u))
+      ∙ change-chain (checkImage image) (checkSetup new) (isAccepted (checkImage image)) (isAccepted (checkSetup new)) (sameFrame (setupOf image) asked)
+      (eqb (leftIn image) 0 && between 1 mostLead lead) (hasRoom image lead out) refl refl
+      ∙ ap (λ (v : Verdict). answering v 0 changed out) (sym changing-verdict)
 
 -- ---- saving
 
@@ -222,9 +343,9 @@ unfolding saveCall savingVerdict andThen
 saving image out =
     ap (λ (b : Bool). cond (isAccepted (checkImage image)) (cond b (wrote 0 (stateOf image)) (refusedCall 9 0 out)) (refusedCall (checkImage image .number) (checkImage image .index) out))
     (room-by image out)
-    ∙ save-chain (checkImage image) (isAccepted (checkImage image)) (hasRoom image out) (stateOf image) out refl
+    ∙ save-chain (checkImage image) (isAccepted (checkImage image)) (hasRoom image (leftIn image) out) (stateOf image) out refl
     ∙ ap (λ (v : Verdict). answering (cond (isAccepted (checkImage image)) v (checkImage image)) 0 (stateOf image) out)
-    (sym (one-answer 9 (hasRoom image out)))
+    (sym (one-answer 9 (hasRoom image (leftIn image) out)))
 
 -- ---- accepted calls
 
@@ -233,25 +354,25 @@ pub both-accept : (v next : Verdict) → v .number ≡ 0 → next ≡ accepted �
 both-accept v next z e = and-then-next v next z ∙ e
 
 pub open-accepted : (setup : List ℕ) (own : ℕ) (out : List ℕ) → checkSetup setup .number ≡ 0 → 1 ≤ own → own ≤ sizeOf setup
-    → length out ≡ imageLengthIn setup → openCall setup own out .answer .number ≡ 0
+    → length out ≡ imageLength (frontIn (wordAt setup)) (sizeOf setup) 0 → openCall setup own out .answer .number ≡ 0
 unfolding openVerdict Passed
 open-accepted setup own out z h l room =
     let e : openVerdict setup own out ≡ accepted =
     both-accept (checkSetup setup) _ z
-    (tests-ok (single (between 1 (sizeOf setup) own) 7 0 ∷ single (hasRoom setup out) 9 0 ∷ [])
-    (λ _ _. between-of 1 (sizeOf setup) own h l, (λ _ _. eq-eqb (length out) (imageLengthIn setup) room, tt)))
+    (tests-ok (single (between 1 (sizeOf setup) own) 7 0 ∷ single (hasRoom setup 0 out) 9 0 ∷ [])
+    (λ _ _. between-of 1 (sizeOf setup) own h l, (λ _ _. eq-eqb (length out) _ room, tt)))
     in
     ap (λ (c : Called). c .answer .number) (opening setup own out) ∙ answered (openVerdict setup own out) 0 _ out ∙ ap (λ (v : Verdict). v .number) e
 
-pub step-accepted : (image read : List ℕ) (controller : ℕ) (out : List ℕ) → checkImage image .number ≡ 0 → length out ≡ imageLengthIn image
+pub step-accepted : (image read : List ℕ) (controller : ℕ) (out : List ℕ) → checkImage image .number ≡ 0 → length out ≡ imageLength (frontIn (wordAt image)) (sizeOf image) (leftIn image - 1)
     → length read ≡ sizeOf image * 4 → controller < 2 ^ sizeOf image → stepCall image read controller out .answer .number ≡ 0
 unfolding stepVerdict Passed
 step-accepted image read controller out z room whole bits =
     let e : stepVerdict image read controller out ≡ accepted =
     both-accept (checkImage image) _ z
     (tests-ok
-    (single (hasRoom image out && eqb (length read) (sizeOf image * 4)) 9 0 ∷ single (ltb controller (2 ^ sizeOf image)) 10 0 ∷ [])
-    (λ _ _. and-true (hasRoom image out) _ (eq-eqb _ _ room) (eq-eqb _ _ whole), (λ _ _. lt-ltb controller _ bits, tt)))
+    (single (hasRoom image (leftIn image - 1) out && eqb (length read) (sizeOf image * 4)) 9 0 ∷ single (ltb controller (2 ^ sizeOf image)) 10 0 ∷ [])
+    (λ _ _. and-true (hasRoom image (leftIn image - 1) out) _ (eq-eqb _ _ room) (eq-eqb _ _ whole), (λ _ _. lt-ltb controller _ bits, tt)))
     in
     ap (λ (c : Called). c .answer .number) (step image read controller out) ∙ answered (stepVerdict image read controller out) _ _ out
     ∙ ap (λ (v : Verdict). v .number) e
@@ -262,7 +383,7 @@ unfolding savingVerdict Passed
 save-accepted image out z room =
     let e : savingVerdict image out ≡ accepted =
     both-accept (checkImage image) _ z
-    (tests-ok (single (hasRoom image out) 9 0 ∷ []) (λ _ _. eq-eqb (length out) (imageLengthIn image) room, tt))
+    (tests-ok (single (hasRoom image (leftIn image) out) 9 0 ∷ []) (λ _ _. eq-eqb (length out) _ room, tt))
     in
     ap (λ (c : Called). c .answer .number) (saving image out) ∙ answered (savingVerdict image out) 0 (stateOf image) out ∙ ap (λ (v : Verdict). v .number) e
 
@@ -351,7 +472,7 @@ opening-numbers setup own out =
     let ns : List ℕ = 0 ∷ 1 ∷ 2 ∷ 3 ∷ 4 ∷ 5 ∷ 6 ∷ 7 ∷ 9 ∷ 22 ∷ [] in
     numbered ns (openVerdict setup own out) 0 (fresh (setupOf setup) own) out (opening setup own out)
     (among-then ns (checkSetup setup) _ (among-setup ns setup (record { zero = refl; head = λ _. refl; counts = refl; fading = refl; modules = λ _ _. refl }))
-    (among-all ns (single (between 1 (sizeOf setup) own) 7 0 ∷ single (hasRoom setup out) 9 0 ∷ []) refl refl))
+    (among-all ns (single (between 1 (sizeOf setup) own) 7 0 ∷ single (hasRoom setup 0 out) 9 0 ∷ []) refl refl))
 
 step-numbers : (image read : List ℕ) (controller : ℕ) (out : List ℕ)
     → oneOf (0 ∷ 1 ∷ 2 ∷ 3 ∷ 4 ∷ 5 ∷ 6 ∷ 7 ∷ 8 ∷ 9 ∷ 10 ∷ 22 ∷ []) (stepCall image read controller out .answer .number) ≡ true
@@ -360,9 +481,25 @@ step-numbers image read controller out =
     let ns : List ℕ = 0 ∷ 1 ∷ 2 ∷ 3 ∷ 4 ∷ 5 ∷ 6 ∷ 7 ∷ 8 ∷ 9 ∷ 10 ∷ 22 ∷ [] in
     numbered ns (stepVerdict image read controller out) _ _ out (step image read controller out)
     (among-then ns (checkImage image) _ (among-image ns image (record { zero = refl; head = λ _. refl; counts = refl; fading = refl; modules = λ _ _. refl }) tails)
-    (among-all ns (single (hasRoom image out && eqb (length read) (sizeOf image * 4)) 9 0 ∷ single (ltb controller (2 ^ sizeOf image)) 10 0 ∷ []) refl refl))
+    (among-all ns (single (hasRoom image (leftIn image - 1) out && eqb (length read) (sizeOf image * 4)) 9 0 ∷ single (ltb controller (2 ^ sizeOf image)) 10 0 ∷ []) refl refl))
   where
     tails : (b : Bool) (n : ℕ) → allAmong (0 ∷ 1 ∷ 2 ∷ 3 ∷ 4 ∷ 5 ∷ 6 ∷ 7 ∷ 8 ∷ 9 ∷ 10 ∷ 22 ∷ []) (tailTests b (wordAt image) n) ≡ true
+    tails true n = refl
+    tails false n = refl
+
+change-numbers : (image new : List ℕ) (lead : ℕ) (out : List ℕ)
+    → oneOf (0 ∷ 1 ∷ 2 ∷ 3 ∷ 4 ∷ 5 ∷ 6 ∷ 7 ∷ 8 ∷ 9 ∷ 22 ∷ 23 ∷ 24 ∷ []) (changeCall image new lead out .answer .number) ≡ true
+unfolding changingVerdict oneOf allAmong
+change-numbers image new lead out =
+    let ns : List ℕ = 0 ∷ 1 ∷ 2 ∷ 3 ∷ 4 ∷ 5 ∷ 6 ∷ 7 ∷ 8 ∷ 9 ∷ 22 ∷ 23 ∷ 24 ∷ [] in
+    numbered ns (changingVerdict image new lead out) 0 _ out (changing image new lead out)
+    (among-then ns (checkImage image) _ (among-image ns image (record { zero = refl; head = λ _. refl; counts = refl; fading = refl; modules = λ _ _. refl }) tails)
+    (among-then ns (checkSetup new) _ (among-setup ns new (record { zero = refl; head = λ _. refl; counts = refl; fading = refl; modules = λ _ _. refl }))
+    (among-all ns
+    (single (sameFrame (setupOf image) (setupOf new)) 23 0 ∷ single (eqb (leftIn image) 0 && between 1 mostLead lead) 24 0 ∷ single (hasRoom image lead out) 9 0 ∷ [])
+    refl refl)))
+  where
+    tails : (b : Bool) (n : ℕ) → allAmong (0 ∷ 1 ∷ 2 ∷ 3 ∷ 4 ∷ 5 ∷ 6 ∷ 7 ∷ 8 ∷ 9 ∷ 22 ∷ 23 ∷ 24 ∷ []) (tailTests b (wordAt image) n) ≡ true
     tails true n = refl
     tails false n = refl
 
@@ -371,7 +508,7 @@ unfolding savingVerdict oneOf allAmong
 saving-numbers image out =
     let ns : List ℕ = 0 ∷ 1 ∷ 2 ∷ 3 ∷ 4 ∷ 5 ∷ 6 ∷ 7 ∷ 8 ∷ 9 ∷ 22 ∷ [] in
     numbered ns (savingVerdict image out) 0 (stateOf image) out (saving image out)
-    (among-then ns (checkImage image) _ (among-image ns image (record { zero = refl; head = λ _. refl; counts = refl; fading = refl; modules = λ _ _. refl }) tails) (among-all ns (single (hasRoom image out) 9 0 ∷ []) refl refl))
+    (among-then ns (checkImage image) _ (among-image ns image (record { zero = refl; head = λ _. refl; counts = refl; fading = refl; modules = λ _ _. refl }) tails) (among-all ns (single (hasRoom image (leftIn image) out) 9 0 ∷ []) refl refl))
   where
     tails : (b : Bool) (n : ℕ) → allAmong (0 ∷ 1 ∷ 2 ∷ 3 ∷ 4 ∷ 5 ∷ 6 ∷ 7 ∷ 8 ∷ 9 ∷ 22 ∷ []) (tailTests b (wordAt image) n) ≡ true
     tails true n = refl
@@ -397,10 +534,12 @@ pub refusals : Refusals
 refusals = record {
   opening = opening;
   step = step;
+  changing = changing;
   saving = saving;
   setup-numbers = setup-numbers;
   opening-numbers = opening-numbers;
   step-numbers = step-numbers;
+  change-numbers = change-numbers;
   saving-numbers = saving-numbers;
   outgoing-numbers = outgoing-numbers;
   cause-numbers = cause-numbers;

@@ -1,4 +1,5 @@
--- What C calls: the answer, and the output at exit, which a refusal leaves as it was. (document 01, "What runs"; "Answers and their order")
+-- What C calls: the answer, and the output at exit, which a refusal leaves as it was. (document 01, "What runs"; "Answers and their order";
+-- document 02, E10: a change, and an output that has the length of the image after the call)
 use Prim.Native.Nat.{ℕ}
 use mathlib.Core.Bool.{cond}
 use mathlib.Core.List.{List}
@@ -10,7 +11,8 @@ use Rattle.rules.specs.Hearing.{busWord, receptionOf, heardRow, causeIn}
 use Rattle.image.specs.Check.{checkImage}
 use Rattle.presence.specs.Opening.{openOf}
 use Rattle.presence.specs.Step.{markOf, stepOf}
-use Rattle.presence.specs.Image.{imageOf, stateOf, roomFor}
+use Rattle.presence.specs.Change.{changeOf}
+use Rattle.presence.specs.Image.{imageOf, stateOf, roomFor, roomAfter}
 use Rattle.calls.specs.declared.Answer.{Answer}
 use Rattle.calls.specs.declared.WordAnswer.{WordAnswer}
 use Rattle.calls.specs.declared.CauseAnswer.{CauseAnswer}
@@ -51,16 +53,29 @@ openCall setup own out =
     (refusedCall (opened .number) (opened .index) out))
     (refusedCall (v .number) (v .index) out)
 
--- step: 1 to 8 and 22, 9 for the output or the read, 10
+-- step: 1 to 8 and 22, 9 for the output, which has the length of the image after the step, or the read, 10
 unfoldable pub stepCall : List ℕ → List ℕ → ℕ → List ℕ → Called
 stepCall image read controller out =
     let v = checkImage image in
     let st = stateOf image in
     let stepped = stepOf st read controller in
     cond (isAccepted v)
-    (cond (roomFor st out)
+    (cond (roomAfter st out)
     (cond (eqb (stepped .number) 0) (wrote (stepped .health) (stepped .state)) (refusedCall (stepped .number) (stepped .index) out))
     (refusedCall 9 0 out))
+    (refusedCall (v .number) (v .index) out)
+
+-- change of limits, so many rounds ahead: 1 to 8 and 22 of the image, 1 to 6 and 22 of the new setup by its own words, 23, 24, and 9 last
+unfoldable pub changeCall : List ℕ → List ℕ → ℕ → List ℕ → Called
+changeCall image new lead out =
+    let v = checkImage image in
+    let w = checkSetup new in
+    let changed = changeOf (stateOf image) (setupOf new) lead in
+    cond (isAccepted v)
+    (cond (isAccepted w)
+    (cond (eqb (changed .number) 0) (cond (roomFor (changed .state) out) (wrote 0 (changed .state)) (refusedCall 9 0 out))
+    (refusedCall (changed .number) (changed .index) out))
+    (refusedCall (w .number) (w .index) out))
     (refusedCall (v .number) (v .index) out)
 
 -- saving: 1 to 8 and 22, 9

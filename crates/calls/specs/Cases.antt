@@ -42,9 +42,9 @@ halfForGood = setup 0x1000_0003 0 0x3FE0_0000 0 0x4000_0000 0
 abbrev pub tenth : List ℕ
 tenth = setup 0x1000_0203 0 0x3FB9_9999 0x9999_999A 0x412E_8480 0
 
--- an output for its image, 24 words
+-- an output for its image, 25 words
 abbrev pub out : List ℕ
-out = replicate 96 0
+out = replicate 100 0
 
 -- the image of module 1, opened
 abbrev pub openedImage : List ℕ → List ℕ
@@ -118,15 +118,16 @@ orderCases =
     ++ (answers (checkCall (putWord half 6 0x4086_0000)) 5 6 ++ (answers (checkCall (putWord half 7 0x4107_86A1)) 5 7
     ++ answers (checkCall (putWord half 7 0x4146_0001)) 6 7)))))
 
--- ---- an image has 5 N + 9 words, for 3 and 9: 24; with 23, or the 5 N + 6 of counts, an output is refused, and an image with 21
+-- ---- an image has 5 N + 9 words, for 3 and 9, and one for the rounds left (document 02, E10): 25; with 24, or the 5 N + 6 or 5 N + 7 of counts, an
+-- output is refused, and an image with 21 or 22
 abbrev pub imageLengthCases : List Case
 imageLengthCases =
-    case (imageLength 6 3) (24 * 4) ∷ case (length (openedImage half)) (24 * 4) ∷ answers (openCall half 1 out .answer) 0 0
-    ++ (answers (openCall half 1 (replicate 84 0) .answer) 9 0 ++ (answers (openCall half 1 (replicate 92 0) .answer) 9 0
-    ++ (answers (stepCall (openedImage half) (bytesOf 3 (λ j. busWord good)) 7 (replicate 84 0) .answer) 9 0
-    ++ (answers (saveCall (openedImage half) (replicate 84 0) .answer) 9 0 ++ (answers (saveCall (openedImage half) out .answer) 0 0
-    ++ (answers (saveCall (take 84 (openedImage half)) out .answer) 3 0
-    ++ answers (saveCall (putWord (openedImage half) 1 0x2000_0001) out .answer) 3 0))))))
+    case (imageLength 6 3 0) (25 * 4) ∷ case (length (openedImage half)) (25 * 4) ∷ answers (openCall half 1 out .answer) 0 0
+    ++ (answers (openCall half 1 (replicate 84 0) .answer) 9 0 ++ (answers (openCall half 1 (replicate 96 0) .answer) 9 0
+    ++ (answers (stepCall (openedImage half) (bytesOf 3 (λ j. busWord good)) 7 (replicate 88 0) .answer) 9 0
+    ++ (answers (saveCall (openedImage half) (replicate 88 0) .answer) 9 0 ++ (answers (saveCall (openedImage half) out .answer) 0 0
+    ++ (answers (saveCall (take 84 (openedImage half)) out .answer) 3 0 ++ (answers (saveCall (take 88 (openedImage half)) out .answer) 3 0
+    ++ answers (saveCall (putWord (openedImage half) 1 0x2000_0001) out .answer) 3 0)))))))
 
 -- ---- scores are two plain words in place of kinds 13 and 14, the return counts after them; at opening every score is 0.0
 -- The whole image, and its word to be sent, which is the latest syndrome.
@@ -134,7 +135,7 @@ abbrev pub openingCases : List Case
 openingCases =
     holds (openedImage tenth) 0
     (0x1000_0203 ∷ 0 ∷ 0x3FB9_9999 ∷ 0x9999_999A ∷ 0x412E_8480 ∷ 0 ∷ 0x4086_0001 ∷ 0x4106_0007 ∷ 0x4186_0001 ∷ 0xA001_0007 ∷ 0xB0C0_0007 ∷ 0xB140_0007
-    ∷ 0xB1C0_0007 ∷ 0xC000_0007 ∷ 0xC000_0007 ∷ 0 ∷ 0 ∷ 0 ∷ 0 ∷ 0 ∷ 0 ∷ 0xF080_0000 ∷ 0xF100_0000 ∷ 0xF180_0000 ∷ [])
+    ∷ 0xB1C0_0007 ∷ 0xC000_0007 ∷ 0xC000_0007 ∷ 0 ∷ 0 ∷ 0 ∷ 0 ∷ 0 ∷ 0 ∷ 0xF080_0000 ∷ 0xF100_0000 ∷ 0xF180_0000 ∷ 0 ∷ [])
     ++ (case (outgoingCall (openedImage tenth) .number) 0 ∷ case (outgoingCall (openedImage tenth) .word) 0x5000_0007 ∷ [])
 
 -- ---- a charge adds 1.0 to a module's score, whatever its criticality; a good round multiplies it by the factor

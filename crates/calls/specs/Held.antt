@@ -1,5 +1,5 @@
--- A helper of the contracts of `kept` and `played` (src/step.rt), inner functions: no public contract rests on it.
--- A state as it is held by what `load_image` gives and the arrays that it fills, and rule 8 on these arrays.
+-- A helper of the contracts of `kept`, `turned` and `played` (src/step.rt), inner functions: no public contract rests on it.
+-- A state as it is held by what `load_image` gives and the arrays that it fills, what rule 8 counts with, and rule 8 on these arrays.
 use Prim.Native.Nat.{ℕ}
 use mathlib.Core.Path.{_≡_}
 use mathlib.Core.List.{List}
@@ -13,26 +13,31 @@ use Rattle.setup.specs.declared.Limits.the-variants.{Counts, Fading}
 use Rattle.accounts.specs.Lent.{accountIn, countedAt, scoreIn, fadedAt}
 use Rattle.accounts.specs.Range.{InRange, CountRange}
 use Rattle.accounts.specs.declared.Account.{Account}
+use Rattle.changes.specs.declared.Books.{Books}
 use Rattle.image.specs.Part.{firstOf, secondOf}
 use Rattle.image.specs.declared.ImagePart.{ImagePart}
 use Rattle.presence.specs.Step.{skewOf}
 use Rattle.presence.specs.declared.State.{State}
 
--- k holds the criticalities, l the rows of the previous read, and x, y and z the accounts
-pub record HeldBy (st : State) (part : ImagePart) (k l x y z : List ℕ) : Type 0 where
+-- what rules 1 to 7 need of a state, and the rounds left until a pending change takes effect; l holds the rows of the previous read
+pub record HeldBy (st : State) (part : ImagePart) (l : List ℕ) : Type 0 where
   pub skew : part .skew ≡ skewOf st
-  pub q : part .q ≡ st .setup .q
-  pub limits : part .limits ≡ st .setup .limits
   pub own : part .own ≡ st .own
   pub view : part .view ≡ st .counters .view
   pub heard : part .heard ≡ st .previous .heard
   pub latest : part .latest ≡ st .latest
   pub earlier : part .earlier ≡ st .earlier
-  pub criticality : k ≡ st .setup .criticality
   pub rows : l ≡ st .previous .rows
-  pub first : x ≡ firstOf (fades (st .setup .limits)) (st .setup .n) (st .counters)
-  pub second : y ≡ secondOf (fades (st .setup .limits)) (st .setup .n) (st .counters)
-  pub returns : z ≡ st .counters .returns
+  pub left : part .left ≡ st .pending .left
+
+-- what rule 8 counts with and what it counts: l are the limits, m is the return limit, k holds the criticalities, and x, y and z the accounts
+pub record CountedBy (books : Books) (l : Limits) (m : ℕ) (k x y z : List ℕ) : Type 0 where
+  pub limits : l ≡ books .setup .limits
+  pub q : m ≡ books .setup .q
+  pub criticality : k ≡ books .setup .criticality
+  pub first : x ≡ firstOf (fades (books .setup .limits)) (books .setup .n) (books .counters)
+  pub second : y ≡ secondOf (fades (books .setup .limits)) (books .setup .n) (books .counters)
+  pub returns : z ≡ books .counters .returns
 
 -- ---- rule 8 on the arrays, by the limits of the setup
 

@@ -4,3 +4,4 @@ pub mod OutgoingImage
 pub mod ReturnCases
 pub mod Held
 pub mod Cases
+pub mod NewLimitCases

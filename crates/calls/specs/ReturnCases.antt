@@ -43,9 +43,9 @@ holds s i (w ∷ ws) = case (wordAt s i) w ∷ holds s (suc i) ws
 abbrev pub setup : ℕ → List ℕ
 setup head = bytesOf 7 (λ i. getD (head ∷ 0x2000_0001 ∷ 0x3000_0003 ∷ 0x4088_0001 ∷ 0x4108_0001 ∷ 0x4188_0001 ∷ 0x4208_0001 ∷ []) i 0)
 
--- an output for its image, 26 words: 5 N + 6
+-- an output for its image, 27 words: 5 N + 7
 abbrev pub out : List ℕ
-out = replicate 104 0
+out = replicate 108 0
 
 -- the image of module 1, opened with this head
 abbrev pub openedImage : ℕ → List ℕ
@@ -67,11 +67,12 @@ headCases =
     ++ (answers (checkCall (setup 0x1F42_4104)) 2 0 ++ (answers (checkCall (setup 0x1FFF_FF04)) 2 0 ++ (answers (checkCall (setup 0x1000_0024)) 2 0
     ++ (answers (checkCall (setup 0x1000_0044)) 2 0 ++ answers (checkCall (setup 0x1000_0084)) 2 0))))))
 
--- ---- an image has N words of kind 15 after those of kind 14, 5 N + 6 words in all, for 3 and 9; at opening the counts are 0
+-- ---- an image has N words of kind 15 after those of kind 14, for 3 and 9; at opening the counts are 0. The rounds left (document 02, E10) are the last
+-- word.
 abbrev pub imageCases : List Case
 imageCases =
-    holds (openedImage 0x1000_0204) 18 (0xE080_0000 ∷ 0xE100_0000 ∷ 0xE180_0000 ∷ 0xE200_0000 ∷ 0xF080_0000 ∷ 0xF100_0000 ∷ 0xF180_0000 ∷ 0xF200_0000 ∷ [])
-    ++ (case (imageLength 3 4) (26 * 4) ∷ answers (openCall (setup 0x1000_0204) 1 (replicate 88 0) .answer) 9 0
+    holds (openedImage 0x1000_0204) 18 (0xE080_0000 ∷ 0xE100_0000 ∷ 0xE180_0000 ∷ 0xE200_0000 ∷ 0xF080_0000 ∷ 0xF100_0000 ∷ 0xF180_0000 ∷ 0xF200_0000 ∷ 0 ∷ [])
+    ++ (case (imageLength 3 4 0) (27 * 4) ∷ answers (openCall (setup 0x1000_0204) 1 (replicate 88 0) .answer) 9 0
     ++ answers (saveCall (take 88 (openedImage 0x1000_0204)) out .answer) 3 0)
 
 -- ---- Q = 2: a module outside the view with health 1 for Q rounds running returns with penalty P and reward 0

@@ -2,16 +2,20 @@
 use crate::Answer;
 use crate::CauseAnswer;
 use crate::WordAnswer;
+use crate::step::left_after;
 use crate::step::played;
+use crate::step::turned;
 use image::check::check_image;
 use image::check::image_size;
 use image::earlier_in;
 use image::image_length;
 use image::latest_in;
+use image::left_at;
 use image::load_image;
 use image::own_in;
 use image::save_accounts;
 use image::save_sections;
+use presence::State;
 use setup::bounds::fades_at;
 use setup::bounds::front_words;
 use setup::check::size_at;
@@ -23,11 +27,12 @@ use words::bits::bit_at;
 use words::bits::full_of;
 use words::bits::power;
 use words::word::copy_words;
+use words::word::put_word;
 use words::word::word_at;
 ghost use mathlib.Core.Path.{_≡_};
 ghost use Rattle.image.specs.Check.{checkImage};
 ghost use Rattle.presence.specs.Image.{stateOf};
-ghost use Rattle.calls.specs.Calls.{answer, called, checkCall, openCall, stepCall, saveCall, handedOut, outgoingCall, refusedCause, causeCall};
+ghost use Rattle.calls.specs.Calls.{answer, called, checkCall, openCall, stepCall, changeCall, saveCall, handedOut, outgoingCall, refusedCause, causeCall};
 
 // An answer without health.
 fn refuse(number: u32, index: u32) -> Answer
@@ -65,7 +70,7 @@ pub extern "C" fn presence_open(bytes: &[u8], own: u32, out: &mut [u8]) -> Answe
     if (own < 1) | (n < own as usize) {
         return refuse(7, 0);
     }
-    if out.len() != image_length(front, n) {
+    if out.len() != image_length(front, n, 0) {
         return refuse(9, 0);
     }
     let full = full_of(n);
@@ -74,6 +79,7 @@ pub extern "C" fn presence_open(bytes: &[u8], own: u32, out: &mut [u8]) -> Answe
     copy_words(bytes, setup_words(front, n), out);
     save_sections(fades, n, own as usize, full, full, &rows, full, full, out);
     save_accounts(fades, n, &zeros, &zeros, &zeros, out);
+    put_word(out, left_at(front, n), 0);
     refuse(0, 0)
 }
 
@@ -85,7 +91,7 @@ fn refuse_image(image: &[u8]) -> Answer
     refuse(v.number, v.index)
 }
 
-// One step, from image to image: 1 to 8 and 22, 9 for the read or the output, 10.
+// One step, from image to image: 1 to 8 and 22, 9 for the read or the output, which has the length of the image after the step, 10.
 #[no_mangle]
 pub extern "C" fn presence_step(
     image: &[u8],
@@ -118,17 +124,31 @@ pub extern "C" fn presence_step(
     if !part.good {
         return refuse_image(image);
     }
-    if (out.len() != image.len()) | (read.len() != n * 4) {
+    let long = image_length(front_words(fades), n, left_after(part.left));
+    if (out.len() != long) | (read.len() != n * 4) {
         return refuse(9, 0);
     }
     if power(n) <= controller {
         return refuse(10, 0);
     }
+    let held = part.limits;
+    let limits = turned(
+        image,
+        fades,
+        n,
+        part.left,
+        part.view,
+        held,
+        &mut criticality,
+        &mut first,
+        &mut second,
+    );
     let health = played(
         image,
         fades,
         n,
         part,
+        limits,
         &criticality,
         &mut rows,
         &mut first,
@@ -143,6 +163,36 @@ pub extern "C" fn presence_step(
         index: 0,
         health,
     }
+}
+
+// Has a setup with new P, R and criticalities take the old one's place, `lead` rounds ahead, and writes the image with that change pending: 1 to 8 and
+// 22 of the image, 1 to 6 and 22 of the new setup, 23, 24, 9.
+#[no_mangle]
+pub extern "C" fn presence_change(
+    image: &[u8],
+    bytes: &[u8],
+    lead: u32,
+    out: &mut [u8],
+) -> Answer
+    ensures { λ r. ⌜ called r (now (out .exit)) ≡ changeCall (now (image .entry)) (now (bytes .entry)) lead (now (out .entry)) ⌝ }
+{
+    let old = State::load(image);
+    if old.number != 0 {
+        return refuse(old.number, old.index);
+    }
+    let new = setup::read::read(bytes);
+    if new.number != 0 {
+        return refuse(new.number, new.index);
+    }
+    let state = old.state;
+    let setup = new.setup;
+    let changed = state.change(setup, lead);
+    if changed.number != 0 {
+        return refuse(changed.number, changed.index);
+    }
+    let next = changed.state;
+    let v = next.save(out);
+    refuse(v.number, v.index)
 }
 
 // Tests an image and writes it again, in its one form: 1 to 8 and 22, 9.

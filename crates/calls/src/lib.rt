@@ -1,4 +1,4 @@
-// What C calls: a module's opening, step and saving, from image to image, the word that it hands out, and why a word is not heard.
+// What C calls: a module's opening, step, change of limits and saving, from image to image, the word that it hands out, and why a word is not heard.
 pub mod calls;
 mod step;
 

@@ -1,7 +1,9 @@
 // The round of an accepted image, from its words to those of the next state, with no state between: the arrays are lent, and filled in place.
 use accounts::round::count;
 use accounts::round::fade;
+use changes::lent::turn;
 use image::ImagePart;
+use image::left_at;
 use image::place_in;
 use image::save_accounts;
 use image::save_sections;
@@ -10,19 +12,26 @@ use setup::Limits;
 use setup::bounds::front_words;
 use setup::layout::setup_words;
 use words::bits::pick;
+use words::word::copy_run;
 use words::word::copy_words;
+use words::word::put_word;
 ghost use mathlib.Core.Path.{_≡_};
-ghost use Prim.Native.Nat.{ℕ, _*_, _^_, _≤_, _<_};
-ghost use lib.ListN.{length, getD};
+ghost use mathlib.Core.List.{List, _++_};
+ghost use Prim.Native.Nat.{ℕ, _-_, _*_, _^_, _≤_, _<_};
+ghost use lib.ListN.{length, getD, drop};
 ghost use Rattle.words.specs.Array.{Filled};
-ghost use Rattle.setup.specs.Layout.{frontWords};
+ghost use Rattle.words.specs.Runs.{putRuns};
+ghost use Rattle.setup.specs.Layout.{frontWords, setupLength};
 ghost use Rattle.setup.specs.Limits.{fades as fadesOf};
+ghost use Rattle.setup.specs.Setup.{frontOf, setupBytes};
 ghost use Rattle.rules.specs.Hearing.{readingOf};
-ghost use Rattle.image.specs.Layout.{imageLength};
+ghost use Rattle.changes.specs.Books.{turned as turnedOf};
+ghost use Rattle.changes.specs.Words.{changeRuns};
+ghost use Rattle.image.specs.Layout.{leftAt, imageLength};
 ghost use Rattle.image.specs.Check.{checkImage};
-ghost use Rattle.presence.specs.Step.{judgementFor, afterRound};
+ghost use Rattle.presence.specs.Step.{judgementFor, booksOf, afterRound};
 ghost use Rattle.presence.specs.Image.{stateOf, imageOf};
-ghost use Rattle.calls.specs.Held.{HeldBy, LentRange, keptView, keptFirst, keptSecond, keptReturns};
+ghost use Rattle.calls.specs.Held.{HeldBy, CountedBy, LentRange, keptView, keptFirst, keptSecond, keptReturns};
 
 // Rule 8 on the lent arrays, by the limits of the setup; the answer is the view.
 fn kept(
@@ -50,12 +59,85 @@ fn kept(
     }
 }
 
-// Writes the image after the round, and answers the health vector. The words of the setup are copied: those of an accepted image are in their one form.
+// The limits by which rule 8 counts. A change that is due takes effect: the arrays hold the new criticalities and the adjusted counters.
+pub fn turned(
+    image: &[u8],
+    fades: bool,
+    n: usize,
+    left: u32,
+    view: u32,
+    limits: Limits,
+    criticality: &mut [u32; 16],
+    first: &mut [u32; 16],
+    second: &mut [u32; 16],
+) -> Limits
+    requires { ⌜ (checkImage (now image) .number ≡ 0) × (n ≡ stateOf (now image) .setup .n) × (fades ≡ fadesOf (stateOf (now image) .setup .limits))
+        × (left ≡ stateOf (now image) .pending .left) × (view ≡ stateOf (now image) .counters .view) ⌝ }
+    requires { ⌜ Filled n (now criticality) × Filled n (now first) × Filled n (now second) ⌝ }
+    ensures { λ r. ⌜ ((q : ℕ) (z : List ℕ) → CountedBy (booksOf (stateOf (now (image .entry)))) limits q (now (criticality .entry)) (now (first .entry)) (now (second .entry)) z
+        → CountedBy (turnedOf (booksOf (stateOf (now (image .entry))))) r q (now (criticality .exit)) (now (first .exit)) (now (second .exit)) z) ⌝ }
+{
+    if left == 1 {
+        return turn(
+            image,
+            n,
+            left_at(front_words(fades), n),
+            view,
+            criticality,
+            first,
+            second,
+        );
+    }
+    limits
+}
+
+// How many rounds are left after a step.
+pub fn left_after(left: u32) -> u32
+    ensures { λ r. ⌜ r ≡ left - 1 ⌝ }
+{
+    if left == 0 {
+        return 0;
+    }
+    left - 1
+}
+
+// Writes the words of the setup that holds after the round: where a change is due the new ones after the head, else its own. They are copied: those of
+// an accepted image are in their one form.
+fn save_setup(image: &[u8], front: usize, n: usize, left: u32, out: &mut [u8])
+    requires { ⌜ (checkImage (now image) .number ≡ 0) × (n ≡ stateOf (now image) .setup .n) × (front ≡ frontOf (stateOf (now image) .setup))
+        × (left ≡ stateOf (now image) .pending .left) × (setupLength front n ≤ length (now out)) ⌝ }
+    ensures { λ _. ⌜ now (out .exit)
+        ≡ setupBytes (turnedOf (booksOf (stateOf (now (image .entry)))) .setup) ++ drop (setupLength front n) (now (out .entry)) ⌝ }
+{
+    if left == 1 {
+        copy_words(image, 1, out);
+        return copy_run(image, left_at(front, n) + 1, n + 2, out, 1);
+    }
+    copy_words(image, setup_words(front, n), out)
+}
+
+// Writes the rounds left after the round, and the new words where a change is pending still.
+fn save_pending(image: &[u8], front: usize, n: usize, left: u32, out: &mut [u8])
+    requires { ⌜ (checkImage (now image) .number ≡ 0) × (n ≡ stateOf (now image) .setup .n) × (front ≡ frontOf (stateOf (now image) .setup))
+        × (left ≡ stateOf (now image) .pending .left) × (imageLength front n (left - 1) ≤ length (now out)) ⌝ }
+    ensures { λ _. ⌜ now (out .exit) ≡ putRuns (now (out .entry)) (leftAt front n)
+        (changeRuns (turnedOf (booksOf (stateOf (now (image .entry)))) .setup) (turnedOf (booksOf (stateOf (now (image .entry)))) .pending)) ⌝ }
+{
+    let at = left_at(front, n);
+    if left < 2 {
+        return put_word(out, at, 0);
+    }
+    put_word(out, at, left - 1);
+    copy_run(image, at + 1, n + 2, out, at + 1)
+}
+
+// Writes the image after the round, and answers the health vector.
 pub fn played(
     image: &[u8],
     fades: bool,
     n: usize,
     part: ImagePart,
+    limits: Limits,
     criticality: &[u32; 16],
     rows: &mut [u32; 16],
     first: &mut [u32; 16],
@@ -66,15 +148,15 @@ pub fn played(
     out: &mut [u8],
 ) -> u32
     requires { ⌜ (checkImage (now image) .number ≡ 0) × (n ≡ stateOf (now image) .setup .n) × (fades ≡ fadesOf (stateOf (now image) .setup .limits))
-        × HeldBy (stateOf (now image)) part (now criticality) (now rows) (now first) (now second) (now returns) ⌝ }
-    requires { ⌜ (length (now read) ≡ n * 4) × (controller < 2 ^ n) × (length (now out) ≡ imageLength (frontWords fades) n) ⌝ }
+        × HeldBy (stateOf (now image)) part (now rows)
+        × CountedBy (turnedOf (booksOf (stateOf (now image)))) limits (part .q) (now criticality) (now first) (now second) (now returns) ⌝ }
+    requires { ⌜ (length (now read) ≡ n * 4) × (controller < 2 ^ n) × (length (now out) ≡ imageLength (frontWords fades) n (part .left - 1)) ⌝ }
     ensures { λ r. ⌜ (r ≡ judgementFor (stateOf (now (image .entry))) (readingOf n (now (read .entry)) controller) .health)
         × (now (out .exit) ≡ imageOf (afterRound (stateOf (now (image .entry))) (readingOf n (now (read .entry)) controller))) ⌝ }
 {
     let front = front_words(fades);
     let place = place_in(image, front, part.own - 1);
     let own = pick(part.skew, part.earlier, part.latest);
-    let limits = part.limits;
     let mut this = [0u32; 16];
     let j = judged_read(
         n,
@@ -98,7 +180,7 @@ pub fn played(
         second,
         returns,
     );
-    copy_words(image, setup_words(front, n), out);
+    save_setup(image, front, n, part.left, out);
     save_sections(
         fades,
         n,
@@ -111,5 +193,6 @@ pub fn played(
         out,
     );
     save_accounts(fades, n, first, second, returns, out);
+    save_pending(image, front, n, part.left, out);
     j.health
 }
