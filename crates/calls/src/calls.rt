@@ -168,12 +168,7 @@ pub extern "C" fn presence_step(
 // Has a setup with new P, R and criticalities take the old one's place, `lead` rounds ahead, and writes the image with that change pending: 1 to 8 and
 // 22 of the image, 1 to 6 and 22 of the new setup, 23, 24, 9.
 #[no_mangle]
-pub extern "C" fn presence_change(
-    image: &[u8],
-    bytes: &[u8],
-    lead: u32,
-    out: &mut [u8],
-) -> Answer
+pub extern "C" fn presence_change(image: &[u8], bytes: &[u8], lead: u32, out: &mut [u8]) -> Answer
     ensures { λ r. ⌜ called r (now (out .exit)) ≡ changeCall (now (image .entry)) (now (bytes .entry)) lead (now (out .entry)) ⌝ }
 {
     let old = State::load(image);
