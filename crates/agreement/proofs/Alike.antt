@@ -1,13 +1,11 @@
--- A change that is offered to all is accepted by all or by none: its verdict rests on the setup and on what is pending. And where none is offered, none
--- is accepted.
-use Prim.Native.Nat.{ℕ, zero, suc, _+_, _-_, _≤_, _<_}
+-- A change that is offered to all is accepted by all or by none: its verdict rests on the setup and on what is pending.
+use Prim.Native.Nat.{ℕ, zero, suc, _≤_, _<_}
 use mathlib.Core.Path.{_≡_, refl, sym, ap, ap₂, _∙_}
 use mathlib.Core.Bool.{Bool, true, false, cond}
 use mathlib.Core.Logic.{⊎-elim}
-use mathlib.Core.List.{List, [], _∷_, _++_}
+use mathlib.Core.List.{List, [], _∷_}
 use native.Mathlib.Omega.{arith}
 use native.Mathlib.Nat.{eq-or-lt-of-le, le-refl}
-use lib.ListN.{length, length-append}
 use Rattle.words.specs.Verdict.{isAccepted, andThen}
 use Rattle.words.specs.declared.Verdict.{Verdict}
 use Rattle.words.proofs.VerdictLaws.{and-then-next}
@@ -23,7 +21,7 @@ use Rattle.presence.specs.declared.State.{State}
 use Rattle.presence.proofs.ValidLaws.{StateFits, fits-valid}
 use Rattle.agreement.specs.Session.{Offer, made, Session, Accepted, RuleFollower, state, Accepts, Common, Bound}
 use Rattle.agreement.specs.Demand.{KeptTo}
-use Rattle.agreement.specs.Existence.{OfferedAlike, CommonWhereAlike, NoChanges}
+use Rattle.agreement.specs.Existence.{OfferedAlike, CommonWhereAlike}
 use Rattle.agreement.proofs.Offers.{change-fits, change-only}
 use Rattle.agreement.proofs.Steps.{held}
 use Rattle.agreement.proofs.Shared.{books-eq}
@@ -104,14 +102,3 @@ module _ (S : Session) (ok : Accepted S) (last : ℕ) (bound : Bound S last) (li
 
 pub common-where-alike : CommonWhereAlike
 common-where-alike S ok last bound lim alike = upto S ok last bound lim alike last (le-refl last)
-
--- ---- no change
-
-no-offer : (before later : List Offer) (o : Offer) → before ++ (o ∷ later) ≡ [] → ⊥
-no-offer before later o e =
-    let l : length before + suc (length later) ≡ 0 = sym (length-append before (o ∷ later)) ∙ ap length e in
-    absurd (omega arith)
-
--- where nobody is offered a change, the changes are common, up to any round
-pub common-without : (S : Session) → NoChanges S → (last : ℕ) → Common S last
-common-without S none last k i i′ o l fi fi′ a = absurd (no-offer (a .before) (a .later) o (sym (a .offered) ∙ none k i))

@@ -9,6 +9,7 @@ pub mod Meets
 pub mod Ledger
 pub mod Demand
 pub mod Alike
+pub mod Without
 pub mod BackInView
 pub mod ScoresCounted
 pub mod Existence
