@@ -5,7 +5,7 @@ use mathlib.Core.List.{List}
 use Prim.Native.Nat.{ℕ}
 use lib.Dec.{eqb}
 use borrow.Author.Tests.{eq-eqb, ne-eqb}
-use Rattle.words.specs.Verdict.{verdict, accepted, isAccepted, single, outcome}
+use Rattle.words.specs.Verdict.{verdict, accepted, isAccepted}
 use Rattle.words.specs.declared.Verdict.{Verdict}
 use Rattle.words.proofs.Truth.{cond-true, cond-false}
 use Rattle.words.proofs.VerdictLaws.{and-then-next, single-ok, single-refused}

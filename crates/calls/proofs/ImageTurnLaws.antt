@@ -1,9 +1,8 @@
 -- A change that is due, from image to image: what is lent then holds the books that rule 8 counts with, and the words that are copied are those of the
 -- setup and of the pending change after the round.
 use mathlib.Core.Path.{_≡_, refl, ap, ap₂, _∙_, sym, subst}
-use mathlib.Core.Bool.{Bool, true, false, cond, _&&_}
-use mathlib.Core.Logic.{⊎-elim}
-use mathlib.Core.List.{List, [], _∷_, _++_, append-nil, append-assoc}
+use mathlib.Core.Bool.{Bool, false, cond, _&&_}
+use mathlib.Core.List.{List, [], _++_, append-nil, append-assoc}
 use Prim.Native.Nat.{ℕ, zero, suc, _+_, _-_, _*_, _<_, _≤_}
 use native.Mathlib.Omega.{arith}
 use lib.Dec.{eqb, leb}
@@ -20,16 +19,16 @@ use Rattle.words.proofs.ByteLaws.{bytes-length, bytes-ext, bytes-join, word-of}
 use Rattle.words.proofs.RunLaws.{Follows, put-run, put-ext}
 use Rattle.setup.specs.Layout.{frontWords, setupWords, setupLength}
 use Rattle.setup.specs.Limits.{fades}
-use Rattle.setup.specs.Setup.{headWord, limitIn, moduleWord, criticalityIn, sizeIn, fadesIn, frontIn, frontOf, limitList, setupOf, setupBytes}
+use Rattle.setup.specs.Setup.{headWord, limitIn, moduleWord, criticalityIn, sizeIn, frontIn, frontOf, limitList, setupOf, setupBytes}
 use Rattle.setup.specs.declared.Setup.{Setup}
 use Rattle.setup.specs.declared.Limits.{Limits}
 use Rattle.setup.specs.declared.Limits.the-variants.{Counts}
+use Rattle.setup.proofs.BoundLaws.{front-most}
 use Rattle.setup.proofs.SetupWords.{stands}
 use Rattle.setup.proofs.FrontLaws.{setup-written}
 use Rattle.accounts.specs.Account.{counts}
 use Rattle.accounts.specs.Round.{accountAt}
 use Rattle.accounts.specs.declared.Account.{Account}
-use Rattle.accounts.specs.declared.Counters.{Counters}
 use Rattle.changes.specs.Pending.{nothing, renewed, countedDown}
 use Rattle.changes.specs.Adjust.{fitted, adjusted, adjustedAt, adjustedOf}
 use Rattle.changes.specs.Books.{turned}
@@ -40,7 +39,7 @@ use Rattle.changes.specs.declared.Books.{Books}
 use Rattle.changes.proofs.AdjustLaws.{adjusted-by}
 use Rattle.changes.proofs.NewWords.{first-word, second-word, later-word}
 use Rattle.changes.proofs.SectionLaws.{change-same}
-use Rattle.changes.proofs.TurnLaws.{changed, unchanged, turned-changed, turned-unchanged, turned-left}
+use Rattle.changes.proofs.TurnLaws.{turned-changed, turned-unchanged, turned-left}
 use Rattle.image.specs.Layout.{leftAt}
 use Rattle.image.specs.Check.{leftIn, checkImage}
 use Rattle.image.specs.Part.{firstOf, secondOf}
@@ -51,7 +50,7 @@ use Rattle.presence.specs.declared.State.{State}
 use Rattle.presence.proofs.ValidLaws.{StateFits}
 use Rattle.presence.proofs.ImageState.{image-state}
 use Rattle.calls.specs.Held.{CountedBy}
-use Rattle.calls.proofs.ModuleCallLaws.{read-front, left-is}
+use Rattle.calls.proofs.ModuleCallLaws.{read-front, left-is, read-length}
 
 -- ---- an adjusted account goes by what is lent of it
 
@@ -165,6 +164,10 @@ less-put s c o at left f =
     ∙ ap₂ (λ (i m : ℕ). putRun (putWord o i left) (at + 1) m (newWord s (record { left = left; p = c .p; r = c .r; criticality = c .criticality }))) e
     (sym (cond-false _ _ (ne-eqb left 0 f)))
 
+-- as many new words as before, while a change is pending still
+pub still-new : (n left : ℕ) → 2 ≤ left → newCount n (left - 1) ≡ n + 2
+still-new n left h = cond-false _ _ (ne-eqb (left - 1) 0 (λ z. omega arith))
+
 -- where nothing is left, one word is written
 none-put : (s : Setup) (c : Pending) (o : List ℕ) (at : ℕ) → c .left ≡ 0 → putRuns o at (changeRuns s c) ≡ putWord o at 0
 unfolding putRuns putRun
@@ -222,9 +225,22 @@ module _ (s : List ℕ) (ok : checkImage s .number ≡ 0) where
   some-new : (st .pending .left ≡ 0 → ⊥) → newCount size (st .pending .left) ≡ size + 2
   some-new f = cond-false _ _ (ne-eqb (st .pending .left) 0 f)
 
+  -- sizes of an accepted image, and the room of its new words
+  pub sizes : {front n : ℕ} → n ≡ size → front ≡ start → (front ≤ 6) × (n ≤ 16)
+  sizes en ef = (omega (arith, ef, front-most (fades (st .setup .limits))), omega (arith, en, fits .setup .most))
+
+  pub setup-room : {front n : ℕ} → n ≡ size → front ≡ start → setupWords front n * 4 ≤ length s
+  setup-room en ef = omega (arith, read-length s ok, ef, en)
+
+  pub new-room : {front n left at : ℕ} → n ≡ size → front ≡ start → left ≡ st .pending .left → at ≡ leftAt front n → (left ≡ 0 → ⊥) → (at + 1 + (n + 2)) * 4 ≤ length s
+  new-room en ef el ea f = omega (arith, read-length s ok, some-new (λ z. f (el ∙ z)), ea, en, ef)
+
   -- a change that is pending is one of a setup that counts
   counting : 0 < st .pending .left → fades (st .setup .limits) ≡ false
   counting pos = fits .pending .counting pos
+
+  pub three-front : {front left : ℕ} → front ≡ start → left ≡ st .pending .left → left ≡ 1 → front ≡ 3
+  three-front ef el due = ef ∙ ap frontWords (counting (omega (arith, el)))
 
   -- the change that is pending, by its words
   by-words : ℕ → Pending
@@ -288,7 +304,7 @@ module _ (s : List ℕ) (ok : checkImage s .number ≡ 0) where
           → o₂ ≡ putRun o₁ 1 (n + 2) (λ j. wordAt s (at + 1 + j)) → o₂ ≡ setupBytes (turned books .setup) ++ drop (setupLength front n) o
       new-copied {at} due room ea e₁ e₂ =
           let pos : 0 < st .pending .left = omega (arith, el) in
-          let three : front ≡ 3 = ef ∙ ap frontWords (counting pos) in
+          let three : front ≡ 3 = three-front ef el due in
           let long : (n + 2 + 1) * 4 ≡ setupLength front n = omega (arith, three) in
           let place : at ≡ leftAt start size = ea ∙ ap₂ leftAt ef en in
           let words : bytesOf (n + 2) (λ j. wordAt s (at + 1 + j)) ≡ bytesOf (size + 2) (newWord (st .setup) (st .pending)) =

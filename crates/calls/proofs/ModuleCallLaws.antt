@@ -75,6 +75,13 @@ unfolding stateOf
 read-length s z =
     image-pass s z .size ∙ read-sized s (leftIn s) ∙ ap (λ (left : ℕ). imageLength (frontOf (setupOf s)) (setupOf s .n) left) (sym (left-is s))
 
+-- how long the image after a step is
+pub after-long : {b : Bool} {n front left rest long : ℕ} (s : List ℕ) → b ≡ fadesIn (wordAt s) → n ≡ sizeIn (wordAt s 0) → front ≡ frontWords b → left ≡ stateOf s .pending .left
+    → rest ≡ left - 1 → long ≡ imageLength front n rest → long ≡ stateLength (stateOf s) (stateOf s .pending .left - 1)
+unfolding stateOf
+after-long s eb en ef el er e =
+    e ∙ (λ i. imageLength ((ef ∙ ap frontWords eb) i) (en i) ((er ∙ ap (λ (x : ℕ). x - 1) el) i)) ∙ read-sized s (stateOf s .pending .left - 1)
+
 -- ---- the word to put on the bus
 
 -- The word that a step hands out is told by the state that it leaves: a marked module delays its syndrome once.

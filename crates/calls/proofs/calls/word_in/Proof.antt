@@ -1,6 +1,6 @@
 -- The mark of the module itself, and the two syndromes.
 use native.Mathlib.Omega.{arith}
-use mathlib.Core.Path.{_≡_, _∙_, ap, ap₂, sym}
+use mathlib.Core.Path.{_≡_, _∙_, ap}
 use mathlib.Core.Bool.{Bool}
 use mathlib.Core.List.{List}
 use Prim.Native.Nat.{ℕ, _≤_}
@@ -8,7 +8,7 @@ use lib.ListN.{length}
 use Rattle.words.specs.Word.{wordAt}
 use Rattle.setup.specs.Layout.{frontWords}
 use Rattle.setup.specs.Setup.{sizeIn, fadesIn, frontIn}
-use Rattle.image.specs.Layout.{imageLength}
+use Rattle.image.specs.Layout.{beforeLeft}
 use Rattle.image.proofs.TailLaws.{ImageFits, image-pass}
 use Rattle.calls.proofs.ModuleCallLaws.{own-in-range, word-made}
 use borrow.Author.Needs.{needs}
@@ -21,8 +21,8 @@ front-by s f e = e ∙ ap frontWords f
 
 -- what reading its sections asks
 asked : {front n : ℕ} (s : List ℕ) → ImageFits s → front ≡ frontIn (wordAt s) → front ≤ 6 → n ≡ sizeIn (wordAt s 0)
-    → (front ≤ 6) × (n ≤ 16) × (length s ≡ imageLength front n)
-asked s f e most n = (most, omega (arith, f .front .most), f .size ∙ ap₂ imageLength (sym e) (sym n))
+    → (front ≤ 6) × (n ≤ 16) × (beforeLeft front n ≤ length s)
+asked s f e most n = (most, omega (arith, f .front .most), omega (arith, f .size, e, n))
 
 size-at-requires : tie.Need-size-at-requires
 size-at-requires c κs = image-pass _ (c .before .pre) .front .room

@@ -1,17 +1,16 @@
--- What is lent holds the state; the parts are its round, and what they write is the next image.
+-- What is lent holds the state and the books; the parts are its round, and what they write is the next image.
 use native.Mathlib.Omega.{arith}
 use Prim.Native.Nat.{ℕ}
-use mathlib.Core.Path.{ap, ap₂, _∙_, sym}
+use mathlib.Core.Path.{ap, _∙_, sym}
 use Rattle.words.proofs.ArrayLaws.{array-none}
-use Rattle.setup.specs.Layout.{frontWords, setupWords}
+use Rattle.setup.specs.Layout.{frontWords}
 use Rattle.rules.specs.Hearing.{readingOf}
-use Rattle.image.specs.Layout.{imageLength}
 use Rattle.presence.specs.Step.{judgementFor, afterRound}
 use Rattle.presence.specs.Image.{imageOf, stateOf}
 use Rattle.rules.specs.declared.Judgement.{Judgement}
 use Rattle.image.proofs.SectionLaws.{accounts-written}
 use Rattle.presence.proofs.StateRoundLaws.{place-small}
-use Rattle.calls.proofs.ImageStepLaws.{fits, most, length-is, place-is, own-place, small-size, small-view, filled-rows, filled-counters, counted-range, judged-held, small-health, small-next, runs-next, image-next}
+use Rattle.calls.proofs.ImageStepLaws.{fits, place-is, own-place, small-size, small-view, filled-rows, filled-counters, counted-range, judged-held, small-health, small-next, image-next}
 use borrow.Author.Needs.{needs}
 use Rattle.calls.proofs.step.played.Statement.{statement}
 use Rattle.calls.proofs.step.played.Tie as tie
@@ -41,72 +40,69 @@ judged-read-requires c κs =
 
 kept-requires : tie.Need-kept-requires
 kept-requires c κs =
-    let s = c .before .before .before .before .before .before .before .before .before .before .before .before .before in
-    let a = s .pre .0 in
+    let a = c .before .before .before .before .before .before .before .before .before .before .before .before .before .pre .0 in
     let g = judged-held _ (a .0) _ _ (a .3) (a .1) (a .2) (c .before .before .before .before .before .before .before .before .before .front-words .ensures .0) (c .before .before .before .before .before .before .before .place-in .ensures) (c .before .before .before .before .before .before .pick .ensures) in
     let e = c .before .before .before .judged-read .ensures .2 ∙ ap (λ (j : Judgement). j .health) g in
-    let x = filled-counters _ (a .0) (a .3) (a .1) (a .2) in (
+    let x = filled-counters _ (a .0) (a .4) (a .1) in (
       (small-size _ (a .0) (a .3) (a .1) (a .2), small-health _ (a .0) _ _ (a .3) (a .1) (a .2) e, x .0, x .1, x .2, x .3),
-      counted-range _ (a .0) (a .3) (a .1) (a .2),
+      counted-range _ (a .0) (a .4) (a .1),
     )
 
-setup-words-requires : tie.Need-setup-words-requires
-setup-words-requires c κs =
-    let a = c .before .before .before .before .before .before .before .before .before .before .before .before .before .before .pre .0 in
-    (c .before .before .before .before .before .before .before .before .before .before .front-words .ensures .2, omega (arith, most _ (a .0), a .1))
-
-copy-words-requires : tie.Need-copy-words-requires
-copy-words-requires c κs =
-    let s = c .before .before .before .before .before .before .before .before .before .before .before .before .before .before .before .before in
+save-setup-requires : tie.Need-save-setup-requires
+save-setup-requires c κs =
+    let s = c .before .before .before .before .before .before .before .before .before .before .before .before .before .before .before in
     let a = s .pre .0 in
-    let e = c .before .setup-words .ensures in
-    let f = c .before .before .before .before .before .before .before .before .before .before .before .before .front-words .ensures .0 in
-    (omega (arith, length-is _ (a .0), a .1, f, ap frontWords (a .2)), omega (arith, s .pre .1 .2, f))
+    let f = c .before .before .before .before .before .before .before .before .before .before .before .front-words .ensures .0 in
+    (a .0, a .1, f ∙ ap frontWords (a .2), a .3 .left, omega (arith, s .pre .1 .2, f))
 
 save-sections-requires : tie.Need-save-sections-requires
 save-sections-requires c κs =
-    let s = c .before .before .before .before .before .before .before .before .before .before .before .before .before .before .before .before .before .before .before .before .before in
+    let s = c .before .before .before .before .before .before .before .before .before .before .before .before .before .before .before .before .before .before .before .before in
     let a = s .pre .0 in
-    let r = c .before .before .before .before .before .before .before .before .before .before .before .judged-read .ensures in
-    let t = c .before .before .before .before .before .before .before .kept .ensures in
-    let g = judged-held _ (a .0) _ _ (a .3) (a .1) (a .2) (c .before .before .before .before .before .before .before .before .before .before .before .before .before .before .before .before .before .front-words .ensures .0) (c .before .before .before .before .before .before .before .before .before .before .before .before .before .before .before .place-in .ensures) (c .before .before .before .before .before .before .before .before .before .before .before .before .before .before .pick .ensures) in
-    let m = small-next _ (a .0) _ _ (a .3) (a .1) (a .2) (r .2 ∙ ap (λ (j : Judgement). j .health) g) (r .3 ∙ ap (λ (j : Judgement). j .syndrome) g) (r .0) (r .1) (t .0) (t .1) (t .2) (t .3) in
-    ((small-size _ (a .0) (a .3) (a .1) (a .2), c .before .before .before .before .copy-words .kept .1 .1 .0 ∙ s .pre .1 .2, m .0 .0, m .0 .1, m .0 .2, m .0 .3), m .1 .0)
+    let r = c .before .before .before .before .before .before .before .before .before .before .judged-read .ensures in
+    let t = c .before .before .before .before .before .before .kept .ensures in
+    let g = judged-held _ (a .0) _ _ (a .3) (a .1) (a .2) (c .before .before .before .before .before .before .before .before .before .before .before .before .before .before .before .before .front-words .ensures .0) (c .before .before .before .before .before .before .before .before .before .before .before .before .before .before .place-in .ensures) (c .before .before .before .before .before .before .before .before .before .before .before .before .before .pick .ensures) in
+    let m = small-next _ (a .0) _ _ (a .3) (a .1) (a .2) (a .4) (r .2 ∙ ap (λ (j : Judgement). j .health) g) (r .3 ∙ ap (λ (j : Judgement). j .syndrome) g) (r .0) (r .1) (t .0) (t .1) (t .2) (t .3) in
+    let l = c .before .before .before .before .save-setup .kept .1 .1 .1 .1 .0 ∙ s .pre .1 .2 in
+    ((small-size _ (a .0) (a .3) (a .1) (a .2), omega (arith, l), m .0 .0, m .0 .1, m .0 .2, m .0 .3), m .1 .0)
 
 save-accounts-requires : tie.Need-save-accounts-requires
 save-accounts-requires c κs =
-    let s = c .before .before .before .before .before .before .before .before .before .before .before .before .before .before .before .before .before .before .before .before .before .before .before .before .before .before .before .before in
+    let s = c .before .before .before .before .before .before .before .before .before .before .before .before .before .before .before .before .before .before .before .before .before .before .before .before .before .before .before in
     let a = s .pre .0 in
-    let r = c .before .before .before .before .before .before .before .before .before .before .before .before .before .before .before .before .before .before .judged-read .ensures in
-    let t = c .before .before .before .before .before .before .before .before .before .before .before .before .before .before .kept .ensures in
-    let g = judged-held _ (a .0) _ _ (a .3) (a .1) (a .2) (c .before .before .before .before .before .before .before .before .before .before .before .before .before .before .before .before .before .before .before .before .before .before .before .before .front-words .ensures .0) (c .before .before .before .before .before .before .before .before .before .before .before .before .before .before .before .before .before .before .before .before .before .before .place-in .ensures) (c .before .before .before .before .before .before .before .before .before .before .before .before .before .before .before .before .before .before .before .before .before .pick .ensures) in
-    let m = small-next _ (a .0) _ _ (a .3) (a .1) (a .2) (r .2 ∙ ap (λ (j : Judgement). j .health) g) (r .3 ∙ ap (λ (j : Judgement). j .syndrome) g) (r .0) (r .1) (t .0) (t .1) (t .2) (t .3) in (
-      small-size _ (a .0) (a .3) (a .1) (a .2),
-      c .before .before .before .before .before .before .save-sections .kept .1 .1 .1 .1 .1 .1 .1 .1 .0 ∙ c .before .before .before .before .before .before .before .before .before .before .before .copy-words .kept .1 .1 .0 ∙ s .pre .1 .2,
-      m .1 .1,
-    )
+    let r = c .before .before .before .before .before .before .before .before .before .before .before .before .before .before .before .before .before .judged-read .ensures in
+    let t = c .before .before .before .before .before .before .before .before .before .before .before .before .before .kept .ensures in
+    let g = judged-held _ (a .0) _ _ (a .3) (a .1) (a .2) (c .before .before .before .before .before .before .before .before .before .before .before .before .before .before .before .before .before .before .before .before .before .before .before .front-words .ensures .0) (c .before .before .before .before .before .before .before .before .before .before .before .before .before .before .before .before .before .before .before .before .before .place-in .ensures) (c .before .before .before .before .before .before .before .before .before .before .before .before .before .before .before .before .before .before .before .before .pick .ensures) in
+    let m = small-next _ (a .0) _ _ (a .3) (a .1) (a .2) (a .4) (r .2 ∙ ap (λ (j : Judgement). j .health) g) (r .3 ∙ ap (λ (j : Judgement). j .syndrome) g) (r .0) (r .1) (t .0) (t .1) (t .2) (t .3) in
+    let l = c .before .before .before .before .before .before .save-sections .kept .1 .1 .1 .1 .1 .1 .1 .1 .0 ∙ c .before .before .before .before .before .before .before .before .before .before .before .save-setup .kept .1 .1 .1 .1 .0 ∙ s .pre .1 .2 in
+    (small-size _ (a .0) (a .3) (a .1) (a .2), omega (arith, l), m .1 .1)
+
+save-pending-requires : tie.Need-save-pending-requires
+save-pending-requires c κs =
+    let s = c .before .before .before .before .before .before .before .before .before .before .before .before .before .before .before .before .before .before .before .before .before .before .before .before .before .before .before .before .before .before .before in
+    let a = s .pre .0 in
+    let f = c .before .before .before .before .before .before .before .before .before .before .before .before .before .before .before .before .before .before .before .before .before .before .before .before .before .before .before .front-words .ensures .0 in
+    let l = c .before .before .before .save-accounts .kept .1 .1 .1 .1 .1 .0 ∙ c .before .before .before .before .before .before .before .before .before .before .save-sections .kept .1 .1 .1 .1 .1 .1 .1 .1 .0 ∙ c .before .before .before .before .before .before .before .before .before .before .before .before .before .before .before .save-setup .kept .1 .1 .1 .1 .0 ∙ s .pre .1 .2 in
+    (a .0, a .1, f ∙ ap frontWords (a .2), a .3 .left, omega (arith, l, f))
 
 returns : tie.Need-returns
 returns c =
-    let s = c .before .before .before .before .before .before .before .before .before .before .before .before .before .before .before .before .before .before .before .before .before .before .before .before .before .before .before .before .before .before .before in
+    let s = c .before .before .before .before .before .before .before .before .before .before .before .before .before .before .before .before .before .before .before .before .before .before .before .before .before .before .before .before .before .before .before .before .before .before in
     let a = s .pre .0 in
-    let r = c .before .before .before .before .before .before .before .before .before .before .before .before .before .before .before .before .before .before .before .before .before .judged-read .ensures in
-    let t = c .before .before .before .before .before .before .before .before .before .before .before .before .before .before .before .before .before .kept .ensures in
-    let f = c .before .before .before .before .before .before .before .before .before .before .before .before .before .before .before .before .before .before .before .before .before .before .before .before .before .before .before .front-words .ensures .0 in
-    let g = judged-held _ (a .0) _ _ (a .3) (a .1) (a .2) f (c .before .before .before .before .before .before .before .before .before .before .before .before .before .before .before .before .before .before .before .before .before .before .before .before .before .place-in .ensures) (c .before .before .before .before .before .before .before .before .before .before .before .before .before .before .before .before .before .before .before .before .before .before .before .before .pick .ensures) in
+    let r = c .before .before .before .before .before .before .before .before .before .before .before .before .before .before .before .before .before .before .before .before .before .before .before .before .judged-read .ensures in
+    let t = c .before .before .before .before .before .before .before .before .before .before .before .before .before .before .before .before .before .before .before .before .kept .ensures in
+    let f = c .before .before .before .before .before .before .before .before .before .before .before .before .before .before .before .before .before .before .before .before .before .before .before .before .before .before .before .before .before .before .front-words .ensures .0 in
+    let g = judged-held _ (a .0) _ _ (a .3) (a .1) (a .2) f (c .before .before .before .before .before .before .before .before .before .before .before .before .before .before .before .before .before .before .before .before .before .before .before .before .before .before .before .before .place-in .ensures) (c .before .before .before .before .before .before .before .before .before .before .before .before .before .before .before .before .before .before .before .before .before .before .before .before .before .before .before .pick .ensures) in
     let e = r .2 ∙ ap (λ (j : Judgement). j .health) g in
     let y = r .3 ∙ ap (λ (j : Judgement). j .syndrome) g in
     let st = stateOf (s .args .image .now) in
     let read = s .args .read .now in
-    let words = c .before .before .before .before .before .before .before .before .before .before .before .before .before .before .before .before .setup-words .ensures ∙ ap₂ setupWords (f ∙ ap frontWords (a .2)) (a .1) in
-    let long = s .pre .1 .2 ∙ ap₂ imageLength (ap frontWords (a .2)) (a .1) in
-    let both = accounts-written (s .args .fades) (s .args .n) (s .args .part .own) (c .before .before .before .before .before .before .before .before .before .before .before .before .before .before .before .before .before .kept .result)
-    (record { heard = c .before .before .before .before .before .before .before .before .before .before .before .before .before .before .before .before .before .before .before .before .before .judged-read .result .heard; rows = c .before .before .before .before .before .before .before .before .before .before .before .before .before .before .before .before .before .before .before .before .before .judged-read .last .1 .1 .1 .1 .1 .1 .1 .1 .1 .0 }) (c .before .before .before .before .before .before .before .before .before .before .before .before .before .before .before .before .before .before .before .before .before .judged-read .result .syndrome) (s .args .part .latest) _ _ _ _
-    (c .before .before .before .before .before .before .before .before .before .save-sections .ensures) (c .before .before .save-accounts .ensures)
-    in
-    let written = runs-next _ (a .0) _ _ (a .3) (a .1) (a .2) e y (r .0) (r .1) (t .0) (t .1) (t .2) (t .3) _ both in (
+    let both = accounts-written (s .args .fades) (s .args .n) (s .args .part .own) (c .before .before .before .before .before .before .before .before .before .before .before .before .before .before .before .before .before .before .before .before .kept .result)
+    (record { heard = c .before .before .before .before .before .before .before .before .before .before .before .before .before .before .before .before .before .before .before .before .before .before .before .before .judged-read .result .heard; rows = c .before .before .before .before .before .before .before .before .before .before .before .before .before .before .before .before .before .before .before .before .before .before .before .before .judged-read .last .1 .1 .1 .1 .1 .1 .1 .1 .1 .0 }) (c .before .before .before .before .before .before .before .before .before .before .before .before .before .before .before .before .before .before .before .before .before .before .before .before .judged-read .result .syndrome) (s .args .part .latest) _ _ _ _
+    (c .before .before .before .before .before .before .before .before .before .before .before .before .before .save-sections .ensures) (c .before .before .before .before .before .before .save-accounts .ensures)
+    in (
       e ∙ ap (λ (i : ℕ). judgementFor st (readingOf i read (s .args .controller)) .health) (sym (a .1)),
-      image-next _ (a .0) _ _ (s .args .out .now) (λ i. omega (arith, c .before .before .before .before .before .before .before .before .before .before .before .before .before .before .before .before .before .before .before .before .before .before .before .before .before .before .before .before .before .before .shared-slice-known .given i)) words long (c .before .before .before .before .before .before .before .before .before .before .before .before .before .before .copy-words .ensures) written
+      image-next _ (a .0) _ _ (a .3) (a .1) (a .2) (a .4) e y (r .0) (r .1) (t .0) (t .1) (t .2) (t .3) (s .args .out .now) f (s .pre .1 .2) (c .before .before .before .before .before .before .before .before .before .before .before .before .before .before .before .before .before .before .save-setup .ensures) both (c .before .before .save-pending .ensures)
           ∙ ap (λ (i : ℕ). imageOf (afterRound st (readingOf i read (s .args .controller)))) (sym (a .1)),
     )
 
@@ -120,9 +116,9 @@ played-spec =
     (λ c κs. search needs)
     judged-read-requires
     kept-requires
-    setup-words-requires
-    copy-words-requires
+    save-setup-requires
     save-sections-requires
     save-accounts-requires
+    save-pending-requires
     (λ c. search needs)
     returns)
