@@ -6,6 +6,7 @@ pub mod HostLaws
 pub mod WithPageLaws
 pub mod PageRefusals
 pub mod PageCallLaws
+pub mod FoundLaws
 pub mod OpenLaws
 pub mod PageStepLaws
 pub mod ChargeLaws

@@ -16,7 +16,7 @@ use Rattle.setup.specs.Setup.{sizeIn, fadesIn, frontOf, setupOf}
 use Rattle.setup.specs.declared.Setup.{Setup}
 use Rattle.setup.specs.Check.{checkSetup}
 use Rattle.setup.proofs.SetupCheckLaws.{BytesFit, setup-pass}
-use Rattle.image.specs.Layout.{ownAt, imageLength}
+use Rattle.image.specs.Layout.{ownAt, beforeLeft}
 use Rattle.image.specs.Words.{viewIn}
 use Rattle.presence.specs.Valid.{Valid}
 use Rattle.presence.specs.Opening.{fresh, blank, openOf}
@@ -131,10 +131,10 @@ module _ (setup : List ℕ) (own : ℕ) where
         front-is : front ≡ frontOf (opened .state .setup)
         front-is = at ∙ ap frontWords fades ∙ sym (read-front setup) ∙ ap frontOf (sym setup-is)
 
-        pub in-fresh : (n ≤ 16) × (length b ≡ imageLength front n)
+        pub in-fresh : (n ≤ 16) × (beforeLeft front n ≤ length b)
         in-fresh =
             let f = fits .front .most in
-            (omega arith, ap length wrote-image ∙ image-length (opened .state) fresh-valid ∙ ap₂ imageLength (sym front-is) (sym size-is))
+            (omega arith, omega (arith, ap length wrote-image, image-length (opened .state) fresh-valid, front-is, size-is))
 
         pub open-paged : (page : List ℕ) {w : ℕ} {p : List ℕ} → length page ≡ 64 → w ≡ viewIn (wordAt b (ownAt front n)) → p ≡ pageOpened n w
             → pageCalled (called r b) p ≡ pageOpenCall setup own out page

@@ -2,7 +2,7 @@
 use mathlib.Core.Path.{_≡_, ap, _∙_, sym}
 use mathlib.Core.Bool.{false}
 use mathlib.Core.List.{List, [], _++_}
-use Prim.Native.Nat.{ℕ}
+use Prim.Native.Nat.{ℕ, _-_}
 use native.Mathlib.Omega.{arith}
 use lib.ListN.{length}
 use borrow.Author.Tests.{ne-eqb}
@@ -12,11 +12,11 @@ use Rattle.words.proofs.ByteLaws.{word-first}
 use Rattle.setup.specs.Limits.{fades}
 use Rattle.setup.specs.Setup.{headWord, sizeIn, fadesIn, frontOf}
 use Rattle.setup.proofs.BoundLaws.{fades-back}
-use Rattle.image.specs.Layout.{ownAt, imageLength}
+use Rattle.image.specs.Layout.{ownAt}
 use Rattle.image.specs.Words.{viewIn}
 use Rattle.image.proofs.SingleWords.{view-back}
 use Rattle.presence.specs.Valid.{Valid}
-use Rattle.presence.specs.Image.{imageOf, roomFor}
+use Rattle.presence.specs.Image.{imageOf, stateLength, roomFor, roomAfter}
 use Rattle.calls.specs.Calls.{Called, called, refusedCall}
 use Rattle.calls.specs.declared.Answer.{Answer}
 use Rattle.presence.specs.declared.State.{State}
@@ -49,13 +49,17 @@ module _ (st : State) (v : Valid st) where
       let s = valid-small st v in
       ap viewIn (stands-bytes st .own) ∙ view-back (st .own) (st .counters .view) (s .own) (s .view)
 
-  pub image-length : length (imageOf st) ≡ imageLength (frontOf (st .setup)) (st .setup .n)
+  pub image-length : length (imageOf st) ≡ stateLength st (st .pending .left)
   image-length = length-of st
 
 -- an output of no bytes has no room
+none : (st : State) (left : ℕ) → 0 ≡ stateLength st left → ⊥
+none st left e = omega arith
+
 pub no-room : (st : State) → roomFor st [] ≡ false
 unfolding roomFor
-no-room st = ne-eqb 0 (imageLength (frontOf (st .setup)) (st .setup .n)) some
-  where
-    some : 0 ≡ imageLength (frontOf (st .setup)) (st .setup .n) → ⊥
-    some e = omega arith
+no-room st = ne-eqb 0 (stateLength st (st .pending .left)) (none st (st .pending .left))
+
+pub no-room-after : (st : State) → roomAfter st [] ≡ false
+unfolding roomAfter
+no-room-after st = ne-eqb 0 (stateLength st (st .pending .left - 1)) (none st (st .pending .left - 1))

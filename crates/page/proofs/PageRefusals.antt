@@ -1,5 +1,5 @@
 -- The answers of the calls with a page in one chain, from those of the calls without one; a refused call leaves what it was lent.
-use Prim.Native.Nat.{ℕ, _*_, _^_, _≤_, _<_}
+use Prim.Native.Nat.{ℕ, _-_, _*_, _^_, _≤_, _<_}
 use mathlib.Core.Path.{_≡_, refl, sym, ap, _∙_, subst}
 use mathlib.Core.Bool.{Bool, true, false, cond, not, _&&_, _||_}
 use mathlib.Core.Logic.{_≢_, ⊎-elim}
@@ -7,30 +7,32 @@ use mathlib.Core.List.{List, [], _∷_}
 use lib.ListN.{length}
 use lib.Dec.{eqb, ltb}
 use borrow.Author.Tests.{eq-eqb, eqb-true, ne-eqb, lt-ltb}
+use Rattle.words.specs.Word.{wordAt}
 use Rattle.words.specs.Bits.{full}
 use Rattle.words.proofs.Truth.{which, clash, cond-true, cond-false, and-true}
 use Rattle.words.specs.Verdict.{verdict, accepted, isAccepted, between, single, andThen}
-use Rattle.setup.specs.Setup.{setupOf}
+use Rattle.setup.specs.Setup.{frontIn, setupOf}
 use Rattle.setup.specs.Check.{checkSetup}
 use Rattle.words.specs.declared.Verdict.{Verdict}
 use Rattle.words.proofs.VerdictLaws.{Passed, between-of, tests-ok}
 use Rattle.rules.specs.Hearing.{readingOf, causesOf}
-use Rattle.image.specs.Check.{imageLengthIn, checkImage}
+use Rattle.image.specs.Layout.{imageLength}
+use Rattle.image.specs.Check.{leftIn, checkImage}
 use Rattle.presence.specs.Opening.{fresh, openOf}
-use Rattle.presence.specs.Step.{judgementFor, afterRound, acceptedStep, stepOf}
+use Rattle.presence.specs.Step.{judgementFor, foundView, afterRound, acceptedStep, stepOf}
 use Rattle.presence.specs.Image.{stateOf}
 use Rattle.calls.specs.Calls.{Called, refusedCall, wrote, openCall, stepCall}
 use Rattle.calls.specs.Refusals.{sizeOf, hasRoom, answering}
 use Rattle.rules.specs.declared.Reading.{Reading}
 use Rattle.presence.specs.declared.State.{State}
 use Rattle.presence.specs.declared.Stepped.{Stepped}
-use Rattle.calls.proofs.CallAnswers.{open-passed, open-keeps, step-passed, step-keeps, save-keeps}
+use Rattle.calls.proofs.CallAnswers.{open-passed, open-keeps, step-passed, step-keeps, change-keeps, save-keeps}
 use Rattle.presence.proofs.StateStepLaws.{step-accepted as step-of-struct, open-fresh}
 use Rattle.calls.proofs.Refusals.{refusals as without-page, both-accept, two-answers, open-verdict as open-without, step-verdict as step-without}
 use Rattle.page.specs.Page.{isPage, startsWord, pageOpened, pageStepped, pageWritten}
 use Rattle.page.specs.Host.{tell, written, wrotePage, writeCall}
 use Rattle.page.specs.Calls.{PageCalled, pageCalled, withPage, pageOpenCall, pageStepCall}
-use Rattle.page.specs.Refusals.{pageOpenVerdict, pageStepVerdict, pageAnswering, Refused, opening, step, saving, page-opening, page-step, page-of-opening, page-of-step, write, PageRefusals}
+use Rattle.page.specs.Refusals.{pageOpenVerdict, pageStepVerdict, pageAnswering, Refused, opening, step, change, saving, page-opening, page-step, page-of-opening, page-of-step, write, PageRefusals}
 use Rattle.page.proofs.WithPageLaws.{with-zero}
 
 module _ (health : ℕ) (st : State) (out page next : List ℕ) where
@@ -105,11 +107,11 @@ module _ (setup : List ℕ) (own : ℕ) (out page : List ℕ) where
 
   open-verdict : pageOpenVerdict setup own out page
       ≡ cond (isAccepted (checkSetup setup))
-      (cond (between 1 (sizeOf setup) own) (cond (hasRoom setup out && isPage page) accepted (verdict 9 0)) (verdict 7 0)) (checkSetup setup)
+      (cond (between 1 (sizeOf setup) own) (cond (hasRoom setup 0 out && isPage page) accepted (verdict 9 0)) (verdict 7 0)) (checkSetup setup)
   unfolding pageOpenVerdict andThen
   open-verdict =
       ap (λ (v : Verdict). cond (isAccepted (checkSetup setup)) v (checkSetup setup))
-      (two-answers 7 9 refl (between 1 (sizeOf setup) own) (hasRoom setup out && isPage page))
+      (two-answers 7 9 refl (between 1 (sizeOf setup) own) (hasRoom setup 0 out && isPage page))
 
   opens : pageOpenCall setup own out page
       ≡ pageAnswering (pageOpenVerdict setup own out page) 0 (fresh (setupOf setup) own) out (pageOpened (opened .setup .n) (opened .counters .view)) page
@@ -120,7 +122,7 @@ module _ (setup : List ℕ) (own : ℕ) (out page : List ℕ) where
       with-by 0 (fresh (setupOf setup) own) out page (pageOpened (opened .setup .n) (opened .counters .view)) (eqb (c .answer .number) 0) (isPage page) c)
       (without-page .opening setup own out ∙ ap (λ (v : Verdict). answering v 0 (fresh (setupOf setup) own) out) (open-without setup own out))
       ∙ open-chain 0 (fresh (setupOf setup) own) out page _ (checkSetup setup) (isAccepted (checkSetup setup)) (between 1 (sizeOf setup) own)
-      (hasRoom setup out) (isPage page) refl
+      (hasRoom setup 0 out) (isPage page) refl
       ∙ ap (λ (v : Verdict). pageAnswering v 0 (fresh (setupOf setup) own) out (pageOpened (opened .setup .n) (opened .counters .view)) page) (sym open-verdict)
 
   -- the module that is opened is fresh
@@ -150,19 +152,19 @@ module _ (image read : List ℕ) (controller : ℕ) (out page : List ℕ) where
   this = readingOf (sizeOf image) read controller
 
   abbrev next : Stepped → List ℕ
-  next t = pageStepped (st .setup .n) (st .counters .view) (t .health) (t .state .counters .view) (t .causes) page
+  next t = pageStepped (st .setup .n) (foundView st) (t .health) (t .state .counters .view) (t .causes) page
 
   abbrev v : Verdict
   v = pageStepVerdict image read controller out page
 
   step-verdict : v
       ≡ cond (isAccepted (checkImage image))
-      (cond (hasRoom image out && eqb (length read) (sizeOf image * 4) && isPage page) (cond (ltb controller (2 ^ sizeOf image)) accepted (verdict 10 0))
+      (cond (hasRoom image (leftIn image - 1) out && eqb (length read) (sizeOf image * 4) && isPage page) (cond (ltb controller (2 ^ sizeOf image)) accepted (verdict 10 0))
       (verdict 9 0)) (checkImage image)
   unfolding pageStepVerdict andThen
   step-verdict =
       ap (λ (v : Verdict). cond (isAccepted (checkImage image)) v (checkImage image))
-      (two-answers 9 10 refl (hasRoom image out && eqb (length read) (sizeOf image * 4) && isPage page) (ltb controller (2 ^ sizeOf image)))
+      (two-answers 9 10 refl (hasRoom image (leftIn image - 1) out && eqb (length read) (sizeOf image * 4) && isPage page) (ltb controller (2 ^ sizeOf image)))
 
   steps : pageStepCall image read controller out page
       ≡ pageAnswering v (judgementFor st this .health) (afterRound st this) out (next (stepOf st read controller)) page
@@ -174,7 +176,7 @@ module _ (image read : List ℕ) (controller : ℕ) (out page : List ℕ) where
       (without-page .step image read controller out
       ∙ ap (λ (v : Verdict). answering v (judgementFor st this .health) (afterRound st this) out) (step-without image read controller out))
       ∙ step-chain (judgementFor st this .health) (afterRound st this) out page _ (checkImage image) (isAccepted (checkImage image))
-      (hasRoom image out) (eqb (length read) (sizeOf image * 4)) (isPage page) (ltb controller (2 ^ sizeOf image)) refl
+      (hasRoom image (leftIn image - 1) out) (eqb (length read) (sizeOf image * 4)) (isPage page) (ltb controller (2 ^ sizeOf image)) refl
       ∙ ap (λ (v : Verdict). pageAnswering v (judgementFor st this .health) (afterRound st this) out (next (stepOf st read controller)) page) (sym step-verdict)
 
   -- the step is an accepted one of the struct
@@ -189,7 +191,7 @@ module _ (image read : List ℕ) (controller : ℕ) (out page : List ℕ) where
 
   step-is : pageStepCall image read controller out page
       ≡ pageAnswering v (judgementFor st this .health) (afterRound st this) out
-      (pageStepped (sizeOf image) (st .counters .view) (judgementFor st this .health) (afterRound st this .counters .view)
+      (pageStepped (sizeOf image) (foundView st) (judgementFor st this .health) (afterRound st this .counters .view)
       (causesOf (sizeOf image) read controller) page) page
   unfolding acceptedStep stateOf setupOf
   step-is =
@@ -198,29 +200,29 @@ module _ (image read : List ℕ) (controller : ℕ) (out page : List ℕ) where
 -- ---- accepted calls
 
 pub open-accepted : (setup : List ℕ) (own : ℕ) (out page : List ℕ) → checkSetup setup .number ≡ 0 → 1 ≤ own → own ≤ sizeOf setup
-    → length out ≡ imageLengthIn setup → length page ≡ 64 → pageOpenCall setup own out page .call .answer .number ≡ 0
+    → length out ≡ imageLength (frontIn (wordAt setup)) (sizeOf setup) 0 → length page ≡ 64 → pageOpenCall setup own out page .call .answer .number ≡ 0
 unfolding pageOpenVerdict Passed
 open-accepted setup own out page z h l room long =
     let e : pageOpenVerdict setup own out page ≡ accepted =
     both-accept (checkSetup setup) _ z
-    (tests-ok (single (between 1 (sizeOf setup) own) 7 0 ∷ single (hasRoom setup out && isPage page) 9 0 ∷ [])
-    (λ _ _. between-of 1 (sizeOf setup) own h l, (λ _ _. and-true (hasRoom setup out) _ (eq-eqb _ _ room) (eq-eqb (length page) 64 long), tt)))
+    (tests-ok (single (between 1 (sizeOf setup) own) 7 0 ∷ single (hasRoom setup 0 out && isPage page) 9 0 ∷ [])
+    (λ _ _. between-of 1 (sizeOf setup) own h l, (λ _ _. and-true (hasRoom setup 0 out) _ (eq-eqb _ _ room) (eq-eqb (length page) 64 long), tt)))
     in
     ap (λ (c : PageCalled). c .call .answer .number) (opening-is setup own out page) ∙ number-is (pageOpenVerdict setup own out page) 0 _ out _ page
     ∙ ap (λ (v : Verdict). v .number) e
 
 pub step-accepted : (image read : List ℕ) (controller : ℕ) (out page : List ℕ) → checkImage image .number ≡ 0
-    → length out ≡ imageLengthIn image → length read ≡ sizeOf image * 4 → controller < 2 ^ sizeOf image → length page ≡ 64
+    → length out ≡ imageLength (frontIn (wordAt image)) (sizeOf image) (leftIn image - 1) → length read ≡ sizeOf image * 4 → controller < 2 ^ sizeOf image → length page ≡ 64
     → pageStepCall image read controller out page .call .answer .number ≡ 0
 unfolding pageStepVerdict Passed
 step-accepted image read controller out page z room whole bits long =
     let e : pageStepVerdict image read controller out page ≡ accepted =
     both-accept (checkImage image) _ z
     (tests-ok
-    (single (hasRoom image out && eqb (length read) (sizeOf image * 4) && isPage page) 9 0 ∷ single (ltb controller (2 ^ sizeOf image)) 10 0 ∷ []) (
+    (single (hasRoom image (leftIn image - 1) out && eqb (length read) (sizeOf image * 4) && isPage page) 9 0 ∷ single (ltb controller (2 ^ sizeOf image)) 10 0 ∷ []) (
       λ _ _.
-          and-true (hasRoom image out && eqb (length read) (sizeOf image * 4)) _
-          (and-true (hasRoom image out) _ (eq-eqb _ _ room) (eq-eqb _ _ whole)) (eq-eqb (length page) 64 long),
+          and-true (hasRoom image (leftIn image - 1) out && eqb (length read) (sizeOf image * 4)) _
+          (and-true (hasRoom image (leftIn image - 1) out) _ (eq-eqb _ _ room) (eq-eqb _ _ whole)) (eq-eqb (length page) 64 long),
       (λ _ _. lt-ltb controller _ bits, tt),
     ))
     in
@@ -265,6 +267,7 @@ write-kept page offset value f = go (isPage page) (startsWord offset) (eqb offse
 unaltered : (before after : List ℕ) → Refused before after → after ≡ before
 unaltered before after (opening setup own f) = open-keeps setup own before f
 unaltered before after (step image read controller f) = step-keeps image read controller before f
+unaltered before after (change image new lead f) = change-keeps image new lead before f
 unaltered before after (saving image f) = save-keeps image before f
 unaltered before after (page-opening setup own page f) =
     kept-by (λ (c : PageCalled). c .call .out ≡ before) (opening-is setup own before page) (out-kept _ _ _ before _ page) f

@@ -15,26 +15,29 @@ use Rattle.setup.specs.Setup.{sizeIn, fadesIn, frontOf, setupOf}
 use Rattle.setup.specs.declared.Setup.{Setup}
 use Rattle.rules.specs.Hearing.{causesOf}
 use Rattle.rules.proofs.Causes.{codes-small}
-use Rattle.image.specs.Layout.{ownAt, imageLength}
+use Rattle.changes.specs.Books.{turned, counted, booksAfter}
+use Rattle.changes.proofs.TurnLaws.{turned-size, turned-fades}
+use Rattle.image.specs.Layout.{ownAt, beforeLeft}
 use Rattle.image.specs.Words.{viewIn}
 use Rattle.image.specs.Check.{checkImage}
 use Rattle.image.proofs.TailLaws.{ImageFits, image-pass}
 use Rattle.presence.specs.Valid.{Valid}
-use Rattle.presence.specs.Step.{acceptedStep, afterRound, stepOf}
+use Rattle.presence.specs.Step.{booksOf, foundView, acceptedStep, afterRound, stepOf}
 use Rattle.presence.specs.Image.{imageOf, stateOf}
 use Rattle.calls.specs.Calls.{Called, called, refusedCall, stepCall}
 use Rattle.calls.specs.declared.Answer.{Answer}
 use Rattle.presence.specs.declared.State.{State}
 use Rattle.presence.specs.declared.Stepped.{Stepped}
-use Rattle.presence.proofs.ValidLaws.{valid-fits}
+use Rattle.presence.proofs.ValidLaws.{StateFits, valid-fits}
 use Rattle.presence.proofs.StateStepLaws.{step-accepted, step-whole, step-valid}
-use Rattle.presence.proofs.ImageState.{view-in, load-valid}
+use Rattle.presence.proofs.ImageState.{load-valid}
 use Rattle.calls.proofs.ModuleCallLaws.{read-form}
 use Rattle.calls.proofs.CallAnswers.{step-writes, step-passed}
 use Rattle.page.specs.Page.{pageStepped}
 use Rattle.page.specs.Calls.{pageCalled, pageStepCall}
 use Rattle.page.proofs.WithPageLaws.{with-accepted, with-refused, with-before, with-nine}
-use Rattle.page.proofs.PageCallLaws.{moved, refused-by, no-room, image-view, image-length}
+use Rattle.page.proofs.PageCallLaws.{moved, refused-by, no-room-after, image-view, image-length}
+use Rattle.page.proofs.FoundLaws.{found-small}
 
 -- the causes of a read are codes
 pub codes-of : (n : ℕ) (read : List ℕ) (controller : ℕ) {causes : List ℕ} → n ≤ 16 → causes ≡ causesOf n read controller
@@ -49,7 +52,7 @@ module _ (image read : List ℕ) (controller : ℕ) where
 
   no-output : isAccepted (checkImage image) ≡ true → stepCall image read controller [] ≡ refusedCall 9 0 []
   unfolding stepCall
-  no-output t = cond-true _ _ t ∙ cond-false _ _ (no-room (stateOf image))
+  no-output t = cond-true _ _ t ∙ cond-false _ _ (no-room-after (stateOf image))
 
   -- asked with an output of no bytes, a step answers what goes before 9, or 9
   pub step-no-page : (out page : List ℕ) {r : Answer} {l : List ℕ} → called r l ≡ stepCall image read controller [] → (length page ≡ 64 → ⊥)
@@ -86,9 +89,22 @@ module _ (image read : List ℕ) (controller : ℕ) where
       accepted : s .number ≡ 0
       accepted = step-passed image read controller out answered .1
 
-      same-setup : s .state .setup ≡ st .setup
-      unfolding acceptedStep afterRound
-      same-setup = ap (λ (x : Stepped). x .state .setup) (step-accepted st read controller accepted .1)
+      pub checked : checkImage image .number ≡ 0
+      checked = step-passed image read controller out answered .0
+
+      valid : StateFits st
+      valid = valid-fits st (load-valid image checked)
+
+      -- size and form stay
+      setup-is : s .state .setup ≡ turned (booksOf st) .setup
+      unfolding acceptedStep afterRound booksAfter counted
+      setup-is = ap (λ (x : Stepped). x .state .setup) (step-accepted st read controller accepted .1)
+
+      same-size : s .state .setup .n ≡ st .setup .n
+      same-size = ap (λ (x : Setup). x .n) setup-is ∙ turned-size (booksOf st)
+
+      same-front : frontOf (s .state .setup) ≡ frontOf (st .setup)
+      same-front = ap frontOf setup-is ∙ ap frontWords (turned-fades (booksOf st) (valid .pending))
 
       causes-are : s .causes ≡ causesOf (st .setup .n) read controller
       unfolding acceptedStep
@@ -121,27 +137,14 @@ module _ (image read : List ℕ) (controller : ℕ) where
           front-is : front ≡ frontOf (st .setup)
           front-is = at ∙ ap frontWords (fades ∙ sym (read-form image))
 
-          pub in-image : (n ≤ 16) × (length image ≡ imageLength front n)
-          in-image = (in-read .0, fits .size ∙ ap₂ imageLength (sym (at ∙ ap frontWords fades)) (sym size))
+          pub in-output : (n ≤ 16) × (beforeLeft front n ≤ length b)
+          in-output =
+              (in-read .0, omega (arith, ap length wrote-image, image-length (s .state) next-valid, same-front, same-size, front-is, size-is))
 
-          pub in-output : (n ≤ 16) × (length b ≡ imageLength front n)
-          in-output = (
-            in-read .0,
-            ap length wrote-image ∙ image-length (s .state) next-valid ∙ ap (λ (x : Setup). imageLength (frontOf x) (x .n)) same-setup
-                ∙ ap₂ imageLength (sym front-is) (sym size-is),
-          )
-
-          module _ {v : ℕ} (before : v ≡ viewIn (wordAt image (ownAt front n))) where
-            before-is : v ≡ st .counters .view
-            unfolding stateOf
-            before-is =
-                before ∙ ap₂ (λ (i k : ℕ). viewIn (wordAt image (ownAt i k))) (at ∙ ap frontWords fades) size
-                ∙ sym (view-in (fadesIn (wordAt image)) image (sizeIn (wordAt image 0)))
-
+          module _ {v : ℕ} (before : v ≡ foundView st) where
             pub before-small : v < 2 ^ n
             before-small =
-                subst (λ (k : ℕ). v < 2 ^ k) (sym size-is)
-                (subst (λ (x : ℕ). x < 2 ^ st .setup .n) (sym before-is) (valid-fits st (load-valid image (step-passed image read controller out answered .0)) .view))
+                subst (λ (k : ℕ). v < 2 ^ k) (sym size-is) (subst (λ (x : ℕ). x < 2 ^ st .setup .n) (sym before) (found-small st valid))
 
             pub step-paged : (page : List ℕ) {w : ℕ} {p q : List ℕ} → length page ≡ 64 → w ≡ viewIn (wordAt b (ownAt front n)) → q ≡ causesOf n read controller
                 → p ≡ pageStepped n v (r .health) w q page
@@ -150,14 +153,14 @@ module _ (image read : List ℕ) (controller : ℕ) where
             step-paged page {w} {p} {q} l after cs h =
                 let a : w ≡ s .state .counters .view =
                 after ∙ ap (λ (x : List ℕ). viewIn (wordAt x (ownAt front n))) wrote-image
-                ∙ ap₂ (λ (i k : ℕ). viewIn (wordAt (imageOf (s .state)) (ownAt i k))) (front-is ∙ ap frontOf (sym same-setup)) (size-is ∙ ap (λ (x : Setup). x .n) (sym same-setup))
+                ∙ ap₂ (λ (i k : ℕ). viewIn (wordAt (imageOf (s .state)) (ownAt i k))) (front-is ∙ sym same-front) (size-is ∙ sym same-size)
                 ∙ image-view (s .state) next-valid
                 in
                 let k : r .health ≡ s .health = ap (λ (c : Called). c .answer .health) e ∙ step-writes image read controller out answered .1 in
                 let d : q ≡ s .causes = cs ∙ ap (λ (m : ℕ). causesOf m read controller) size-is ∙ sym causes-are in
-                let g : p ≡ pageStepped (st .setup .n) (st .counters .view) (s .health) (s .state .counters .view) (s .causes) page =
-                h ∙ ap₂ (λ (x y : ℕ). pageStepped x y (r .health) w q page) size-is before-is
-                ∙ ap₂ (λ (x y : ℕ). pageStepped (st .setup .n) (st .counters .view) x y q page) k a
-                ∙ ap (λ (x : List ℕ). pageStepped (st .setup .n) (st .counters .view) (s .health) (s .state .counters .view) x page) d
+                let g : p ≡ pageStepped (st .setup .n) (foundView st) (s .health) (s .state .counters .view) (s .causes) page =
+                h ∙ ap₂ (λ (x y : ℕ). pageStepped x y (r .health) w q page) size-is before
+                ∙ ap₂ (λ (x y : ℕ). pageStepped (st .setup .n) (foundView st) x y q page) k a
+                ∙ ap (λ (x : List ℕ). pageStepped (st .setup .n) (foundView st) (s .health) (s .state .counters .view) x page) d
                 in
                 ap₂ pageCalled e g ∙ with-accepted _ (stepCall image read controller out) out page _ l answered

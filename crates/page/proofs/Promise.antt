@@ -6,42 +6,48 @@ use mathlib.Core.List.{List}
 use Prim.Native.Nat.{ℕ, _≤_, _<_}
 use native.Mathlib.Omega.{arith}
 use lib.ListN.{length, getD}
-use lib.Dec.{eqb}
+use lib.Dec.{eqb, ltb}
 use borrow.Author.Tests.{eq-eqb, ne-eqb}
 use Rattle.words.specs.Word.{wordAt}
 use Rattle.words.specs.Bits.{bit}
+use Rattle.words.specs.Count.{any}
 use Rattle.words.proofs.Truth.{which, cond-true, cond-false, or-r}
 use Rattle.words.proofs.WordLaws.{read-put, read-put-other}
 use Rattle.words.specs.Verdict.{isAccepted}
 use Rattle.setup.specs.Layout.{frontWords}
 use Rattle.setup.specs.Setup.{sizeIn, fadesIn, setupOf}
 use Rattle.setup.specs.declared.Limits.{Limits}
-use Rattle.accounts.specs.Round.{accountAt}
+use Rattle.accounts.specs.Round.{accountAt, countersOf}
 use Rattle.accounts.proofs.RoundLaws.{Kept}
 use Rattle.rules.specs.Hearing.{readingOf, causesOf}
 use Rattle.rules.specs.Causes.{causeOf}
 use Rattle.rules.proofs.Causes.{of-read, hears, above as no-module}
+use Rattle.changes.specs.Books.{turned}
+use Rattle.changes.proofs.TurnLaws.{turned-size, turned-setup-fits}
 use Rattle.image.specs.Layout.{ownAt}
 use Rattle.image.specs.Words.{viewIn}
 use Rattle.image.specs.Check.{checkImage}
 use Rattle.image.proofs.CounterLaws.{within-kept}
+use Rattle.image.proofs.BooksLaws.{turned-accounts}
 use Rattle.presence.specs.Valid.{Valid}
 use Rattle.presence.specs.Opening.{openOf}
-use Rattle.presence.specs.Step.{acceptedStep, stepOf}
+use Rattle.presence.specs.Step.{booksOf, foundView, acceptedStep, stepOf}
+use Rattle.presence.specs.Change.{changeOf}
 use Rattle.presence.specs.Image.{imageOf, stateOf}
-use Rattle.calls.specs.Calls.{openCall, stepCall}
+use Rattle.calls.specs.Calls.{openCall, stepCall, changeCall}
 use Rattle.presence.specs.declared.State.{State}
 use Rattle.presence.specs.declared.Stepped.{Stepped}
 use Rattle.presence.proofs.ValidLaws.{valid-fits}
+use Rattle.presence.proofs.StateChangeLaws.{change-taken, change-valid}
 use Rattle.presence.proofs.StateStepLaws.{step-accepted, step-valid, open-valid}
 use Rattle.presence.proofs.ImageState.{view-in, load-valid}
-use Rattle.calls.proofs.CallAnswers.{open-writes, open-passed, step-writes, step-passed, save-writes, save-passed}
+use Rattle.calls.proofs.CallAnswers.{open-writes, open-passed, step-writes, step-passed, change-writes, change-passed, save-writes, save-passed}
 use Rattle.page.specs.Flags.{cleared}
 use Rattle.page.specs.Page.{isPage, pageOpened, causeAt, somebodyCharged, raised, pageStepped, pageWritten, interruptOn}
 use Rattle.page.specs.Host.{writeCall}
 use Rattle.page.specs.Calls.{PageCalled, pageCalled, pageOpenCall, pageStepCall}
 use Rattle.page.specs.Refusals.{page-of-opening}
-use Rattle.page.specs.Promise.{Paged, opens, steps, saves, refused-image, refused-page, writes, Unnamed, here, stepped, not-opened, written, Promise}
+use Rattle.page.specs.Promise.{Paged, opens, steps, changes, saves, refused-image, refused-page, writes, Unnamed, here, stepped, not-opened, written, Promise}
 use Rattle.page.proofs.PageCallLaws.{image-view, image-size, image-form}
 use Rattle.page.proofs.RaisedLaws.{raised-kept, raised-0, raised-1, raised-above, cleared-kept, cleared-bit, turns-on, on-by}
 use Rattle.page.proofs.PageWords.{opened-1, written-1, opened-cause, word-0, word-1, word-2, word-other, cause-of}
@@ -68,7 +74,7 @@ module _ (image read : List ℕ) (controller : ℕ) (out : List ℕ) where
   s = stepOf st read controller
 
   abbrev next : List ℕ → List ℕ
-  next page = pageStepped (st .setup .n) (st .counters .view) (s .health) (s .state .counters .view) (s .causes) page
+  next page = pageStepped (st .setup .n) (foundView st) (s .health) (s .state .counters .view) (s .causes) page
 
   passes : stepCall image read controller out .answer .number ≡ 0 → isAccepted (checkImage image) ≡ true
   passes z = eq-eqb (checkImage image .number) 0 (step-passed image read controller out z .0)
@@ -158,7 +164,7 @@ module _ (image read : List ℕ) (controller : ℕ) (out : List ℕ) where
         (λ c. z .0 (sym e ∙ c), λ c. e ∙ z .1 c)
 
     flags-are : wordAt (after .page) 2 ≡ raised (wordAt page 2) (not (eqb (wordAt page 1) (s .state .counters .view)))
-        (somebodyCharged (st .setup .n) (st .counters .view) (s .health))
+        (somebodyCharged (st .setup .n) (foundView st) (s .health))
     flags-are = ap (λ (x : List ℕ). wordAt x 2) page-is ∙ word-2 _ _ _ _ _ page long
 
     enabled : (j : ℕ) → j < 32 → bit (wordAt (after .page) 2) j ≡ true → bit (wordAt page 3) j ≡ true → interruptOn (after .page) ≡ true
@@ -169,12 +175,12 @@ module _ (image read : List ℕ) (controller : ℕ) (out : List ℕ) where
     changes = not (eqb (wordAt page 1) (stateOf (after .call .out) .counters .view))
 
     abbrev charges : Bool
-    charges = somebodyCharged (st .setup .n) (st .counters .view) (after .call .answer .health)
+    charges = somebodyCharged (st .setup .n) (foundView st) (after .call .answer .health)
 
     flags-by : wordAt (after .page) 2 ≡ raised (wordAt page 2) changes charges
     flags-by =
         flags-are
-        ∙ ap₂ (λ (v h : ℕ). raised (wordAt page 2) (not (eqb (wordAt page 1) v)) (somebodyCharged (st .setup .n) (st .counters .view) h)) (sym view-is)
+        ∙ ap₂ (λ (v h : ℕ). raised (wordAt page 2) (not (eqb (wordAt page 1) v)) (somebodyCharged (st .setup .n) (foundView st) h)) (sym view-is)
         (sym health-is)
 
     change-is : bit (wordAt (after .page) 2) 0 ≡ bit (wordAt page 2) 0 || changes
@@ -225,6 +231,12 @@ shows : (image page : List ℕ) → Paged image page → wordAt page 1 ≡ state
 unfolding pageStepCall
 shows _ _ (opens setup own out page z) = opened-view setup own out page z
 shows _ _ (steps {image} {page} p read controller out z) = view-word image read controller out page z
+shows _ page (changes {image} p new lead out z) =
+    let (v, w, n) = change-passed image new lead out z in
+    shows image page p
+    ∙ sym (ap (λ (x : List ℕ). stateOf x .counters .view) (change-writes image new lead out z)
+    ∙ view-read (changeOf (stateOf image) (setupOf new) lead .state) (change-valid (stateOf image) (setupOf new) lead n)
+    ∙ ap (λ (x : State). x .counters .view) (change-taken (stateOf image) (setupOf new) lead n .state))
 shows _ page (saves {image} p out z) =
     shows image page p
     ∙ sym (ap (λ (x : List ℕ). stateOf x .counters .view) (save-writes image out z) ∙ view-read (stateOf image) (load-valid image (save-passed image out z)))
@@ -275,10 +287,17 @@ promise = record {
   view = view-word;
   shown = shows;
   grew = λ image p r health z e.
-      let f = valid-fits (stateOf image) (load-valid image z) in
-      let kept = within-kept (stateOf image .setup .limits) (stateOf image .setup) (stateOf image .counters) (f .setup .most) (f .counters) in
-      charged-grows (stateOf image .setup) p r e (stateOf image .counters) health (f .setup)
-      (λ j h. subst (λ (l : Limits). Kept l (getD (stateOf image .setup .criticality) j 0) (accountAt (stateOf image .counters) j)) e (kept j h) .0);
+      let st = stateOf image in
+      let found = turned (booksOf st) in
+      let f = valid-fits st (load-valid image z) in
+      let s = turned-setup-fits (booksOf st) (f .pending) (f .setup) in
+      let kept = within-kept (found .setup .limits) (found .setup) (found .counters) (s .most) (turned-accounts (booksOf st) (f .setup) (f .pending) (f .counters)) in
+      subst
+      (λ (n : ℕ).
+      somebodyCharged n (foundView st) health ≡ any n (λ j. ltb (getD (found .counters .penalty) j 0) (getD (countersOf (found .setup) health (found .counters) .penalty) j 0)))
+      (turned-size (booksOf st))
+      (charged-grows (found .setup) p r e (found .counters) health s
+      (λ j h. subst (λ (l : Limits). Kept l (getD (found .setup .criticality) j 0) (accountAt (found .counters) j)) e (kept j h) .0));
   change-flag = change-is;
   charge-flag = charge-is;
   other-flags = others-are;

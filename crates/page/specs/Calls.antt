@@ -1,4 +1,4 @@
--- Opening and step with a page: what `presence` promises of the same calls without one, and the page beside it. (document 02, E1 and E5)
+-- Opening and step with a page: what `presence` promises of the same calls without one, and the page beside it. (document 02, E1, E5 and E10)
 use Prim.Native.Nat.{ℕ}
 use mathlib.Core.Bool.{Bool, cond, not, _&&_}
 use mathlib.Core.List.{List}
@@ -7,7 +7,7 @@ use Rattle.words.specs.Verdict.{isAccepted}
 use Rattle.setup.specs.Setup.{setupOf}
 use Rattle.image.specs.Check.{checkImage}
 use Rattle.presence.specs.Opening.{openOf}
-use Rattle.presence.specs.Step.{stepOf}
+use Rattle.presence.specs.Step.{foundView, stepOf}
 use Rattle.presence.specs.Image.{stateOf}
 use Rattle.calls.specs.Calls.{Called, refusedCall, openCall, stepCall}
 use Rattle.page.specs.Page.{isPage, pageOpened, pageStepped}
@@ -35,11 +35,12 @@ pageOpenCall setup own out page =
     let st = openOf (setupOf setup) own .state in
     withPage (eqb (c .answer .number) 0) c out page (pageOpened (st .setup .n) (st .counters .view))
 
--- step: 1 to 8, 9 for the output, the read or the page, 10
+-- step: 1 to 8, 9 for the output, the read or the page, 10; charged are modules that rule 8 finds in the view, after a change that is due has taken
+-- effect
 unfoldable pub pageStepCall : List ℕ → List ℕ → ℕ → List ℕ → List ℕ → PageCalled
 pageStepCall image read controller out page =
     let c = stepCall image read controller out in
     let st = stateOf image in
     let s = stepOf st read controller in
     withPage (isAccepted (checkImage image)) c out page
-    (pageStepped (st .setup .n) (st .counters .view) (s .health) (s .state .counters .view) (s .causes) page)
+    (pageStepped (st .setup .n) (foundView st) (s .health) (s .state .counters .view) (s .causes) page)

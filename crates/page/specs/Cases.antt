@@ -1,4 +1,4 @@
--- The register page, sentence by sentence (document 02, E1 and E5), on a module with document 01's sheet as its setup: what the calls give, and what
+-- The register page, sentence by sentence (document 02, E1, E5 and E10), on a module with document 01's sheet as its setup: what the calls give, and what
 -- document 02 says. Computed in proofs/Cases.antt.
 use Prim.Native.Nat.{ℕ}
 use mathlib.Core.Path.{_≡_}
@@ -9,7 +9,7 @@ use lib.ListN.{getD, replicate}
 use Rattle.words.specs.Word.{bytesOf}
 use Rattle.rules.specs.Hearing.{busWord}
 use Rattle.image.specs.Layout.{imageLength}
-use Rattle.calls.specs.Calls.{causeCall}
+use Rattle.calls.specs.Calls.{changeCall, causeCall}
 use Rattle.calls.specs.declared.Answer.{Answer}
 use Rattle.calls.specs.declared.CauseAnswer.{CauseAnswer}
 use Rattle.calls.specs.declared.WordAnswer.{WordAnswer}
@@ -79,9 +79,9 @@ abbrev pub setup : List ℕ
 setup =
     bytesOf 7 (λ i. getD (0x1000_0004 ∷ 0x2000_0001 ∷ 0x3000_0003 ∷ 0x4088_0001 ∷ 0x4108_0001 ∷ 0x4188_0001 ∷ 0x4208_0001 ∷ []) i 0)
 
--- an output for its image, 26 words
+-- an output for its image, 27 words
 abbrev pub out : List ℕ
-out = replicate (imageLength 3 4) 0
+out = replicate (imageLength 3 4 0) 0
 
 -- a page before its opening, of any bytes
 abbrev pub lent : List ℕ
@@ -189,7 +189,7 @@ fiveSetup =
 
 -- an output for its image
 abbrev pub fiveOut : List ℕ
-fiveOut = replicate (imageLength 3 5) 0
+fiveOut = replicate (imageLength 3 5 0) 0
 
 -- opened as module 2
 abbrev pub fiveOpened : PageCalled
@@ -242,9 +242,43 @@ oneWordCases =
     ∷ case (read (causeCall 17 2 0x5000_0001)) (2 ∷ 0 ∷ 0 ∷ 0 ∷ []) ∷ case (read (causeCall 0 1 0x5000_0001)) (2 ∷ 0 ∷ 0 ∷ 0 ∷ [])
     ∷ case (read (causeCall 4 2 0x5000_0001)) (10 ∷ 0 ∷ 0 ∷ 0 ∷ []) ∷ case (read (causeCall 4 0xFFFF_FFFF 0)) (10 ∷ 0 ∷ 0 ∷ 0 ∷ []) ∷ []
 
+-- ---- a change that is due takes effect before the counting: charged are modules in the view that rule 8 then finds
+-- P = 2 and a head with this Q: module 2 is charged twice and stays in the view; then a change to P = 1 by the setup with the same head, so many rounds
+-- ahead.
+abbrev pub setupWith : ℕ → ℕ → List ℕ
+setupWith head p = words 7 (head ∷ p ∷ 0x3000_0003 ∷ 0x4088_0001 ∷ 0x4108_0001 ∷ 0x4188_0001 ∷ 0x4208_0001 ∷ [])
+
+abbrev pub wideOpened : ℕ → PageCalled
+wideOpened head = pageOpenCall (setupWith head 0x2000_0002) 1 out lent
+
+abbrev pub twice : ℕ → PageCalled
+twice head = step (step (wideOpened head) 13 (page 15 15 0 0)) 13 (page 13 15 0 0)
+
+-- an output for an image with a pending change, 33 words
+abbrev pub longOut : List ℕ
+longOut = replicate (imageLength 3 4 1) 0
+
+abbrev pub changed : ℕ → ℕ → List ℕ
+changed head lead = changeCall (twice head .call .out) (setupWith head 0x2000_0001) lead longOut .out
+
+-- Q = 0. Module 2 leaves by the change: with health 0 it raises no flag 1, and the view has changed; module 3, in the view after the change, does with
+-- health 0. One round before, module 2 is charged by the old limits.
+abbrev pub changeCases : List Case
+changeCases =
+    accepts (twice 0x1000_0004) 13 (page 13 15 2 0)
+    ++ (accepts (pageStepCall (changed 0x1000_0004 1) (rows 13) 15 out (page 13 15 0 0)) 13 (page 13 13 1 0)
+    ++ (accepts (pageStepCall (changed 0x1000_0004 1) (rows 15) 15 out (page 13 15 0 0)) 15 (page 15 13 1 0)
+    ++ (accepts (pageStepCall (changed 0x1000_0004 1) (rows 9) 15 out (page 13 15 0 0)) 9 (page 9 13 3 0)
+    ++ (accepts (pageStepCall (changed 0x1000_0004 2) (rows 13) 15 longOut (page 13 15 0 0)) 13 (page 13 13 3 0)
+    -- with Q = 1 one that leaves by the change and has health 1 is back at once: no flag
+    ++ (accepts (pageStepCall (changed 0x1000_0104 1) (rows 15) 15 out (page 13 15 0 0)) 15 (page 15 15 0 0)
+    -- the output has the length of the image after the step
+    ++ (refuses (pageStepCall (changed 0x1000_0004 1) (rows 13) 15 longOut (page 13 15 0 0)) 9 (page 13 15 0 0)
+    ++ refuses (pageStepCall (changed 0x1000_0004 2) (rows 13) 15 out (page 13 15 0 0)) 9 (page 13 15 0 0)))))))
+
 -- the whole table
 abbrev pub cases : List Case
-cases = openCases ++ (stepCases ++ (writeCases ++ (interruptCases ++ (checkCases ++ (causeCases ++ oneWordCases)))))
+cases = openCases ++ (stepCases ++ (writeCases ++ (interruptCases ++ (checkCases ++ (causeCases ++ (oneWordCases ++ changeCases))))))
 
 -- what is claimed: every line is right
 abbrev pub CasesRight : Type 0

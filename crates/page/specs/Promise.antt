@@ -1,4 +1,4 @@
--- What a page promises beside the equations of its calls. Proved in proofs/Promise.antt. (document 02, E1 and E5)
+-- What a page promises beside the equations of its calls. Proved in proofs/Promise.antt. (document 02, E1, E5 and E10)
 use Prim.Native.Nat.{ℕ, _≤_, _<_}
 use mathlib.Core.Path.{_≡_}
 use mathlib.Core.Logic.{_≢_, _↔_}
@@ -14,21 +14,26 @@ use Rattle.rules.specs.Causes.{causeOf}
 use Rattle.setup.specs.declared.Limits.the-variants.{Counts}
 use Rattle.accounts.specs.Round.{countersOf}
 use Rattle.image.specs.Check.{checkImage}
+use Rattle.changes.specs.Books.{turned}
+use Rattle.changes.specs.declared.Books.{Books}
+use Rattle.presence.specs.Step.{booksOf, foundView}
 use Rattle.presence.specs.Image.{stateOf}
-use Rattle.calls.specs.Calls.{openCall, stepCall, saveCall}
+use Rattle.calls.specs.Calls.{openCall, stepCall, changeCall, saveCall}
 use Rattle.page.specs.Page.{causeAt, somebodyCharged, interruptOn}
 use Rattle.page.specs.Host.{writeCall}
 use Rattle.page.specs.Calls.{pageOpenCall, pageStepCall}
 use Rattle.page.specs.Refusals.{Refused}
 
--- A module's image and its page: opened together, stepped together. Between lie saving and taking back the image, refused calls of any kind
--- that were lent the image or the page, and writes of the host.
+-- A module's image and its page: opened together, stepped together. Between lie changes of limits, saving and taking back the image, refused calls of
+-- any kind that were lent the image or the page, and writes of the host.
 pub data Paged : List ℕ → List ℕ → Type 0 where
   opens : (setup : List ℕ) (own : ℕ) (out page : List ℕ) → pageOpenCall setup own out page .call .answer .number ≡ 0
       → Paged (pageOpenCall setup own out page .call .out) (pageOpenCall setup own out page .page)
   steps : {image page : List ℕ} → Paged image page → (read : List ℕ) (controller : ℕ) (out : List ℕ)
       → pageStepCall image read controller out page .call .answer .number ≡ 0
       → Paged (pageStepCall image read controller out page .call .out) (pageStepCall image read controller out page .page)
+  changes : {image page : List ℕ} → Paged image page → (new : List ℕ) (lead : ℕ) (out : List ℕ) → changeCall image new lead out .answer .number ≡ 0
+      → Paged (changeCall image new lead out .out) page
   saves : {image page : List ℕ} → Paged image page → (out : List ℕ) → saveCall image out .answer .number ≡ 0 → Paged (saveCall image out .out) page
   refused-image : {image page after : List ℕ} → Paged image page → Refused image after → Paged after page
   refused-page : {image page after : List ℕ} → Paged image page → Refused page after → Paged image after
@@ -59,11 +64,14 @@ pub record Promise : Type 0 where
       → wordAt (pageStepCall image read controller out page .page) 1 ≡ stateOf (pageStepCall image read controller out page .call .out) .counters .view
   -- So a page that goes along with its module shows its view at all times; word 1 before a step is the view before it.
   pub shown : (image page : List ℕ) → Paged image page → wordAt page 1 ≡ stateOf image .counters .view
-  -- Somebody was charged exactly if rule 8 made a penalty grow, where account is kept by counts.
-  pub grew : (image : List ℕ) (p r health : ℕ) → checkImage image .number ≡ 0 → stateOf image .setup .limits ≡ Counts p r
-      → somebodyCharged (stateOf image .setup .n) (stateOf image .counters .view) health
+  -- Somebody was charged exactly if rule 8 made a penalty grow, where account is kept by counts: from the accounts that it found, after a change that
+  -- is due has taken effect, by the limits that then hold.
+  pub grew : (image : List ℕ) (p r health : ℕ) → checkImage image .number ≡ 0
+      → let found : Books = turned (booksOf (stateOf image)) in
+      found .setup .limits ≡ Counts p r
+      → somebodyCharged (stateOf image .setup .n) (foundView (stateOf image)) health
       ≡ any (stateOf image .setup .n)
-      (λ j. ltb (getD (stateOf image .counters .penalty) j 0) (getD (countersOf (stateOf image .setup) health (stateOf image .counters) .penalty) j 0))
+      (λ j. ltb (getD (found .counters .penalty) j 0) (getD (countersOf (found .setup) health (found .counters) .penalty) j 0))
   -- A step sets flag 0 exactly if the view differs from word 1, and flag 1 exactly if somebody was charged, whatever is enabled; a flag that was set
   -- stays set, and the other bits of word 2 stay as they were.
   pub change-flag : (image read : List ℕ) (controller : ℕ) (out page : List ℕ) → pageStepCall image read controller out page .call .answer .number ≡ 0
@@ -72,7 +80,7 @@ pub record Promise : Type 0 where
   pub charge-flag : (image read : List ℕ) (controller : ℕ) (out page : List ℕ) → pageStepCall image read controller out page .call .answer .number ≡ 0
       → bit (wordAt (pageStepCall image read controller out page .page) 2) 1
       ≡ bit (wordAt page 2) 1
-      || somebodyCharged (stateOf image .setup .n) (stateOf image .counters .view) (pageStepCall image read controller out page .call .answer .health)
+      || somebodyCharged (stateOf image .setup .n) (foundView (stateOf image)) (pageStepCall image read controller out page .call .answer .health)
   pub other-flags : (image read : List ℕ) (controller : ℕ) (out page : List ℕ) → pageStepCall image read controller out page .call .answer .number ≡ 0
       → (j : ℕ) → 2 ≤ j → j < 32 → bit (wordAt (pageStepCall image read controller out page .page) 2) j ≡ bit (wordAt page 2) j
   -- A step leaves enable and every word from 8 on as they were.
@@ -115,5 +123,5 @@ pub record Promise : Type 0 where
       → wordAt page 1 ≢ stateOf (pageStepCall image read controller out page .call .out) .counters .view → bit (wordAt page 3) 0 ≡ true
       → interruptOn (pageStepCall image read controller out page .page) ≡ true
   pub charged : (image read : List ℕ) (controller : ℕ) (out page : List ℕ) → pageStepCall image read controller out page .call .answer .number ≡ 0
-      → somebodyCharged (stateOf image .setup .n) (stateOf image .counters .view) (pageStepCall image read controller out page .call .answer .health) ≡ true
+      → somebodyCharged (stateOf image .setup .n) (foundView (stateOf image)) (pageStepCall image read controller out page .call .answer .health) ≡ true
       → bit (wordAt page 3) 1 ≡ true → interruptOn (pageStepCall image read controller out page .page) ≡ true

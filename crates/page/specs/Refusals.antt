@@ -1,7 +1,7 @@
 -- Which calls with a page are refused, by which number, and that every other one is accepted; and what a refused call of any kind leaves of a
 -- buffer that it was lent: the bytes that were there. (demand 1; document 02, E1, "Checks") As calls/specs/Refusals.antt says it
 -- of the calls without a page. Proved in proofs/PageRefusals.antt.
-use Prim.Native.Nat.{ℕ, _*_, _^_}
+use Prim.Native.Nat.{ℕ, _-_, _*_, _^_}
 use mathlib.Core.Path.{_≡_}
 use mathlib.Core.Logic.{_≢_}
 use mathlib.Core.Bool.{cond, _&&_}
@@ -14,11 +14,11 @@ use Rattle.setup.specs.Setup.{setupOf}
 use Rattle.setup.specs.Check.{checkSetup}
 use Rattle.words.specs.declared.Verdict.{Verdict}
 use Rattle.rules.specs.Hearing.{readingOf, causesOf}
-use Rattle.image.specs.Check.{checkImage}
+use Rattle.image.specs.Check.{leftIn, checkImage}
 use Rattle.presence.specs.Opening.{fresh}
-use Rattle.presence.specs.Step.{judgementFor, afterRound}
+use Rattle.presence.specs.Step.{judgementFor, foundView, afterRound}
 use Rattle.presence.specs.Image.{stateOf}
-use Rattle.calls.specs.Calls.{refusedCall, wrote, openCall, stepCall, saveCall}
+use Rattle.calls.specs.Calls.{refusedCall, wrote, openCall, stepCall, changeCall, saveCall}
 use Rattle.calls.specs.Refusals.{sizeOf, hasRoom}
 use Rattle.presence.specs.declared.State.{State}
 use Rattle.page.specs.Page.{isPage, pageOpened, pageStepped}
@@ -31,14 +31,14 @@ use Rattle.page.specs.Calls.{PageCalled, pageCalled, pageOpenCall, pageS
 unfoldable pub pageOpenVerdict : List ℕ → ℕ → List ℕ → List ℕ → Verdict
 pageOpenVerdict setup own out page =
     andThen (checkSetup setup)
-    (firstRefusal (single (between 1 (sizeOf setup) own) 7 0 ∷ single (hasRoom setup out && isPage page) 9 0 ∷ []))
+    (firstRefusal (single (between 1 (sizeOf setup) own) 7 0 ∷ single (hasRoom setup 0 out && isPage page) 9 0 ∷ []))
 
 -- step: 1 to 8 for the image, 9 for the output, the read or the page, 10 for a controller bit at N or above
 unfoldable pub pageStepVerdict : List ℕ → List ℕ → ℕ → List ℕ → List ℕ → Verdict
 pageStepVerdict image read controller out page =
     andThen (checkImage image)
     (firstRefusal
-    (single (hasRoom image out && eqb (length read) (sizeOf image * 4) && isPage page) 9 0
+    (single (hasRoom image (leftIn image - 1) out && eqb (length read) (sizeOf image * 4) && isPage page) 9 0
     ∷ single (ltb controller (2 ^ sizeOf image)) 10 0
     ∷ []))
 
@@ -55,6 +55,7 @@ pub data Refused (before : List ℕ) : List ℕ → Type 0 where
   opening : (setup : List ℕ) (own : ℕ) → openCall setup own before .answer .number ≢ 0 → Refused before (openCall setup own before .out)
   step : (image read : List ℕ) (controller : ℕ) → stepCall image read controller before .answer .number ≢ 0
       → Refused before (stepCall image read controller before .out)
+  change : (image new : List ℕ) (lead : ℕ) → changeCall image new lead before .answer .number ≢ 0 → Refused before (changeCall image new lead before .out)
   saving : (image : List ℕ) → saveCall image before .answer .number ≢ 0 → Refused before (saveCall image before .out)
   page-opening : (setup : List ℕ) (own : ℕ) (page : List ℕ) → pageOpenCall setup own before page .call .answer .number ≢ 0
       → Refused before (pageOpenCall setup own before page .call .out)
@@ -78,7 +79,7 @@ pub record PageRefusals : Type 0 where
       let this = readingOf (sizeOf image) read controller in
       pageStepCall image read controller out page
       ≡ pageAnswering (pageStepVerdict image read controller out page) (judgementFor st this .health) (afterRound st this) out
-      (pageStepped (sizeOf image) (st .counters .view) (judgementFor st this .health) (afterRound st this .counters .view)
+      (pageStepped (sizeOf image) (foundView st) (judgementFor st this .health) (afterRound st this .counters .view)
       (causesOf (sizeOf image) read controller) page) page
   -- nothing lent is altered by a refusal
   pub unaltered : (before after : List ℕ) → Refused before after → after ≡ before

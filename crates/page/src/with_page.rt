@@ -4,11 +4,19 @@ use crate::registers::step_page;
 use calls::Answer;
 use calls::calls::presence_open;
 use calls::calls::presence_step;
+use image::left_at;
 use image::view_in;
+use presence::State;
 use setup::bounds::fades_at;
 use setup::bounds::front_words;
 use setup::check::size_at;
+use words::word::word_at;
 ghost use mathlib.Core.Path.{_≡_};
+ghost use Rattle.words.specs.Word.{wordAt};
+ghost use Rattle.setup.specs.Setup.{sizeIn, frontIn};
+ghost use Rattle.image.specs.Check.{checkImage};
+ghost use Rattle.presence.specs.Step.{foundView};
+ghost use Rattle.presence.specs.Image.{stateOf};
 ghost use Rattle.calls.specs.Calls.{called};
 ghost use Rattle.page.specs.Calls.{pageCalled, pageOpenCall, pageStepCall};
 
@@ -38,6 +46,19 @@ pub extern "C" fn presence_page_open(
     answer
 }
 
+// The view that rule 8 finds in a step from an image: the image's own, or, where a change is due, the one after it.
+fn found_view(image: &[u8], front: usize, n: usize) -> u32
+    requires { ⌜ (checkImage (now image) .number ≡ 0) × (front ≡ frontIn (wordAt (now image))) × (n ≡ sizeIn (wordAt (now image) 0)) ⌝ }
+    ensures { λ r. ⌜ r ≡ foundView (stateOf (now (image .entry))) ⌝ }
+{
+    if word_at(image, left_at(front, n)) == 1 {
+        let read = State::load(image);
+        let state = read.state;
+        return state.found_view();
+    }
+    view_in(image, front, n)
+}
+
 // One step, from image to image, with the page beside it: 1 to 8 and 22, 9 for the read, the output or the page, 10.
 #[no_mangle]
 pub extern "C" fn presence_page_step(
@@ -60,7 +81,7 @@ pub extern "C" fn presence_page_step(
     }
     let n = size_at(image);
     let front = front_words(fades_at(image));
-    let before = view_in(image, front, n);
+    let before = found_view(image, front, n);
     let after = view_in(out, front, n);
     let causes = rules::hearing::causes(n, read, controller);
     step_page(n, before, answer.health, after, causes, page);
