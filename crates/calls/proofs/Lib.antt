@@ -5,6 +5,8 @@ pub mod ImageStepLaws
 pub mod CallAnswers
 pub mod Refusals
 pub mod ImageOpenLaws
+pub mod FrameWordLaws
+pub mod ChangedImageLaws
 pub mod ChangeCallLaws
 pub mod OutgoingImage
 pub mod ReturnCases

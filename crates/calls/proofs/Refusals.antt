@@ -286,7 +286,7 @@ module _ (image new : List ℕ) (lead : ℕ) (out : List ℕ) where
   change-chain v w false b c d e p q = sym (cond-false _ _ p)
 
   -- the verdict by these tests
-  changing-verdict : changingVerdict image new lead out
+  pub changing-verdict : changingVerdict image new lead out
       ≡ cond (isAccepted (checkImage image))
       (cond (isAccepted (checkSetup new))
       (cond (sameFrame (setupOf image) asked)
@@ -319,7 +319,7 @@ module _ (image new : List ℕ) (lead : ℕ) (out : List ℕ) where
       ∙ ap₂ (λ (a b : Bool). cond a (cond b (cond (hasRoom image lead out) (wrote 0 changed) (refusedCall 9 0 out)) (refusedCall 24 0 out)) (refusedCall 23 0 out))
       frame-is may-follow
 
-  changing : changeCall image new lead out ≡ answering (changingVerdict image new lead out) 0 changed out
+  pub changing : changeCall image new lead out ≡ answering (changingVerdict image new lead out) 0 changed out
   unfolding changeCall puts
   changing =
       cond-then (isAccepted (checkImage image)) _ _ _

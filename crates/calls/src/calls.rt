@@ -2,9 +2,12 @@
 use crate::Answer;
 use crate::CauseAnswer;
 use crate::WordAnswer;
+use crate::change::same_frame;
+use crate::change::save_changed;
 use crate::step::left_after;
 use crate::step::played;
 use crate::step::turned;
+use changes::frame::MOST_LEAD;
 use image::check::check_image;
 use image::check::image_size;
 use image::earlier_in;
@@ -15,7 +18,6 @@ use image::load_image;
 use image::own_in;
 use image::save_accounts;
 use image::save_sections;
-use presence::State;
 use setup::bounds::fades_at;
 use setup::bounds::front_words;
 use setup::check::size_at;
@@ -171,23 +173,27 @@ pub extern "C" fn presence_step(
 pub extern "C" fn presence_change(image: &[u8], bytes: &[u8], lead: u32, out: &mut [u8]) -> Answer
     ensures { λ r. ⌜ called r (now (out .exit)) ≡ changeCall (now (image .entry)) (now (bytes .entry)) lead (now (out .entry)) ⌝ }
 {
-    let old = State::load(image);
-    if old.number != 0 {
-        return refuse(old.number, old.index);
+    let held = check_image(image);
+    if held.number != 0 {
+        return refuse(held.number, held.index);
     }
-    let new = setup::read::read(bytes);
-    if new.number != 0 {
-        return refuse(new.number, new.index);
+    let asked = setup::check::check(bytes);
+    if asked.number != 0 {
+        return refuse(asked.number, asked.index);
     }
-    let state = old.state;
-    let setup = new.setup;
-    let changed = state.change(setup, lead);
-    if changed.number != 0 {
-        return refuse(changed.number, changed.index);
+    if !same_frame(image, bytes) {
+        return refuse(23, 0);
     }
-    let next = changed.state;
-    let v = next.save(out);
-    refuse(v.number, v.index)
+    let n = size_at(image);
+    let left = word_at(image, left_at(3, n));
+    if (left != 0) | ((lead < 1) | (MOST_LEAD < lead)) {
+        return refuse(24, 0);
+    }
+    if out.len() != image_length(3, n, lead) {
+        return refuse(9, 0);
+    }
+    save_changed(image, bytes, n, lead, out);
+    refuse(0, 0)
 }
 
 // Tests an image and writes it again, in its one form: 1 to 8 and 22, 9.

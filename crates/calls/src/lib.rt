@@ -1,5 +1,6 @@
 // What C calls: a module's opening, step, change of limits and saving, from image to image, the word that it hands out, and why a word is not heard.
 pub mod calls;
+mod change;
 mod step;
 
 // What a call from C answers; health is 0 but after an accepted step.

@@ -1,23 +1,40 @@
 -- A change, sentence by sentence (document 02, E10): what the definitions give, and what document 02 says. Computed in proofs/Cases.antt.
 use Prim.Native.Nat.{ℕ}
 use mathlib.Core.Path.{_≡_}
-use mathlib.Core.Bool.{Bool, true, false}
+use mathlib.Core.Bool.{Bool, true, false, _&&_}
 use mathlib.Core.List.{List, [], _∷_, _++_}
 use lib.ListN.{getD}
+use lib.Dec.{eqb}
 use Rattle.words.specs.Bits.{b2n}
 use Rattle.words.specs.Array.{array}
 use Rattle.doubles.specs.Array.{zeros}
 use Rattle.setup.specs.declared.Setup.{Setup}
 use Rattle.setup.specs.declared.Limits.the-variants.{Counts}
 use Rattle.accounts.specs.Account.{counts}
-use Rattle.accounts.specs.Cases.{Case, case, right}
 use Rattle.accounts.specs.declared.Account.{Account}
 use Rattle.accounts.specs.declared.Counters.{Counters}
 use Rattle.changes.specs.Pending.{nothing, penaltyLimitOf, rewardLimitOf}
 use Rattle.changes.specs.Adjust.{adjusted}
 use Rattle.changes.specs.Books.{turned, booksAfter}
+use Rattle.changes.specs.Frame.{frameVerdict}
 use Rattle.changes.specs.declared.Pending.{Pending}
 use Rattle.changes.specs.declared.Books.{Books}
+
+-- ---- the table
+
+-- one line
+pub record Case : Type 0 where
+  pub gives : ℕ
+  pub says : ℕ
+
+-- such a line
+abbrev pub case : ℕ → ℕ → Case
+case gives says = record { gives = gives; says = says }
+
+-- in every line both are the same
+abbrev pub right : List Case → Bool
+right [] = true
+right (c ∷ cs) = eqb (c .gives) (c .says) && right cs
 
 -- ---- one module
 
@@ -144,3 +161,35 @@ roundCases =
 abbrev pub CasesRight : Type 0
 CasesRight =
     right (forgivenCases ++ (leaveCases ++ (raisedCases ++ (cutCases ++ (rewardCases ++ (waitingCases ++ (dueCases ++ roundCases))))))) ≡ true
+
+-- ---- which change may follow: 23, then 24
+
+-- a setup with other limits, and such an N, Q, send marks and read place of module 2
+abbrev pub wanted : ℕ → ℕ → ℕ → ℕ → Setup
+wanted n q marks place =
+    record { n = n; q = q; limits = Counts 5 6; marks = marks; places = array 2 (λ j. getD (1 ∷ place ∷ []) j 0); criticality = array 2 (λ j. 4) }
+
+-- the number by which it is refused in the old one's place
+abbrev pub numberOf : Pending → Setup → ℕ → ℕ
+numberOf pending new lead = frameVerdict old pending new lead .number
+
+-- 1 and 1,000 rounds ahead, not 0 or 1,001; none while one is pending; N, Q, marks and places are the old one's; 23 before 24.
+abbrev pub numberCases : List Case
+numberCases =
+    case (numberOf nothing (wanted 2 0 2 1) 1) 0
+    ∷ case (numberOf nothing (wanted 2 0 2 1) 1000) 0
+    ∷ case (numberOf nothing (wanted 2 0 2 1) 0) 24
+    ∷ case (numberOf nothing (wanted 2 0 2 1) 1001) 24
+    ∷ case (numberOf (asked 1) (wanted 2 0 2 1) 1) 24
+    ∷ case (numberOf (asked 1000) (wanted 2 0 2 1) 1) 24
+    ∷ case (numberOf nothing (wanted 3 0 2 1) 1) 23
+    ∷ case (numberOf nothing (wanted 2 1 2 1) 1) 23
+    ∷ case (numberOf nothing (wanted 2 0 0 1) 1) 23
+    ∷ case (numberOf nothing (wanted 2 0 2 2) 1) 23
+    ∷ case (numberOf nothing (wanted 2 0 2 2) 0) 23
+    ∷ case (numberOf (asked 1) (wanted 2 0 2 2) 1) 23
+    ∷ []
+
+-- every line of them is right
+abbrev pub NumbersRight : Type 0
+NumbersRight = right numberCases ≡ true

@@ -17,12 +17,14 @@ use Rattle.words.specs.Verdict.{isAccepted}
 use Rattle.setup.specs.Layout.{frontWords}
 use Rattle.setup.specs.Setup.{sizeIn, fadesIn, setupOf}
 use Rattle.setup.specs.declared.Limits.{Limits}
+use Rattle.setup.specs.declared.Limits.the-variants.{Counts}
 use Rattle.accounts.specs.Round.{accountAt, countersOf}
 use Rattle.accounts.proofs.RoundLaws.{Kept}
 use Rattle.rules.specs.Hearing.{readingOf, causesOf}
 use Rattle.rules.specs.Causes.{causeOf}
 use Rattle.rules.proofs.Causes.{of-read, hears, above as no-module}
 use Rattle.changes.specs.Books.{turned}
+use Rattle.changes.specs.declared.Books.{Books}
 use Rattle.changes.proofs.TurnLaws.{turned-size, turned-setup-fits}
 use Rattle.image.specs.Layout.{ownAt}
 use Rattle.image.specs.Words.{viewIn}
@@ -34,7 +36,7 @@ use Rattle.presence.specs.Opening.{openOf}
 use Rattle.presence.specs.Step.{booksOf, foundView, acceptedStep, stepOf}
 use Rattle.presence.specs.Change.{changeOf}
 use Rattle.presence.specs.Image.{imageOf, stateOf}
-use Rattle.calls.specs.Calls.{openCall, stepCall, changeCall}
+use Rattle.calls.specs.Calls.{openCall, stepCall}
 use Rattle.presence.specs.declared.State.{State}
 use Rattle.presence.specs.declared.Stepped.{Stepped}
 use Rattle.presence.proofs.ValidLaws.{valid-fits}
@@ -171,29 +173,29 @@ module _ (image read : List ℕ) (controller : ℕ) (out : List ℕ) where
     enabled j h t u = turns-on (after .page) j h t (ap (λ (x : ℕ). bit x j) enable-stays ∙ u)
 
     -- whether the view differs from word 1, and whether somebody was charged
-    abbrev changes : Bool
-    changes = not (eqb (wordAt page 1) (stateOf (after .call .out) .counters .view))
+    abbrev moves : Bool
+    moves = not (eqb (wordAt page 1) (stateOf (after .call .out) .counters .view))
 
     abbrev charges : Bool
     charges = somebodyCharged (st .setup .n) (foundView st) (after .call .answer .health)
 
-    flags-by : wordAt (after .page) 2 ≡ raised (wordAt page 2) changes charges
+    flags-by : wordAt (after .page) 2 ≡ raised (wordAt page 2) moves charges
     flags-by =
         flags-are
         ∙ ap₂ (λ (v h : ℕ). raised (wordAt page 2) (not (eqb (wordAt page 1) v)) (somebodyCharged (st .setup .n) (foundView st) h)) (sym view-is)
         (sym health-is)
 
-    change-is : bit (wordAt (after .page) 2) 0 ≡ bit (wordAt page 2) 0 || changes
-    change-is = ap (λ (x : ℕ). bit x 0) flags-by ∙ raised-0 (wordAt page 2) changes charges
+    change-is : bit (wordAt (after .page) 2) 0 ≡ bit (wordAt page 2) 0 || moves
+    change-is = ap (λ (x : ℕ). bit x 0) flags-by ∙ raised-0 (wordAt page 2) moves charges
 
     charge-is : bit (wordAt (after .page) 2) 1 ≡ bit (wordAt page 2) 1 || charges
-    charge-is = ap (λ (x : ℕ). bit x 1) flags-by ∙ raised-1 (wordAt page 2) changes charges
+    charge-is = ap (λ (x : ℕ). bit x 1) flags-by ∙ raised-1 (wordAt page 2) moves charges
 
     others-are : (j : ℕ) → 2 ≤ j → j < 32 → bit (wordAt (after .page) 2) j ≡ bit (wordAt page 2) j
-    others-are j h l = ap (λ (x : ℕ). bit x j) flags-by ∙ raised-above (wordAt page 2) j changes charges h l
+    others-are j h l = ap (λ (x : ℕ). bit x j) flags-by ∙ raised-above (wordAt page 2) j moves charges h l
 
     change-set : wordAt page 1 ≢ stateOf (after .call .out) .counters .view → bit (wordAt (after .page) 2) 0 ≡ true
-    change-set f = change-is ∙ or-r (bit (wordAt page 2) 0) changes (ap not (ne-eqb _ _ f))
+    change-set f = change-is ∙ or-r (bit (wordAt page 2) 0) moves (ap not (ne-eqb _ _ f))
 
     charge-set : charges ≡ true → bit (wordAt (after .page) 2) 1 ≡ true
     charge-set c = charge-is ∙ or-r (bit (wordAt page 2) 1) charges c
@@ -279,6 +281,29 @@ module _ (j : ℕ) (h : j < 32) where
   stays-set page _ (not-opened {now} u setup own out f) t = subst Set (sym (refusals .unaltered now _ (page-of-opening setup own out f))) (stays-set page now u t)
   stays-set page _ (written {now} u offset value f) t = write-kept now offset value f (stays-set page now u t)
 
+-- ---- whom rule 8 charges
+
+grew : (image : List ℕ) (p r health : ℕ) → checkImage image .number ≡ 0
+    → let found : Books = turned (booksOf (stateOf image)) in
+    found .setup .limits ≡ Counts p r
+    → somebodyCharged (stateOf image .setup .n) (foundView (stateOf image)) health
+    ≡ any (stateOf image .setup .n)
+    (λ j. ltb (getD (found .counters .penalty) j 0) (getD (countersOf (found .setup) health (found .counters) .penalty) j 0))
+unfolding foundView
+grew image p r health z e =
+    let books = booksOf (stateOf image) in
+    let found = turned books in
+    let f = valid-fits (stateOf image) (load-valid image z) in
+    let s = turned-setup-fits books (f .pending) (f .setup) in
+    let kept = within-kept (found .setup .limits) (found .setup) (found .counters) (s .most) (turned-accounts books (f .setup) (f .pending) (f .counters)) in
+    subst
+    (λ (n : ℕ).
+    somebodyCharged n (found .counters .view) health
+    ≡ any n (λ j. ltb (getD (found .counters .penalty) j 0) (getD (countersOf (found .setup) health (found .counters) .penalty) j 0)))
+    (turned-size books)
+    (charged-grows (found .setup) p r e (found .counters) health s
+    (λ j h. subst (λ (l : Limits). Kept l (getD (found .setup .criticality) j 0) (accountAt (found .counters) j)) e (kept j h) .0))
+
 pub promise : Promise
 promise = record {
   same-opening = same-opening;
@@ -286,18 +311,7 @@ promise = record {
   health = health-word;
   view = view-word;
   shown = shows;
-  grew = λ image p r health z e.
-      let st = stateOf image in
-      let found = turned (booksOf st) in
-      let f = valid-fits st (load-valid image z) in
-      let s = turned-setup-fits (booksOf st) (f .pending) (f .setup) in
-      let kept = within-kept (found .setup .limits) (found .setup) (found .counters) (s .most) (turned-accounts (booksOf st) (f .setup) (f .pending) (f .counters)) in
-      subst
-      (λ (n : ℕ).
-      somebodyCharged n (foundView st) health ≡ any n (λ j. ltb (getD (found .counters .penalty) j 0) (getD (countersOf (found .setup) health (found .counters) .penalty) j 0)))
-      (turned-size (booksOf st))
-      (charged-grows (found .setup) p r e (found .counters) health s
-      (λ j h. subst (λ (l : Limits). Kept l (getD (found .setup .criticality) j 0) (accountAt (found .counters) j)) e (kept j h) .0));
+  grew = grew;
   change-flag = change-is;
   charge-flag = charge-is;
   other-flags = others-are;
