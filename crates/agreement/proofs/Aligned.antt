@@ -22,7 +22,7 @@ use Rattle.rules.specs.Hearing.{busWord, entryOf}
 use Rattle.rules.specs.Alignment.{fromPrevious}
 use Rattle.rules.specs.Syndrome.{outgoingOf}
 use Rattle.presence.specs.Opening.{fresh}
-use Rattle.presence.specs.Step.{skewOf, placeOf, markOf, ownSyndrome, alignedFor, judgementFor, outgoingFor, afterRound}
+use Rattle.presence.specs.Step.{skewOf, placeOf, markOf, ownSyndrome, alignedFor, outgoingFor, afterRound}
 use Rattle.rules.specs.declared.Entry.{Entry}
 use Rattle.presence.specs.declared.State.{State}
 use Rattle.rules.proofs.ReceptionLaws.{below-kind, row-of-bus, bus-heard, entry-row, reading-heard, reading-row}

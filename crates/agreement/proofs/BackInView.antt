@@ -1,7 +1,7 @@
 -- The account that a module keeps of another over a session: each step counts it with the limits that then hold, and a change before it leaves the
 -- return count and brings nobody back.
 use Prim.Native.Nat.{ℕ, zero, suc, _+_, _-_, _≤_, _<_}
-use mathlib.Core.Path.{_≡_, refl, sym, ap, ap₂, _∙_, subst}
+use mathlib.Core.Path.{_≡_, refl, sym, ap, _∙_, subst}
 use mathlib.Core.Bool.{Bool, true, false, cond}
 use mathlib.Core.Logic.{_⊎_, inl, inr, ⊎-elim}
 use mathlib.Core.List.{List}
@@ -10,11 +10,10 @@ use lib.Dec.{leb}
 use lib.ListN.{getD, getD-replicate}
 use borrow.Author.Tests.{leb-true, lt-leb}
 use Rattle.words.specs.Bits.{bit}
-use Rattle.words.proofs.Truth.{clash}
 use Rattle.setup.specs.Limits.{fades}
 use Rattle.setup.specs.declared.Setup.{Setup}
 use Rattle.setup.specs.declared.Limits.{Limits}
-use Rattle.setup.specs.declared.Limits.the-variants.{Counts, Fading}
+use Rattle.setup.specs.declared.Limits.the-variants.{Counts}
 use Rattle.accounts.specs.Account.{uncounted, charged, accounted}
 use Rattle.accounts.specs.Round.{accountedBy, returnedBy, accountAt, accountedAt, countersOf}
 use Rattle.accounts.specs.declared.Account.{Account}
@@ -22,7 +21,7 @@ use Rattle.accounts.specs.declared.Counters.{Counters}
 use Rattle.accounts.proofs.RoundLaws.{accounted-at}
 use Rattle.accounts.proofs.Returning.{returned-on, comes-back, came-back, as-returned, never-back, bad-stays}
 use Rattle.changes.specs.Pending.{penaltyLimitOf, rewardLimitOf}
-use Rattle.changes.specs.Adjust.{withCounters, forgiven, fitted, settled, adjusted, adjustedAt, adjustedOf}
+use Rattle.changes.specs.Adjust.{withCounters, forgiven, settled, adjusted, adjustedAt}
 use Rattle.changes.specs.Books.{turned, counted, booksAfter}
 use Rattle.changes.specs.declared.Books.{Books}
 use Rattle.changes.proofs.AdjustLaws.{adjusted-at, adjusted-out}

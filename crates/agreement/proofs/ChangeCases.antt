@@ -38,46 +38,46 @@ use Rattle.presence.specs.Step.{placeOf, markOf, ownSyndrome, alignedFor, judge
 use Rattle.agreement.specs.Fault.{differ, half, heard, halfIn, breakerIn, unheardIn, within, keptOver, limit}
 use Rattle.agreement.specs.Session.{made, bitIn, wordIn, readRound, state, health, handed, sent, keptBy}
 use Rattle.agreement.specs.Stars.{digits, bound, keptTo}
-use Rattle.agreement.specs.ChangeCases.{plainCases, raisedCases, refusedCases, loweredCases, forgivenCases, outsideCases, returnsCases, voteCases, apartCases, ChangesRight}
+use Rattle.agreement.specs.ChangeCases.{plainRunCases, raisedRunCases, refusedRunCases, loweredRunCases, forgivenRunCases, outsideRunCases, returnsRunCases, voteRunCases, apartRunCases, ChangeRunsRight}
 use Rattle.agreement.specs.Stars.{right}
 
-plain-right : right plainCases ≡ true
+plain-right : right plainRunCases ≡ true
 unfolding wordAt bytesOf bit pack count any all lowest updated array bounded andThen outcome thenTests runWord runsOf fits toBits ofInt double doubles clearDoubles fadesIn limitsIn limitList setupBytes setupOf blankSetup moduleFits markFits whole headFits headOk limitOk moduleOk markOk moduleTest checkHead checkWords checkSetup setupRoomy roomVerdict setupVerdict skewed busWord receptionOf isHeard heardRow causeIn entryOf readingOf causesOf alignedOf decision tally voteOf healthOf differsAt accusationOf accusationsOf syndromeOf votersOf judgementOf outgoingOf charged rewarded awaited accounted accountedBy accountAt accountedAt countersOf rowFits ownNumberOk ownOk rowOk syndromeOk rowsRoomy counterOk countersRoomy checkTail roomy stateVerdict fresh blank checkOpening openOf placeOf markOf ownSyndrome alignedFor judgementFor outgoingFor afterRound refusedStep acceptedStep readStep stepOf differ half heard halfIn breakerIn unheardIn within keptOver limit bitIn wordIn readRound state health handed sent keptBy digits bound keptTo leftOk newTest pendingRoomy nothing newWord countedDown turned counted booksAfter made newModuleOk forgiven fitted settled adjusted adjustedAt adjustedOf pendingOf sameFrame mayFollow frameVerdict newVerdict changeVerdict changeOf foundView
 plain-right = refl
 
-raised-right : right raisedCases ≡ true
+raised-right : right raisedRunCases ≡ true
 unfolding wordAt bytesOf bit pack count any all lowest updated array bounded andThen outcome thenTests runWord runsOf fits toBits ofInt double doubles clearDoubles fadesIn limitsIn limitList setupBytes setupOf blankSetup moduleFits markFits whole headFits headOk limitOk moduleOk markOk moduleTest checkHead checkWords checkSetup setupRoomy roomVerdict setupVerdict skewed busWord receptionOf isHeard heardRow causeIn entryOf readingOf causesOf alignedOf decision tally voteOf healthOf differsAt accusationOf accusationsOf syndromeOf votersOf judgementOf outgoingOf charged rewarded awaited accounted accountedBy accountAt accountedAt countersOf rowFits ownNumberOk ownOk rowOk syndromeOk rowsRoomy counterOk countersRoomy checkTail roomy stateVerdict fresh blank checkOpening openOf placeOf markOf ownSyndrome alignedFor judgementFor outgoingFor afterRound refusedStep acceptedStep readStep stepOf differ half heard halfIn breakerIn unheardIn within keptOver limit bitIn wordIn readRound state health handed sent keptBy digits bound keptTo leftOk newTest pendingRoomy nothing newWord countedDown turned counted booksAfter made newModuleOk forgiven fitted settled adjusted adjustedAt adjustedOf pendingOf sameFrame mayFollow frameVerdict newVerdict changeVerdict changeOf foundView
 raised-right = refl
 
-refused-right : right refusedCases ≡ true
+refused-right : right refusedRunCases ≡ true
 unfolding wordAt bytesOf bit pack count any all lowest updated array bounded andThen outcome thenTests runWord runsOf fits toBits ofInt double doubles clearDoubles fadesIn limitsIn limitList setupBytes setupOf blankSetup moduleFits markFits whole headFits headOk limitOk moduleOk markOk moduleTest checkHead checkWords checkSetup setupRoomy roomVerdict setupVerdict skewed busWord receptionOf isHeard heardRow causeIn entryOf readingOf causesOf alignedOf decision tally voteOf healthOf differsAt accusationOf accusationsOf syndromeOf votersOf judgementOf outgoingOf charged rewarded awaited accounted accountedBy accountAt accountedAt countersOf rowFits ownNumberOk ownOk rowOk syndromeOk rowsRoomy counterOk countersRoomy checkTail roomy stateVerdict fresh blank checkOpening openOf placeOf markOf ownSyndrome alignedFor judgementFor outgoingFor afterRound refusedStep acceptedStep readStep stepOf differ half heard halfIn breakerIn unheardIn within keptOver limit bitIn wordIn readRound state health handed sent keptBy digits bound keptTo leftOk newTest pendingRoomy nothing newWord countedDown turned counted booksAfter made newModuleOk forgiven fitted settled adjusted adjustedAt adjustedOf pendingOf sameFrame mayFollow frameVerdict newVerdict changeVerdict changeOf foundView
 refused-right = refl
 
-lowered-right : right loweredCases ≡ true
+lowered-right : right loweredRunCases ≡ true
 unfolding wordAt bytesOf bit pack count any all lowest updated array bounded andThen outcome thenTests runWord runsOf fits toBits ofInt double doubles clearDoubles fadesIn limitsIn limitList setupBytes setupOf blankSetup moduleFits markFits whole headFits headOk limitOk moduleOk markOk moduleTest checkHead checkWords checkSetup setupRoomy roomVerdict setupVerdict skewed busWord receptionOf isHeard heardRow causeIn entryOf readingOf causesOf alignedOf decision tally voteOf healthOf differsAt accusationOf accusationsOf syndromeOf votersOf judgementOf outgoingOf charged rewarded awaited accounted accountedBy accountAt accountedAt countersOf rowFits ownNumberOk ownOk rowOk syndromeOk rowsRoomy counterOk countersRoomy checkTail roomy stateVerdict fresh blank checkOpening openOf placeOf markOf ownSyndrome alignedFor judgementFor outgoingFor afterRound refusedStep acceptedStep readStep stepOf differ half heard halfIn breakerIn unheardIn within keptOver limit bitIn wordIn readRound state health handed sent keptBy digits bound keptTo leftOk newTest pendingRoomy nothing newWord countedDown turned counted booksAfter made newModuleOk forgiven fitted settled adjusted adjustedAt adjustedOf pendingOf sameFrame mayFollow frameVerdict newVerdict changeVerdict changeOf foundView
 lowered-right = refl
 
-forgiven-right : right forgivenCases ≡ true
+forgiven-right : right forgivenRunCases ≡ true
 unfolding wordAt bytesOf bit pack count any all lowest updated array bounded andThen outcome thenTests runWord runsOf fits toBits ofInt double doubles clearDoubles fadesIn limitsIn limitList setupBytes setupOf blankSetup moduleFits markFits whole headFits headOk limitOk moduleOk markOk moduleTest checkHead checkWords checkSetup setupRoomy roomVerdict setupVerdict skewed busWord receptionOf isHeard heardRow causeIn entryOf readingOf causesOf alignedOf decision tally voteOf healthOf differsAt accusationOf accusationsOf syndromeOf votersOf judgementOf outgoingOf charged rewarded awaited accounted accountedBy accountAt accountedAt countersOf rowFits ownNumberOk ownOk rowOk syndromeOk rowsRoomy counterOk countersRoomy checkTail roomy stateVerdict fresh blank checkOpening openOf placeOf markOf ownSyndrome alignedFor judgementFor outgoingFor afterRound refusedStep acceptedStep readStep stepOf differ half heard halfIn breakerIn unheardIn within keptOver limit bitIn wordIn readRound state health handed sent keptBy digits bound keptTo leftOk newTest pendingRoomy nothing newWord countedDown turned counted booksAfter made newModuleOk forgiven fitted settled adjusted adjustedAt adjustedOf pendingOf sameFrame mayFollow frameVerdict newVerdict changeVerdict changeOf foundView
 forgiven-right = refl
 
-outside-right : right outsideCases ≡ true
+outside-right : right outsideRunCases ≡ true
 unfolding wordAt bytesOf bit pack count any all lowest updated array bounded andThen outcome thenTests runWord runsOf fits toBits ofInt double doubles clearDoubles fadesIn limitsIn limitList setupBytes setupOf blankSetup moduleFits markFits whole headFits headOk limitOk moduleOk markOk moduleTest checkHead checkWords checkSetup setupRoomy roomVerdict setupVerdict skewed busWord receptionOf isHeard heardRow causeIn entryOf readingOf causesOf alignedOf decision tally voteOf healthOf differsAt accusationOf accusationsOf syndromeOf votersOf judgementOf outgoingOf charged rewarded awaited accounted accountedBy accountAt accountedAt countersOf rowFits ownNumberOk ownOk rowOk syndromeOk rowsRoomy counterOk countersRoomy checkTail roomy stateVerdict fresh blank checkOpening openOf placeOf markOf ownSyndrome alignedFor judgementFor outgoingFor afterRound refusedStep acceptedStep readStep stepOf differ half heard halfIn breakerIn unheardIn within keptOver limit bitIn wordIn readRound state health handed sent keptBy digits bound keptTo leftOk newTest pendingRoomy nothing newWord countedDown turned counted booksAfter made newModuleOk forgiven fitted settled adjusted adjustedAt adjustedOf pendingOf sameFrame mayFollow frameVerdict newVerdict changeVerdict changeOf foundView
 outside-right = refl
 
-returns-right : right returnsCases ≡ true
+returns-right : right returnsRunCases ≡ true
 unfolding wordAt bytesOf bit pack count any all lowest updated array bounded andThen outcome thenTests runWord runsOf fits toBits ofInt double doubles clearDoubles fadesIn limitsIn limitList setupBytes setupOf blankSetup moduleFits markFits whole headFits headOk limitOk moduleOk markOk moduleTest checkHead checkWords checkSetup setupRoomy roomVerdict setupVerdict skewed busWord receptionOf isHeard heardRow causeIn entryOf readingOf causesOf alignedOf decision tally voteOf healthOf differsAt accusationOf accusationsOf syndromeOf votersOf judgementOf outgoingOf charged rewarded awaited accounted accountedBy accountAt accountedAt countersOf rowFits ownNumberOk ownOk rowOk syndromeOk rowsRoomy counterOk countersRoomy checkTail roomy stateVerdict fresh blank checkOpening openOf placeOf markOf ownSyndrome alignedFor judgementFor outgoingFor afterRound refusedStep acceptedStep readStep stepOf differ half heard halfIn breakerIn unheardIn within keptOver limit bitIn wordIn readRound state health handed sent keptBy digits bound keptTo leftOk newTest pendingRoomy nothing newWord countedDown turned counted booksAfter made newModuleOk forgiven fitted settled adjusted adjustedAt adjustedOf pendingOf sameFrame mayFollow frameVerdict newVerdict changeVerdict changeOf foundView
 returns-right = refl
 
-vote-right : right voteCases ≡ true
+vote-right : right voteRunCases ≡ true
 unfolding wordAt bytesOf bit pack count any all lowest updated array bounded andThen outcome thenTests runWord runsOf fits toBits ofInt double doubles clearDoubles fadesIn limitsIn limitList setupBytes setupOf blankSetup moduleFits markFits whole headFits headOk limitOk moduleOk markOk moduleTest checkHead checkWords checkSetup setupRoomy roomVerdict setupVerdict skewed busWord receptionOf isHeard heardRow causeIn entryOf readingOf causesOf alignedOf decision tally voteOf healthOf differsAt accusationOf accusationsOf syndromeOf votersOf judgementOf outgoingOf charged rewarded awaited accounted accountedBy accountAt accountedAt countersOf rowFits ownNumberOk ownOk rowOk syndromeOk rowsRoomy counterOk countersRoomy checkTail roomy stateVerdict fresh blank checkOpening openOf placeOf markOf ownSyndrome alignedFor judgementFor outgoingFor afterRound refusedStep acceptedStep readStep stepOf differ half heard halfIn breakerIn unheardIn within keptOver limit bitIn wordIn readRound state health handed sent keptBy digits bound keptTo leftOk newTest pendingRoomy nothing newWord countedDown turned counted booksAfter made newModuleOk forgiven fitted settled adjusted adjustedAt adjustedOf pendingOf sameFrame mayFollow frameVerdict newVerdict changeVerdict changeOf foundView
 vote-right = refl
 
-apart-right : right apartCases ≡ true
+apart-right : right apartRunCases ≡ true
 unfolding wordAt bytesOf bit pack count any all lowest updated array bounded andThen outcome thenTests runWord runsOf fits toBits ofInt double doubles clearDoubles fadesIn limitsIn limitList setupBytes setupOf blankSetup moduleFits markFits whole headFits headOk limitOk moduleOk markOk moduleTest checkHead checkWords checkSetup setupRoomy roomVerdict setupVerdict skewed busWord receptionOf isHeard heardRow causeIn entryOf readingOf causesOf alignedOf decision tally voteOf healthOf differsAt accusationOf accusationsOf syndromeOf votersOf judgementOf outgoingOf charged rewarded awaited accounted accountedBy accountAt accountedAt countersOf rowFits ownNumberOk ownOk rowOk syndromeOk rowsRoomy counterOk countersRoomy checkTail roomy stateVerdict fresh blank checkOpening openOf placeOf markOf ownSyndrome alignedFor judgementFor outgoingFor afterRound refusedStep acceptedStep readStep stepOf differ half heard halfIn breakerIn unheardIn within keptOver limit bitIn wordIn readRound state health handed sent keptBy digits bound keptTo leftOk newTest pendingRoomy nothing newWord countedDown turned counted booksAfter made newModuleOk forgiven fitted settled adjusted adjustedAt adjustedOf pendingOf sameFrame mayFollow frameVerdict newVerdict changeVerdict changeOf foundView
 apart-right = refl
 
-pub changes-right : ChangesRight
+pub changes-right : ChangeRunsRight
 changes-right = record {
   plain = plain-right;
   raised = raised-right;

@@ -34,7 +34,6 @@ use Rattle.calls.specs.Refusals.{sizeOf}
 use Rattle.presence.specs.declared.State.{State}
 use Rattle.presence.specs.declared.Stepped.{Stepped}
 use Rattle.calls.specs.declared.WordAnswer.{WordAnswer}
-use Rattle.presence.proofs.ValidLaws.{fits-valid}
 use Rattle.presence.proofs.StateChangeLaws.{change-refused, change-taken}
 use Rattle.calls.proofs.ModuleCallLaws.{read-sized, left-is, handed-out}
 use Rattle.presence.proofs.RoundTrip.{round-trip as states}

@@ -3,7 +3,6 @@
 use Prim.Native.Nat.{ℕ, zero, suc, _-_, _^_, _≤_, _<_}
 use mathlib.Core.Path.{_≡_, refl, sym, ap, ap₂, _∙_, subst}
 use mathlib.Core.Logic.{⊎-elim}
-use mathlib.Core.List.{List}
 use native.Mathlib.Omega.{arith}
 use native.Mathlib.Nat.{le-refl}
 use Rattle.words.specs.Bits.{bit}
@@ -18,7 +17,7 @@ use Rattle.presence.specs.Change.{withPending}
 use Rattle.presence.specs.declared.State.{State}
 use Rattle.rules.proofs.SyndromeLaws.{health-lt}
 use Rattle.agreement.specs.Fault.{firstFollower}
-use Rattle.agreement.specs.Session.{Offer, made, Session, Accepted, size, u, RuleFollower, follows, round, state, ready, health, Accepts, Common, viewOf}
+use Rattle.agreement.specs.Session.{Offer, Session, Accepted, size, u, RuleFollower, follows, round, state, ready, health, Accepts, Common, viewOf}
 use Rattle.agreement.specs.Ledger.{ledger}
 use Rattle.agreement.proofs.FaultLaws.{Follower, first-follower}
 use Rattle.agreement.proofs.Protocol.{Protocol, Agree}
