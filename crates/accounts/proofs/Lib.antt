@@ -5,6 +5,7 @@ pub mod RoundLaws
 pub mod CounterLoopLaws
 pub mod CountedLaws
 pub mod FadedLaws
+pub mod Returning
 pub mod TakenBack
 pub mod Charges
 pub mod Cases

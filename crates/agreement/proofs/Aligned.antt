@@ -17,19 +17,18 @@ use Rattle.words.proofs.BitLaws.{bit-pack, bit-full, full-lt}
 use Rattle.words.proofs.CountLaws.{any-none}
 use Rattle.words.proofs.ArrayLaws.{array-at}
 use Rattle.words.proofs.ByteLaws.{word-of}
-use Rattle.setup.specs.declared.Setup.{Setup}
 use Rattle.rules.specs.Lag.{skewed}
 use Rattle.rules.specs.Hearing.{busWord, entryOf}
 use Rattle.rules.specs.Alignment.{fromPrevious}
 use Rattle.rules.specs.Syndrome.{outgoingOf}
 use Rattle.presence.specs.Opening.{fresh}
-use Rattle.presence.specs.Step.{skewOf, placeOf, markOf, ownSyndrome, alignedFor, judgementFor, outgoingFor, afterRound}
+use Rattle.presence.specs.Step.{skewOf, placeOf, markOf, ownSyndrome, alignedFor, outgoingFor, afterRound}
 use Rattle.rules.specs.declared.Entry.{Entry}
 use Rattle.presence.specs.declared.State.{State}
 use Rattle.rules.proofs.ReceptionLaws.{below-kind, row-of-bus, bus-heard, entry-row, reading-heard, reading-row}
 use Rattle.rules.proofs.AlignmentLaws.{aligned-heard, aligned-row}
 use Rattle.agreement.specs.Session.{Session, Accepted, size, u, bitIn, wordIn, readRound, readBits, readBytes, state, handed, sent}
-use Rattle.agreement.proofs.Steps.{reading, small, held, state-zero, state-suc, handed-suc}
+use Rattle.agreement.proofs.Steps.{reading, small, held, state-zero, state-suc, handed-suc, syndrome-suc}
 
 -- rule 1, by cases
 lag-cases : (n : ℕ) (places : List ℕ)
@@ -94,13 +93,13 @@ module _ (S : Session) (ok : Accepted S) where
     own-place k =
         let h = held S ok i below k in
         let e : i + 1 - 1 ≡ i = omega arith in
-        ap₂ (λ (s : Setup) (o : ℕ). getD (s .places) (o - 1) 0) (h .setup) (h .own) ∙ ap (λ (m : ℕ). getD (S .setup .places) m 0) e
+        ap₂ (λ (p : List ℕ) (o : ℕ). getD p (o - 1) 0) (h .places-are) (h .own) ∙ ap (λ (m : ℕ). getD (S .setup .places) m 0) e
 
     pub own-skew : (k : ℕ) → skewOf (state S i k) ≡ skewed (size S) (S .setup .places)
-    own-skew k = ap (λ (s : Setup). skewed (s .n) (s .places)) (held S ok i below k .setup)
+    own-skew k = ap₂ skewed (held S ok i below k .size-is) (held S ok i below k .places-are)
 
     pub own-size : (k : ℕ) → state S i k .setup .n ≡ size S
-    own-size k = ap (λ (s : Setup). s .n) (held S ok i below k .setup)
+    own-size k = held S ok i below k .size-is
 
     one-round : {A : Type 0} (k j : ℕ) → j < size S → (f : ℕ → A) (old new : A) → old ≡ f (readRound S i k j) → new ≡ f (readRound S i (suc k) j)
         → cond (fromPrevious (skewed (size S) (S .setup .places)) (getD (S .setup .places) i 0) j) old new ≡ f (suc k - u S)
@@ -171,15 +170,14 @@ module _ (S : Session) (ok : Accepted S) where
     own-mark k =
         let h = held S ok i below k in
         let e : i + 1 - 1 ≡ i = omega arith in
-        ap₂ (λ (s : Setup) (o : ℕ). bit (s .marks) (o - 1)) (h .setup) (h .own) ∙ ap (λ (m : ℕ). bit (S .setup .marks) m) e
+        ap₂ (λ (m o : ℕ). bit m (o - 1)) (h .marks-are) (h .own) ∙ ap (λ (m : ℕ). bit (S .setup .marks) m) e
 
     handed-is : (k : ℕ) → handed S i (suc k)
         ≡ busWord (cond (bit (S .setup .marks) i) (state S i k .latest) (state S i (suc k) .latest))
-    unfolding outgoingFor outgoingOf afterRound
+    unfolding outgoingFor outgoingOf
     handed-is k =
         let m = own-mark k in
-        let l : state S i (suc k) .latest ≡ judgementFor (state S i k) (reading S i (suc k)) .syndrome
-        = ap (λ (st : State). st .latest) (state-suc S ok i below k) in
+        let l = syndrome-suc S ok i below k in
         handed-suc S ok i below k ∙ (cc)
 
     unmarked : (k : ℕ) → bit (S .setup .marks) i ≡ false → handed S i k ≡ busWord (state S i k .latest)

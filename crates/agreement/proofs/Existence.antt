@@ -16,7 +16,7 @@ use Rattle.words.proofs.ByteLaws.{bytes-ext}
 use Rattle.rules.specs.Hearing.{busWord}
 use Rattle.presence.specs.Step.{stepOf}
 use Rattle.presence.specs.declared.State.{State}
-use Rattle.agreement.specs.Session.{Session, RuleFollower, bitIn, wordIn, readRound, readBits, state, sent, Bound}
+use Rattle.agreement.specs.Session.{made, Session, RuleFollower, bitIn, wordIn, readRound, readBits, state, sent, Bound}
 use Rattle.agreement.specs.Existence.{Choice, Plays, Existence}
 use Rattle.agreement.proofs.Aligned.{sent-is}
 
@@ -29,11 +29,11 @@ read-le S i k j = go (ltb j (getD (S .setup .places) i 0))
     go false = omega arith
 
 module _ (C : Choice) where
-  open Choice C using (setup, accepted, cast, controller, lies, told, cast-only)
+  open Choice C using (setup, accepted, cast, controller, lies, told, offers, cast-only)
 
   -- the chosen session with these words
   abbrev with-words : (ℕ → ℕ → ℕ → ℕ) → Session
-  with-words w = record { setup = setup; cast = cast; controller = controller; word = w }
+  with-words w = record { setup = setup; cast = cast; controller = controller; word = w; offers = offers }
 
   -- ---- a state rests on the rounds so far alone
 
@@ -50,7 +50,7 @@ module _ (C : Choice) where
   unfolding state bitIn readRound
   state-eq w w′ zero e i = refl
   state-eq w w′ (suc k) e i =
-      ap₂ (λ (st : State) (read : List ℕ). stepOf st read (readBits (with-words w) i (suc k)) .state)
+      ap₂ (λ (st : State) (read : List ℕ). stepOf (made (offers (suc k) i) st) read (readBits (with-words w) i (suc k)) .state)
       (state-eq w w′ k (λ r i j p h. e r i j p (omega arith)) i)
       (bytes-ext (setup .n) _ _ (λ j hj. word-eq w w′ (suc k) e (readRound (with-words w) i (suc k) j) i j (read-le (with-words w) i (suc k) j)))
 
@@ -111,7 +111,7 @@ module _ (C : Choice) where
 
   plays : Plays C session
   unfolding words spoken
-  plays = record { setup = refl; cast = refl; controller = refl; told = λ k i j t. cond-true _ _ t; as-sent = as-sent; bound = bound }
+  plays = record { setup = refl; cast = refl; controller = refl; offers = refl; told = λ k i j t. cond-true _ _ t; as-sent = as-sent; bound = bound }
 
 pub existence : Existence
 existence C = (session C, plays C)

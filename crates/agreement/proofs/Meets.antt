@@ -17,16 +17,16 @@ use Rattle.vote.specs.Vote.{tally, voteOf}
 use Rattle.rules.specs.Accusation.{differsAt}
 use Rattle.rules.specs.Syndrome.{votersOf}
 use Rattle.presence.specs.Opening.{fresh}
-use Rattle.presence.specs.Step.{alignedFor, ownSyndrome, judgementFor, afterRound}
+use Rattle.presence.specs.Step.{alignedFor, ownSyndrome, judgementFor}
 use Rattle.presence.specs.declared.State.{State}
 use Rattle.rules.proofs.ReceptionLaws.{below-kind, row-of-bus, entry-bit, entry-row}
 use Rattle.rules.proofs.SyndromeLaws.{voter-bit, health-bit, syndrome-bit}
 use Rattle.vote.proofs.VoteLaws.{tally-ext}
 use Rattle.agreement.specs.Fault.{half}
-use Rattle.agreement.specs.Session.{Session, Accepted, size, u, RuleFollower, follows, bitIn, wordIn, round, state, health, sent, Bound, viewOf}
+use Rattle.agreement.specs.Session.{Session, Accepted, size, u, RuleFollower, follows, bitIn, wordIn, round, state, health, sent, Common, Bound, viewOf}
 use Rattle.agreement.proofs.FaultLaws.{half-none}
 use Rattle.agreement.proofs.Protocol.{Rules}
-use Rattle.agreement.proofs.Steps.{small, held, reading, state-zero, state-suc, health-suc}
+use Rattle.agreement.proofs.Steps.{small, held, reading, state-zero, health-suc, syndrome-suc}
 use Rattle.agreement.proofs.Shared.{protocol, rule-follower, counting}
 use Rattle.agreement.proofs.Aligned.{entry, start-hears, start-row, own-size, aligned-hears, aligned-rows, own-is, sent-is}
 
@@ -77,12 +77,12 @@ module _ (S : Session) (ok : Accepted S) where
       ≡ (round S (suc k - u S) .hears i j
       && not (bit (viewOf S i (suc k - 1)) j && round S (suc k - u S) .hears i j
       && any (size S) (λ h. not (eqb h j) && not (Bool·beq (bit (wordIn S (suc k - u S) i j) h) (bit (health S i (suc k)) h)))))
-  unfolding judgementFor afterRound differsAt
+  unfolding judgementFor differsAt
   marked k i j hi hj =
       let z = own-size S ok i hi k in
       let st = state S i k in
       let a = alignedFor st (reading S i (suc k)) in
-      let e : state S i (suc k) .latest ≡ judgementFor st (reading S i (suc k)) .syndrome = ap (λ (s : State). s .latest) (state-suc S ok i hi k) in
+      let e = syndrome-suc S ok i hi k in
       let b = syndrome-bit (st .setup .n) (st .counters .view) a (ownSyndrome st) j (subst (λ (m : ℕ). j < m) (sym z) hj) (subst (λ (m : ℕ). m ≤ 16) (sym z) (small S ok)) in
       let hears = aligned-hears S ok i hi k j hj in
       let v : bit (votersOf (st .setup .n) (st .counters .view) a) j ≡ bit (viewOf S i (suc k - 1)) j && round S (suc k - u S) .hears i j
@@ -137,13 +137,13 @@ module _ (S : Session) (ok : Accepted S) where
       half-none (size S) (follows S) (round S 0) j
       (λ i i′. record { hears = start-hears S ok i j ∙ sym (start-hears S ok i′ j); word = λ h. refl })
 
-  pub meets : (last : ℕ) → Bound S last → Rules (protocol S) last
+  pub meets : (last : ℕ) → Bound S last → Common S last → Rules (protocol S) last
   unfolding health
-  meets last bound = record {
+  meets last bound common = record {
     voted = λ k i j fi hj. voted k i j (fi .below) hj;
     marked = λ k i j fi hj. marked k i j (fi .below) hj;
     sent = λ k i l h hk fi fl hh t. says-syn last bound k i l h hk (rule-follower S i fi) (rule-follower S l fl) hh t;
-    counting = λ k i l hk ag fi hl. counting S ok k i l ag (rule-follower S i fi);
+    counting = λ k i l hk ag fi hl. counting S ok last common k i l hk ag (rule-follower S i fi);
     start-hears = start-hears S ok;
     start-not-half = start-not-half;
     start-says = start-says;

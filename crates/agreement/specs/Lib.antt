@@ -7,4 +7,5 @@ pub mod Existence
 pub mod Ledger
 pub mod Images
 pub mod Stars
+pub mod ChangeCases
 pub mod ScoresCounted

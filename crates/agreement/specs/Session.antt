@@ -1,12 +1,12 @@
--- A session: an accepted setup, any cast, and for each round, sender and rule-follower a controller bit and a word of any bits.
--- (document 01, "A session"; the fault limit as document 02, E4, has it)
+-- A session: an accepted setup, any cast, for each round, sender and rule-follower a controller bit and a word of any bits, and the changes of limits
+-- that each module is offered between its steps. (document 01, "A session"; the fault limit as document 02, E4, has it; changes by document 02, E10)
 -- A module is its number less one here: i, j and l stand for modules i + 1, j + 1 and l + 1.
 -- Rounds are 1, 2 and on. Round 0 stands for every round before 1, in which all hear all, with all-ones words: so a difference of
 -- rounds such as k - u - 1, which stops at 0, is right as it stands.
 use Prim.Native.Nat.{ℕ, zero, suc, _+_, _-_, _≤_, _<_}
 use mathlib.Core.Path.{_≡_}
 use mathlib.Core.Bool.{Bool, true, cond, not}
-use mathlib.Core.List.{List}
+use mathlib.Core.List.{List, [], _∷_, _++_}
 use lib.Dec.{ltb}
 use lib.ListN.{getD}
 use Rattle.words.specs.Word.{bytesOf}
@@ -17,9 +17,20 @@ use Rattle.rules.specs.Lag.{lag}
 use Rattle.rules.specs.Hearing.{busWord, entryOf}
 use Rattle.presence.specs.Opening.{openOf}
 use Rattle.presence.specs.Step.{stepOf}
+use Rattle.presence.specs.Change.{changeOf}
 use Rattle.presence.specs.declared.State.{State}
 use Rattle.presence.specs.declared.Stepped.{Stepped}
 use Rattle.agreement.specs.Fault.{Round, followsIn, firstFollower, half, heard, limit}
+
+-- a change that is offered: a whole setup with new P, R and criticalities, and how many rounds ahead it takes the old one's place
+pub record Offer : Type 0 where
+  pub setup : Setup
+  pub lead : ℕ
+
+-- one change after the other; a refused one leaves the state as it was
+unfoldable pub made : List Offer → State → State
+made [] st = st
+made (o ∷ os) st = made os (changeOf st (o .setup) (o .lead) .state)
 
 -- what a session holds; that its setup is accepted and its words are bound is said by `Accepted` and `Bound`
 pub record Session : Type 0 where
@@ -30,6 +41,9 @@ pub record Session : Type 0 where
   pub controller : ℕ → ℕ → ℕ → Bool
   -- the word, of any bits, by the same
   pub word : ℕ → ℕ → ℕ → ℕ
+  -- by round k and module: the changes, refused ones too, that it is offered after its step k - 1, for k = 1 its opening, and before its step k, in
+  -- their order. What stands for round 0 is not looked at.
+  pub offers : ℕ → ℕ → List Offer
 
 module _ (S : Session) where
   -- the setup is one that opening accepts
@@ -83,28 +97,47 @@ module _ (S : Session) where
   abbrev pub readBytes : ℕ → ℕ → List ℕ
   readBytes i k = bytesOf size (λ j. wordIn (readRound i k j) i j)
 
-  -- ---- what a module makes of it: opened with its own number, then one step a round
+  -- ---- what a module makes of it: opened with its own number, then one step a round, after the changes that it is offered before it
 
-  -- what step k of module i answers, from the state st that step k - 1 or the opening returned
+  -- what step k of module i answers, from the state st that it then holds
   abbrev pub answerAt : ℕ → ℕ → State → Stepped
   answerAt i k st = stepOf st (readBytes i k) (readBits i k)
 
   -- the state of module i after its steps 1 to k; for k = 0 the one that its opening returned
   unfoldable pub state : ℕ → ℕ → State
   state i zero = openOf (S .setup) (i + 1) .state
-  state i (suc k) = answerAt i (suc k) (state i k) .state
+  state i (suc k) = answerAt i (suc k) (made (S .offers (suc k) i) (state i k)) .state
+
+  -- the same, after the changes that lie before step k + 1: what that step is made from
+  abbrev pub ready : ℕ → ℕ → State
+  ready i k = made (S .offers (suc k) i) (state i k)
 
   -- the health vector that module i answers in step k; all ones before the first step
   unfoldable pub health : ℕ → ℕ → ℕ
   health i zero = full size
-  health i (suc k) = answerAt i (suc k) (state i k) .health
+  health i (suc k) = answerAt i (suc k) (ready i k) .health
+
+  -- ---- which changes are accepted
+
+  -- Module i accepts the change o after its step k, for k = 0 its opening, and before its step k + 1: those offered before it leave a state that
+  -- accepts it.
+  pub record Accepts (i k : ℕ) (o : Offer) : Type 0 where
+    pub before : List Offer
+    pub later : List Offer
+    pub offered : S .offers (suc k) i ≡ before ++ (o ∷ later)
+    pub taken : changeOf (made before (state i k)) (o .setup) (o .lead) .number ≡ 0
+
+  -- Up to round `last`: every change that one rule-follower accepts is accepted by all of them, with the same words and lead, between the same two
+  -- steps. Of refused changes nothing is asked.
+  abbrev pub Common : ℕ → Type 0
+  Common last = (k i i′ : ℕ) (o : Offer) → k < last → RuleFollower i → RuleFollower i′ → Accepts i k o → Accepts i′ k o
 
   -- ---- what is sent
 
   -- the word that module i hands out in step k; before the first step the all-ones word
   unfoldable pub handed : ℕ → ℕ → ℕ
   handed i zero = busWord (full size)
-  handed i (suc k) = answerAt i (suc k) (state i k) .word
+  handed i (suc k) = answerAt i (suc k) (ready i k) .word
 
   -- the word that module i sends in round k: handed out in that round's step with the send mark, else in the step of the round before
   unfoldable pub sent : ℕ → ℕ → ℕ
@@ -124,7 +157,7 @@ module _ (S : Session) where
   abbrev pub halfHeard : ℕ → ℕ → Bool
   halfHeard k j = half size follows (round k) j
 
-  -- the view that module i holds at the end of round k
+  -- the view that module i holds at the end of round k; a change that is then pending has not touched it
   abbrev pub viewOf : ℕ → ℕ → ℕ
   viewOf i k = state i k .counters .view
 

@@ -67,9 +67,9 @@ abbrev pub like : ℕ → ℕ → List ℕ → Setup
 like n marks places =
     record { n = n; q = 0; limits = Counts 1 3; marks = marks; places = array n (λ j. getD places j 0); criticality = array n (λ j. 1) }
 
--- the rule-breakers, as a vector; who hears whom by round, receiver and sender; and the row sent by round and sender
+-- the rule-breakers, as a vector; who hears whom by round, receiver and sender; and the row sent by round and sender; no change is offered
 abbrev pub castSession : ℕ → Setup → (ℕ → ℕ → ℕ → Bool) → (ℕ → ℕ → ℕ) → Session
-castSession cast s hears rows = record { setup = s; cast = cast; controller = hears; word = λ k i j. busWord (rows k j) }
+castSession cast s hears rows = record { setup = s; cast = cast; controller = hears; word = λ k i j. busWord (rows k j); offers = λ k i. [] }
 
 -- the same where all follow the rules
 abbrev pub session : Setup → (ℕ → ℕ → ℕ → Bool) → (ℕ → ℕ → ℕ) → Session
@@ -284,6 +284,7 @@ twoWords = record {
   cast = 3;
   controller = allHeard;
   word = λ k i j. busWord (cond (eqb k 2 && (eqb i 2 && leb j 1)) 0 (full 16));
+  offers = λ k i. [];
 }
 
 -- all are heard by all, two of them with different words, so a = 2: out
@@ -384,10 +385,10 @@ limitCases =
 abbrev pub struckCases : List Case
 struckCases = struckOffCases ++ (leftCases ++ leavesCases)
 
--- all of it
-abbrev pub stars : List Case
-stars = starred ++ (emptyCases ++ (ownRowCases ++ (boundCases ++ (limitCases ++ struckCases))))
-
 -- what is claimed: every line is right
-abbrev pub StarsRight : Type 0
-StarsRight = right stars ≡ true
+pub record StarsRight : Type 0 where
+  pub starred : right starred ≡ true
+  -- those that are not starred
+  pub others : right (emptyCases ++ (ownRowCases ++ boundCases)) ≡ true
+  pub limits : right limitCases ≡ true
+  pub struck : right struckCases ≡ true

@@ -3,7 +3,7 @@ use Prim.Native.Nat.{ℕ, zero, suc, _+_, _-_, _*_, _%_, _<_, _≤_}
 use mathlib.Core.Path.{_≡_, refl, sym, ap, ap₂, _∙_, subst}
 use mathlib.Core.Bool.{Bool, true, false, cond, not, _&&_}
 use mathlib.Core.Logic.{_≢_}
-use mathlib.Core.List.{List}
+use mathlib.Core.List.{List, []}
 use native.Mathlib.Omega.{arith}
 use native.Mathlib.Nat.{le-refl}
 use lib.Dec.{eqb, ltb}
@@ -34,12 +34,13 @@ use Rattle.script.specs.declared.Cursor.{Cursor}
 use Rattle.script.specs.declared.Events.{Events}
 use Rattle.script.proofs.CastLaws.{only-cast, plays-all}
 use Rattle.agreement.specs.Fault.{followsIn, firstFollower, keptOver, limit}
-use Rattle.agreement.specs.Session.{Session, Accepted, size, u, follows, bitIn, wordIn, round, state, health, viewOf, keptBy, kept}
-use Rattle.agreement.specs.Life.{Life, opens, steps}
+use Rattle.agreement.specs.Session.{Offer, Session, Accepted, size, u, follows, bitIn, wordIn, round, state, health, viewOf, keptBy, kept}
+use Rattle.agreement.specs.Life.{Life}
 use Rattle.agreement.specs.Demand.{KeptTo}
-use Rattle.agreement.specs.Existence.{Choice}
+use Rattle.agreement.specs.Existence.{Choice, NoChanges}
 use Rattle.agreement.proofs.Steps.{small, setup-fits}
 use Rattle.agreement.proofs.Demand.{demand-3}
+use Rattle.agreement.proofs.Without.{common-without, life-without}
 use Rattle.agreement.proofs.Existence.{existence}
 use Rattle.bus.specs.Bus.{faultless, arrived}
 use Rattle.bus.specs.Senders.{hearingOf, sendersIn}
@@ -52,7 +53,7 @@ use Rattle.backplane.proofs.SessionLaws.{Tells, hears-bus, limit-as, ca
 
 -- ---- round by round
 
-module _ (S : Session) (ok : Accepted S) where
+module _ (S : Session) (ok : Accepted S) (none : NoChanges S) where
   abbrev n : ℕ
   n = size S
 
@@ -131,7 +132,7 @@ module _ (S : Session) (ok : Accepted S) where
       let after = steppedStates (b .setup) (b .states) this (b .bus) in
       let are : (i : ℕ) → i < n → stateAt after i ≡ state S i (suc k) = λ i hi.
       ap (λ (x : Setup). stateAt (steppedStates x (b .states) this (b .bus)) i) s
-      ∙ states-as S ok k (b .states) (h .holds .states) this (b .bus) c (h .holds .bus) (h .entries) i hi in
+      ∙ states-as S ok k (b .states) (h .holds .states) this (b .bus) c (h .holds .bus) none (h .entries) i hi in
       let view = countingView b after in
       let limit : keptOver (b .setup .n) (followsIn (b .cast)) (bit view) (sendersIn (hearingOf (b .setup .n) (b .cast) this)) (sendersIn (earlier b)) ≡ kept S (suc k) =
       ap₂ (λ (x : Setup) (y : ℕ). keptOver (x .n) (followsIn y) (bit view) (sendersIn (hearingOf (b .setup .n) (b .cast) this)) (sendersIn (earlier b))) s (h .cast)
@@ -146,7 +147,7 @@ module _ (S : Session) (ok : Accepted S) where
               states = are;
               health = λ i hi.
                   ap (λ (x : Setup). getD (answeredHealth x (b .states) this (b .bus)) i 0) s
-                  ∙ health-as S ok k (b .states) (h .holds .states) this (b .bus) c (h .holds .bus) i hi;
+                  ∙ health-as S ok k (b .states) (h .holds .states) this (b .bus) c (h .holds .bus) none i hi;
               bus = c;
               hearing = heard;
               kept = ap₂ (λ (x y : Bool). x && y) (h .holds .kept) limit;
@@ -179,6 +180,7 @@ module _ (s : List ℕ) (e : checkScript s .number ≡ 0) where
     controller = λ k i j. not (eqb (fateIn s k i j) 7);
     lies = lies;
     told = toldIn s;
+    offers = λ k i. [];
     cast-only = lies-cast;
   }
 
@@ -203,6 +205,7 @@ has-session s e =
         told = λ k i j hi hj f. P .told k i j (told-lies s e k i j hi hj f);
         as-sent = λ k i j hj f. P .as-sent k i j hj (no-lie s e (suc k) i j f);
         bound = P .bound;
+        no-changes = λ k i. ap (λ (f : ℕ → ℕ → List Offer). f (suc k) i) (P .offers);
       },
     )
 
@@ -235,29 +238,24 @@ module _ (s : List ℕ) (e : checkScript s .number ≡ 0) (S : Session) (P : Pla
       let r : b .round < 100000 = omega (arith, h .round, p .most) in
       and-true _ _ (ap not (p .playing (suc k) hk)) (lt-ltb _ 100000 r)
 
-  next-is : (k : ℕ) → suc k ≤ roundsOf s → Shows S (P .accepted) k (runAt s k .backplane)
+  next-is : (k : ℕ) → suc k ≤ roundsOf s → Shows S (P .accepted) (P .no-changes) k (runAt s k .backplane)
       → runAt s (suc k) .backplane ≡ played (runAt s k .backplane) (cursorAt s (suc k) .events)
   unfolding later nextOf
   next-is k hk h =
       let b = runAt s k .backplane in
       ap (λ (x : Cursor). cond (goesOn x b) (played b (x .events)) b) (cursor-next s k) ∙ cond-true _ _ (goes-on k hk b (h .holds))
 
-  shows : (k : ℕ) → k ≤ roundsOf s → Shows S (P .accepted) k (runAt s k .backplane)
+  shows : (k : ℕ) → k ≤ roundsOf s → Shows S (P .accepted) (P .no-changes) k (runAt s k .backplane)
   unfolding later begun
-  shows zero hk = shows-first S (P .accepted) _ (ap₂ opened (setup-read s e ∙ sym (P .setup)) (sym (P .cast)))
+  shows zero hk = shows-first S (P .accepted) (P .no-changes) _ (ap₂ opened (setup-read s e ∙ sym (P .setup)) (sym (P .cast)))
   shows (suc k) hk =
       let h = shows k (omega arith) in
-      subst (Shows S (P .accepted) (suc k)) (sym (next-is k hk h)) (shows-next S (P .accepted) k _ _ h (tells k))
+      subst (Shows S (P .accepted) (P .no-changes) (suc k)) (sym (next-is k hk h)) (shows-next S (P .accepted) (P .no-changes) k _ _ h (tells k))
 
 pub plays-session : PlaysSession
 plays-session s e S P k hk = shows s e S P k hk .holds
 
 -- ---- what is printed `in` is agreed: demand 3
-
-lives : (S : Session) (i k : ℕ) → Life S i k (state S i k) (health S i k)
-unfolding state health
-lives S i zero = opens
-lives S i (suc k) = steps (lives S i k)
 
 kept-to : (S : Session) (k : ℕ) → all k (λ ρ. kept S (suc ρ)) ≡ true → KeptTo S k
 kept-to S k e zero pos hρ = absurd (omega arith)
@@ -267,15 +265,16 @@ pub in-agrees : InAgrees
 in-agrees s e S P k pos hk t =
     let b = runAt s k .backplane in
     let h = plays-session s e S P k hk in
-    let A = demand-3 .agreement S (P .accepted) k (P .bound k) k pos (le-refl k) (kept-to S k (sym (h .kept) ∙ t)) in
+    let lives : (i : ℕ) → Life S i k [] (state S i k) (health S i k) = λ i. life-without S (P .no-changes) i k in
+    let A = demand-3 .agreement S (P .accepted) k (P .bound k) (common-without S (P .no-changes) k) k pos (le-refl k) (kept-to S k (sym (h .kept) ∙ t)) in
     record {
       same = λ i i′ fi fi′.
-          let (q, c) = A .agree i i′ _ _ _ _ fi fi′ (lives S i k) (lives S i′ k) in (
+          let (q, c, _) = A .agree i i′ _ _ [] [] _ _ fi fi′ (lives i) (lives i′) in (
             h .health i (fi .below) ∙ q ∙ sym (h .health i′ (fi′ .below)),
             ap (λ (x : State). x .counters .view) (h .states i (fi .below))
                 ∙ ap (λ (x : Counters). x .view) c
                 ∙ ap (λ (x : State). x .counters .view) (sym (h .states i′ (fi′ .below))),
           );
-      charged = λ j hj un i fi. ap (λ (x : ℕ). bit x j) (h .health i (fi .below)) ∙ A .charged j hj un i _ _ fi (lives S i k);
-      cleared = λ j fj here alike i fi. ap (λ (x : ℕ). bit x j) (h .health i (fi .below)) ∙ A .cleared j fj here alike i _ _ fi (lives S i k);
+      charged = λ j hj un i fi. ap (λ (x : ℕ). bit x j) (h .health i (fi .below)) ∙ A .charged j hj un i _ [] _ fi (lives i);
+      cleared = λ j fj here alike i fi. ap (λ (x : ℕ). bit x j) (h .health i (fi .below)) ∙ A .cleared j fj here alike i _ [] _ fi (lives i);
     }

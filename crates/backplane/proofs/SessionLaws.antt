@@ -16,7 +16,6 @@ use Rattle.words.proofs.BitLaws.{bit-pack, pack-ext}
 use Rattle.words.proofs.ArrayLaws.{array-at}
 use Rattle.words.proofs.ByteLaws.{bytes-ext}
 use Rattle.words.proofs.TableLaws.{table-at, updated-at}
-use Rattle.setup.specs.declared.Setup.{Setup}
 use Rattle.rules.specs.Hearing.{busWord, entryOf}
 use Rattle.rules.proofs.ReceptionLaws.{below-kind}
 use Rattle.presence.specs.Opening.{blank}
@@ -25,10 +24,12 @@ use Rattle.presence.specs.declared.State.{State}
 use Rattle.presence.specs.declared.Stepped.{Stepped}
 use Rattle.script.specs.declared.Events.{Events}
 use Rattle.agreement.specs.Fault.{senders, keptOver, limit}
-use Rattle.agreement.specs.Session.{Session, Accepted, size, follows, bitIn, wordIn, round, readRound, readBits, readBytes, answerAt, state, health, sent}
+use Rattle.agreement.specs.Session.{Session, Accepted, size, follows, bitIn, wordIn, round, readRound, readBits, readBytes, answerAt, state, ready, health, sent}
+use Rattle.agreement.specs.Existence.{NoChanges}
 use Rattle.agreement.proofs.FaultLaws.{SendersAlike, senders-alike, kept-alike}
 use Rattle.agreement.proofs.Steps.{small, held}
 use Rattle.agreement.proofs.Aligned.{sent-is}
+use Rattle.agreement.proofs.Without.{ready-without}
 use Rattle.bus.specs.Bus.{wordTo, roundOf, arrived, wordsRead, bitsRead}
 use Rattle.bus.specs.Senders.{hearingOf, sendersIn}
 use Rattle.backplane.specs.Play.{stateAt, sentWords, stepAt, steppedStates, answeredHealth}
@@ -76,7 +77,7 @@ module _ (S : Session) (ok : Accepted S) where
     latest-small : (j : ℕ) → j < n → state S j k .latest < 2 ^ 28
     latest-small j hj =
         let h = held S ok j hj k in
-        let e : state S j k .setup .n ≡ n = ap (λ (x : Setup). x .n) (h .setup) in
+        let e : state S j k .setup .n ≡ n = h .size-is in
         below-kind n _ (small S ok) (rw e at (h .fits .latest))
 
     sent-as : (j : ℕ) → j < n → getD (sentWords n states) j 0 ≡ sent S j (suc k)
@@ -107,7 +108,7 @@ module _ (S : Session) (ok : Accepted S) where
 
     -- ---- the steps
 
-    module _ (this before : Bus) (c : Carries S (suc k) this) (c′ : Carries S k before) where
+    module _ (this before : Bus) (c : Carries S (suc k) this) (c′ : Carries S k before) (none : NoChanges S) where
       choose : (b : Bool) (i j : ℕ) → i < n → j < n → cond b (wordTo this i j) (wordTo before i j) ≡ wordIn S (cond b (suc k) (suc k - 1)) i j
       choose true i j hi hj = c .words i j hi hj
       choose false i j hi hj = let e : suc k - 1 ≡ k = omega arith in rw e (c′ .words i j hi hj)
@@ -117,14 +118,14 @@ module _ (S : Session) (ok : Accepted S) where
       choose-bit true i j hi hj = c .bits i j hi hj
       choose-bit false i j hi hj = let e : suc k - 1 ≡ k = omega arith in rw e (c′ .bits i j hi hj)
 
-      step-as : (i : ℕ) → i < n → stepAt (S .setup) states this before i ≡ answerAt S i (suc k) (state S i k)
+      step-as : (i : ℕ) → i < n → stepAt (S .setup) states this before i ≡ answerAt S i (suc k) (ready S i k)
       unfolding stepAt wordsRead bitsRead readRound
       step-as i hi =
           let place = getD (S .setup .places) i 0 in
           let w = bytes-ext n _ _ (λ j hj. choose (ltb j place) i j hi hj) in
           let b = pack-ext n _ _ (λ j hj. choose-bit (ltb j place) i j hi hj) in
           ap₂ (λ (x : List ℕ) (y : ℕ). stepOf (stateAt states i) x y) w b
-          ∙ ap (λ (st : State). stepOf st (readBytes S i (suc k)) (readBits S i (suc k))) (are i hi)
+          ∙ ap (λ (st : State). stepOf st (readBytes S i (suc k)) (readBits S i (suc k))) (are i hi ∙ sym (ready-without S none i k))
 
       pub states-as : length states ≡ 16 → (i : ℕ) → i < n → stateAt (steppedStates (S .setup) states this before) i ≡ state S i (suc k)
       unfolding steppedStates state

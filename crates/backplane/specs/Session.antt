@@ -1,5 +1,6 @@
 -- The session that a run script plays is one of demand 3's sessions, and what the bench prints of a round is what the session has.
--- (document 01, "A session" and "Bench sheet") Proved in proofs/Session.antt.
+-- (document 01, "A session" and "Bench sheet") A script has no words for changes of limits (document 02, E10), so none is offered.
+-- Proved in proofs/Session.antt.
 use Prim.Native.Nat.{ℕ, suc, _-_, _*_, _≤_, _<_}
 use mathlib.Core.Path.{_≡_}
 use mathlib.Core.Bool.{true, false, not}
@@ -16,6 +17,7 @@ use Rattle.script.specs.Rounds.{roundsOf}
 use Rattle.script.specs.Effect.{fateIn, toldIn}
 use Rattle.agreement.specs.Fault.{heard}
 use Rattle.agreement.specs.Session.{Session, Accepted, size, u, follows, RuleFollower, bitIn, wordIn, round, state, health, sent, Bound, unheard, halfHeard, kept}
+use Rattle.agreement.specs.Existence.{NoChanges}
 use Rattle.bus.specs.Bus.{bitTo, wordTo}
 use Rattle.backplane.specs.Play.{stateAt}
 use Rattle.backplane.specs.Run.{runAt}
@@ -35,6 +37,8 @@ pub record PlayedBy (s : List ℕ) (S : Session) : Type 0 where
   -- every other word is the one that its sender handed out for the round, a rule-breaker's too
   pub as-sent : (k i j : ℕ) → j < size S → fateIn s (suc k) i j ≢ 8 → S .word (suc k) i j ≡ sent S j (suc k)
   pub bound : (last : ℕ) → Bound S last
+  -- nobody is offered a change
+  pub no-changes : NoChanges S
 
 -- every accepted script plays a session
 abbrev pub HasSession : Type 0

@@ -62,9 +62,9 @@ view-taken n least most h view l =
     }
 
 pub views-taken : ViewsTaken
-views-taken S ok i hi k health st life h =
+views-taken S ok i hi k health os st life h =
     let axisFits = verdict-fits (S .setup) ok in
-    view-taken (size S) (axisFits .least) (axisFits .most) h (st .counters .view) (demand-3 .served S ok i hi .view k health st life)
+    view-taken (size S) (axisFits .least) (axisFits .most) h (st .counters .view) (demand-3 .served S ok i hi .view k health os st life)
 
 -- ---- the cards together
 
@@ -88,12 +88,12 @@ same-images n h h′ image image′ e a a′ =
     ∙ sym (images-by-history n h′ image′ a′ .one-form)
 
 pub cards-agree : CardsAgree
-cards-agree S ok last bound k hk lim between i i′ fi fi′ card card′ =
+cards-agree S ok last bound common k hk lim between i i′ fi fi′ card card′ =
     let e : toldCard between card k ≡ toldCard between card′ k = same-history between _ _ k
     (λ j l.
     let h : suc j ≤ last = omega arith in
-    let a = demand-3 .agreement S ok last bound (suc j) (zero-lt-suc j) h (sooner S k j l lim) in
-    ap (λ (c : Counters). c .view) (a .agree i i′ _ _ _ _ fi fi′ (card .lives (suc j) h) (card′ .lives (suc j) h) .1)) in
+    let a = demand-3 .agreement S ok last bound common (suc j) (zero-lt-suc j) h (sooner S k j l lim) in
+    ap (λ (c : Counters). c .view) (a .agree i i′ _ _ _ _ _ _ fi fi′ (card .lives (suc j) h) (card′ .lives (suc j) h) .1)) in
     record {
       histories = e;
       locks = ap (locksAfter (size S)) e;
@@ -102,11 +102,11 @@ cards-agree S ok last bound k hk lim between i i′ fi fi′ card card′ =
     }
 
 pub images-agree : ImagesAgree
-images-agree S setup set-up last bound k hk lim between i i′ fi fi′ card card′ lock lock′ =
+images-agree S setup set-up last bound common k hk lim between i i′ fi fi′ card card′ lock lock′ =
     let e : toldImages between card k ≡ toldImages between card′ k = same-history between _ _ k
     (λ j l.
     let h : suc j ≤ last = omega arith in
     ap (λ (c : Counters). c .view)
-    (demand-3-c .agreement S setup set-up last bound (suc j) (zero-lt-suc j) h (sooner S k j l lim) .agree i i′ _ _ _ _ fi fi′
+    (demand-3-c .agreement S setup set-up last bound common (suc j) (zero-lt-suc j) h (sooner S k j l lim) .agree i i′ _ _ _ _ _ _ fi fi′
     (card .lives (suc j) h) (card′ .lives (suc j) h) .1)) in
     same-images (size S) _ _ lock lock′ e

@@ -7,7 +7,7 @@ use mathlib.Core.Bool.{false}
 use mathlib.Core.List.{List, _∷_, _++_}
 use Rattle.presence.specs.Image.{stateOf}
 use Rattle.presence.specs.declared.State.{State}
-use Rattle.agreement.specs.Session.{Session, Accepted, size, RuleFollower, Bound}
+use Rattle.agreement.specs.Session.{Offer, Session, Accepted, size, RuleFollower, Common, Bound}
 use Rattle.agreement.specs.Life.{Life}
 use Rattle.agreement.specs.Demand.{KeptTo}
 use Rattle.agreement.specs.Images.{ImageLife, SetUp}
@@ -27,19 +27,22 @@ pub record ViewTaken (n : ℕ) (h : List Event) (view : ℕ) : Type 0 where
   pub freed : (a : ℕ) → 1 ≤ a → a ≤ 8 → present view (axisAt (locksAfter n (View view ∷ h)) a .holder) ≡ false
       → axisAt (locksAfter n (View view ∷ h)) a .depth ≡ 0
 
--- The view that a card's opening or step leaves is taken, whatever its scan lock was told before, within the fault limit and outside it.
+-- The view that a card's opening or step leaves is taken, whatever its scan lock was told before and whatever changes it was offered since, within the
+-- fault limit and outside it.
 abbrev pub ViewsTaken : Type 0
 ViewsTaken =
-    (S : Session) → Accepted S → (i : ℕ) → i < size S → (k health : ℕ) (st : State) → Life S i k st health
+    (S : Session) → Accepted S → (i : ℕ) → i < size S → (k health : ℕ) (os : List Offer) (st : State) → Life S i k os st health
     → (h : List Event) → ViewTaken (size S) h (st .counters .view)
 
 -- ---- the cards together
 
--- A card of a session up to round `last`: the state that it holds after each round, in a life of the session.
+-- A card of a session up to round `last`: the state that it holds after each round, in a life of the session, and the changes that it is then still to
+-- be offered before its next step. (A change leaves the view as it is until it takes effect in a step.)
 pub record Card (S : Session) (i last : ℕ) : Type 0 where
   pub state : ℕ → State
   pub health : ℕ → ℕ
-  pub lives : (k : ℕ) → k ≤ last → Life S i k (state k) (health k)
+  pub rest : ℕ → List Offer
+  pub lives : (k : ℕ) → k ≤ last → Life S i k (rest k) (state k) (health k)
 
 -- What a scan lock is handed up to round k, the newest first: after each step the view that it left, and between two steps any events.
 -- `between k` are those after step k and before step k + 1; they may be none, so this speaks of the moment after the step too.
@@ -61,10 +64,10 @@ pub record AlikeCards (S : Session) (last : ℕ) (between : ℕ → List Event) 
   pub images : (image image′ : List ℕ) → HeldLock (size S) (toldCard between card k) image → HeldLock (size S) (toldCard between card′ k) image′
       → image ≡ image′
 
--- For every session that demand 3 speaks of, every list of events and every two rule-followers, while the fault limit is kept.
+-- For every session that demand 3 speaks of, every list of events and every two rule-followers, while the fault limit is kept and changes are common.
 abbrev pub CardsAgree : Type 0
 CardsAgree =
-    (S : Session) → Accepted S → (last : ℕ) → Bound S last → (k : ℕ) → k ≤ last → KeptTo S k → (between : ℕ → List Event)
+    (S : Session) → Accepted S → (last : ℕ) → Bound S last → Common S last → (k : ℕ) → k ≤ last → KeptTo S k → (between : ℕ → List Event)
     → (i i′ : ℕ) → RuleFollower S i → RuleFollower S i′ → (card : Card S i last) (card′ : Card S i′ last)
     → AlikeCards S last between i i′ card card′ k
 
@@ -74,7 +77,8 @@ CardsAgree =
 pub record ImageCard (S : Session) (setup : List ℕ) (i last : ℕ) : Type 0 where
   pub image : ℕ → List ℕ
   pub health : ℕ → ℕ
-  pub lives : (k : ℕ) → k ≤ last → ImageLife S setup i k (image k) (health k)
+  pub rest : ℕ → List Offer
+  pub lives : (k : ℕ) → k ≤ last → ImageLife S setup i k (rest k) (image k) (health k)
 
 -- what the scan lock of such a card is handed: the views in its images
 abbrev pub toldImages : {S : Session} {setup : List ℕ} {i last : ℕ} → (ℕ → List Event) → ImageCard S setup i last → ℕ → List Event
@@ -83,7 +87,7 @@ toldImages between card k = history between (λ j. stateOf (card .image j) .coun
 -- the scan locks that two such cards hold are equal byte for byte
 abbrev pub ImagesAgree : Type 0
 ImagesAgree =
-    (S : Session) (setup : List ℕ) → SetUp S setup → (last : ℕ) → Bound S last
+    (S : Session) (setup : List ℕ) → SetUp S setup → (last : ℕ) → Bound S last → Common S last
     → (k : ℕ) → k ≤ last → KeptTo S k → (between : ℕ → List Event) → (i i′ : ℕ) → RuleFollower S i → RuleFollower S i′
     → (card : ImageCard S setup i last) (card′ : ImageCard S setup i′ last) (lock lock′ : List ℕ)
     → HeldLock (size S) (toldImages between card k) lock → HeldLock (size S) (toldImages between card′ k) lock′ → lock ≡ lock′

@@ -14,6 +14,9 @@ use Rattle.image.specs.Rows.{rowFits, rowOk, rowsRoomy}
 use Rattle.image.specs.CounterSection.{counterOk}
 use Rattle.image.specs.Counters.{countersRoomy}
 use Rattle.image.specs.Check.{checkTail}
+use Rattle.changes.specs.Pending.{nothing, countedDown, pendingRoomy}
+use Rattle.changes.specs.Words.{leftOk, newTest, newWord}
+use Rattle.changes.specs.Books.{turned, counted, booksAfter}
 use Rattle.presence.specs.Valid.{roomy, stateVerdict}
 use Rattle.rules.specs.Lag.{skewed}
 use Rattle.rules.specs.Hearing.{busWord, receptionOf, isHeard, heardRow, causeIn, entryOf, readingOf, causesOf}
@@ -47,5 +50,5 @@ use Rattle.renumbering.specs.Scripts.{castWordFor, eventWordFor, playWor
 use Rattle.renumbering.specs.Cases.{CasesRight}
 
 pub cases-right : CasesRight
-unfolding fits ofInt toBits double doubles clearDoubles wordAt bytesOf bit pack count any all lowest array bounded updated table andThen outcome thenTests runWord runsOf fadesIn limitsIn limitList setupBytes setupOf blankSetup moduleFits markFits whole headFits headOk limitOk moduleOk markOk moduleTest checkHead checkWords checkFront setupPart checkSetup setupRoomy roomVerdict setupVerdict readSetup skewed busWord receptionOf isHeard heardRow causeIn entryOf readingOf causesOf alignedOf decision tally voteOf healthOf differsAt accusationOf accusationsOf syndromeOf votersOf judgementOf outgoingOf charged rewarded awaited accounted accountedBy accountAt accountedAt countersOf rowFits counterOk ownNumberOk ownOk rowOk syndromeOk rowsRoomy countersRoomy checkTail roomy stateVerdict fresh blank checkOpening openOf placeOf markOf ownSyndrome alignedFor judgementFor outgoingFor afterRound refusedStep acceptedStep readStep stepOf castOk eventOk playOk playRefusal eventRefusal wordRefusal scanned finished scan checkCast checkPlay checkScript none concerns withEvent isPlay lieAfter eventsAfter gather start advanced lastScan roundsOf differ half heard halfIn breakerIn unheardIn within keptOver numeral vector lineWith linesOf refusedLine roundOf faultless arrived wordsRead bitsRead followersView countingView hearingOf openedStates opened sentWords stepAt steppedStates answeredHealth earlier played begun goesOn nextOf later printed linesTo outputOf toldAt playAt vectorFor arrayFor doublesFor rowsFor wordFor castWordFor eventWordFor playWordFor scriptFor
+unfolding fits ofInt toBits double doubles clearDoubles wordAt bytesOf bit pack count any all lowest array bounded updated table andThen outcome thenTests runWord runsOf fadesIn limitsIn limitList setupBytes setupOf blankSetup moduleFits markFits whole headFits headOk limitOk moduleOk markOk moduleTest checkHead checkWords checkFront setupPart checkSetup setupRoomy roomVerdict setupVerdict readSetup skewed busWord receptionOf isHeard heardRow causeIn entryOf readingOf causesOf alignedOf decision tally voteOf healthOf differsAt accusationOf accusationsOf syndromeOf votersOf judgementOf outgoingOf charged rewarded awaited accounted accountedBy accountAt accountedAt countersOf rowFits counterOk ownNumberOk ownOk rowOk syndromeOk rowsRoomy countersRoomy checkTail roomy stateVerdict fresh blank checkOpening openOf placeOf markOf ownSyndrome alignedFor judgementFor outgoingFor afterRound refusedStep acceptedStep readStep stepOf castOk eventOk playOk playRefusal eventRefusal wordRefusal scanned finished scan checkCast checkPlay checkScript none concerns withEvent isPlay lieAfter eventsAfter gather start advanced lastScan roundsOf differ half heard halfIn breakerIn unheardIn within keptOver numeral vector lineWith linesOf refusedLine roundOf faultless arrived wordsRead bitsRead followersView countingView hearingOf openedStates opened sentWords stepAt steppedStates answeredHealth earlier played begun goesOn nextOf later printed linesTo outputOf toldAt playAt vectorFor arrayFor doublesFor rowsFor wordFor castWordFor eventWordFor playWordFor scriptFor leftOk newTest pendingRoomy nothing newWord countedDown turned counted booksAfter
 cases-right = record { words = refl; state = refl; script = refl; lines = refl; turned-lines = refl }

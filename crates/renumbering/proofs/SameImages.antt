@@ -38,21 +38,21 @@ module _ (S : Session) (setup : List ℕ) (up : SetUp S setup) where
       ∙ ap (λ (v : Verdict). v .number) (setups .read-accepted setup (up .accepted) .0)
 
 pub renumbers-images : RenumbersImages
-renumbers-images S setup up z π S′ r =
+renumbers-images S setup up unoffered z π S′ r =
     let ok = accepted-setup S setup up in
-    let p : SameSession S π S′ = renumbers-sessions .same S ok z π S′ r in
+    let p : SameSession S π S′ = renumbers-sessions .same S ok unoffered z π S′ r in
     let s′ = setupFor (size S) π (S .setup) in
     let e = setups .written-read s′ (shaped′ (S .setup) π) (accepted′ (S .setup) π ok z) in
     record {
       set-up = record { accepted = bytes-accepted s′ e; same = r .setup ∙ bytes-back s′ e };
-      same = λ setup′ up′ i k h h′ image image′ below l l′.
-          let kept = demand-3-c .kept S setup up i below k h image l in
-          let kept′ = demand-3-c .kept S′ setup′ up′ (π .to i) (below′ up′ i below) k h′ image′ l′ in
-          let (q, v) = p .same i k h h′ _ _ below (kept .life) (kept′ .life) in
+      same = λ setup′ up′ i k h h′ os os′ image image′ below l l′.
+          let kept = demand-3-c .kept S setup up i below k h os image l in
+          let kept′ = demand-3-c .kept S′ setup′ up′ (π .to i) (below′ up′ i below) k h′ os′ image′ l′ in
+          let (q, v) = p .same i k h h′ os os′ _ _ below (kept .life) (kept′ .life) in
           (kept′ .one-form ∙ ap imageOf q, v);
-      outgoing = λ setup′ up′ i k h h′ image image′ below l l′.
-          let kept = demand-3-c .kept S setup up i below k h image l in
-          let kept′ = demand-3-c .kept S′ setup′ up′ (π .to i) (below′ up′ i below) k h′ image′ l′ in
+      outgoing = λ setup′ up′ i k h h′ os os′ image image′ below l l′.
+          let kept = demand-3-c .kept S setup up i below k h os image l in
+          let kept′ = demand-3-c .kept S′ setup′ up′ (π .to i) (below′ up′ i below) k h′ os′ image′ l′ in
           ap (λ (x : WordAnswer). x .word) (kept′ .outgoing) ∙ p .handed i k below
           ∙ ap (wordFor (size S) π) (sym (ap (λ (x : WordAnswer). x .word) (kept .outgoing)));
     }

@@ -3,7 +3,7 @@ use Prim.Native.Nat.{ℕ, zero, suc, _+_, _≤_, _<_}
 use mathlib.Core.Path.{_≡_, refl, sym, ap, ap₂, _∙_, subst}
 use mathlib.Core.Bool.{Bool, true, false, cond, not}
 use mathlib.Core.Logic.{⊎-elim}
-use mathlib.Core.List.{List, _++_}
+use mathlib.Core.List.{List, [], _++_}
 use native.Mathlib.Omega.{arith}
 use native.Mathlib.Nat.{le-refl}
 use lib.Dec.{eqb}
@@ -20,8 +20,8 @@ use Rattle.script.specs.Check.{checkScript}
 use Rattle.script.specs.Told.{castOf}
 use Rattle.script.specs.Rounds.{roundsOf}
 use Rattle.script.specs.Effect.{fateIn, toldIn}
-use Rattle.agreement.specs.Session.{Session, state, health, sent}
-use Rattle.agreement.specs.Life.{Life, opens, steps}
+use Rattle.agreement.specs.Session.{Session, sent}
+use Rattle.agreement.proofs.Without.{life-without}
 use Rattle.text.specs.Text.{vector}
 use Rattle.text.specs.Lines.{linesOf}
 use Rattle.backplane.specs.Run.{runAt, printed}
@@ -41,12 +41,6 @@ use Rattle.renumbering.proofs.ScriptForLaws.{few, setupWith, setup-as, 
 use Rattle.renumbering.proofs.ScanForLaws.{rounds′, accepted′}
 use Rattle.renumbering.proofs.EventForLaws.{fate-for}
 use Rattle.renumbering.proofs.LineForLaws.{lines-ext, digit-for, vector-unmoved}
-
--- the life without refused calls
-lives : (S : Session) (i k : ℕ) → Life S i k (state S i k) (health S i k)
-unfolding state health
-lives S i zero = opens
-lives S i (suc k) = steps (lives S i k)
 
 module _ (s : List ℕ) (ok : checkScript s .number ≡ 0) (zero-u : lag (scriptSize s) (setupOf s .places) ≡ 0) (π : Renumbering (scriptSize s)) where
   abbrev n : ℕ
@@ -69,12 +63,12 @@ module _ (s : List ℕ) (ok : checkScript s .number ≡ 0) (zero-u : lag (script
   -- ---- the session that the script plays, and the one that the renumbered script plays
   module _ (T : Session) (Q : PlayedBy s T) where
     abbrev S : Session
-    S = record { setup = setupWith n (wordAt s); cast = castOf s; controller = T .controller; word = T .word }
+    S = record { setup = setupWith n (wordAt s); cast = castOf s; controller = T .controller; word = T .word; offers = T .offers }
 
     P : PlayedBy s S
     P =
-        subst (λ (x : ℕ). PlayedBy s (record { setup = setupWith n (wordAt s); cast = x; controller = T .controller; word = T .word })) (Q .cast)
-        (subst (λ (x : Setup). PlayedBy s (record { setup = x; cast = T .cast; controller = T .controller; word = T .word }))
+        subst (λ (x : ℕ). PlayedBy s (record { setup = setupWith n (wordAt s); cast = x; controller = T .controller; word = T .word; offers = T .offers })) (Q .cast)
+        (subst (λ (x : Setup). PlayedBy s (record { setup = x; cast = T .cast; controller = T .controller; word = T .word; offers = T .offers }))
         (Q .setup ∙ setup-as s) Q)
 
     -- told words by the renumbered script, and every other word that of S renumbered
@@ -84,6 +78,7 @@ module _ (s : List ℕ) (ok : checkScript s .number ≡ 0) (zero-u : lag (script
       cast = castOf s′;
       controller = λ k i j. not (eqb (fateIn s′ k i j) 7);
       word = λ k i j. cond (eqb (fateIn s′ k i j) 8) (toldIn s′ k i j) (wordFor n π (sent S (π .from j) k));
+      offers = λ k i. [];
     }
 
     word-for : (k i j : ℕ) → i < n → j < n → S′ .word (suc k) (π .to i) (π .to j) ≡ wordFor n π (S .word (suc k) i j)
@@ -108,10 +103,11 @@ module _ (s : List ℕ) (ok : checkScript s .number ≡ 0) (zero-u : lag (script
       controller = λ k i j hi hj.
           ap (λ (x : ℕ). not (eqb x 7)) (fate-for s ok π (suc k) i j hi hj ok′ .0) ∙ sym (P .controller (suc k) i j);
       word = word-for;
+      no-changes = λ k i. refl;
     }
 
     promised : SameSession S π S′
-    promised = renumbers-sessions .same S (P .accepted) flat π S′ renumbered
+    promised = renumbers-sessions .same S (P .accepted) (P .no-changes) flat π S′ renumbered
 
     P′ : PlayedBy s′ S′
     P′ = record {
@@ -124,6 +120,7 @@ module _ (s : List ℕ) (ok : checkScript s .number ≡ 0) (zero-u : lag (script
           cond-false _ _ (ne-eqb _ 8 f) ∙ sym (promised .sent (π .from j) k (π .from-below j hj))
           ∙ ap (λ (m : ℕ). sent S′ m (suc k)) (π .to-from j hj);
       bound = λ last. promised .bound last (P .bound last);
+      no-changes = λ k i. refl;
     }
 
     module _ (k : ℕ) (hk : k ≤ roundsOf s) where
@@ -137,10 +134,10 @@ module _ (s : List ℕ) (ok : checkScript s .number ≡ 0) (zero-u : lag (script
       same-round = record {
         states = λ i hi.
             holds′ .states (π .to i) (π .to-below i hi)
-            ∙ promised .same i k _ _ _ _ hi (lives S i k) (lives S′ (π .to i) k) .0 ∙ ap (stateFor n π) (sym (holds .states i hi));
+            ∙ promised .same i k _ _ [] [] _ _ hi (life-without S (P .no-changes) i k) (life-without S′ (P′ .no-changes) (π .to i) k) .0 ∙ ap (stateFor n π) (sym (holds .states i hi));
         health = λ i hi.
             holds′ .health (π .to i) (π .to-below i hi)
-            ∙ promised .same i k _ _ _ _ hi (lives S i k) (lives S′ (π .to i) k) .1 ∙ ap (vectorFor n π) (sym (holds .health i hi));
+            ∙ promised .same i k _ _ [] [] _ _ hi (life-without S (P .no-changes) i k) (life-without S′ (P′ .no-changes) (π .to i) k) .1 ∙ ap (vectorFor n π) (sym (holds .health i hi));
         kept = holds′ .kept ∙ promised .in-out k (P .bound k) k (le-refl k) ∙ sym (holds .kept);
       }
 

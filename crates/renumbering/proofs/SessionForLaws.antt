@@ -15,11 +15,15 @@ use Rattle.rules.specs.Hearing.{busWord, entryOf, readingOf, causesOf}
 use Rattle.rules.specs.Causes.{causeOf}
 use Rattle.rules.specs.declared.Entry.{Entry}
 use Rattle.rules.specs.declared.Reading.{Reading}
+use Rattle.changes.specs.Pending.{nothing}
+use Rattle.changes.specs.declared.Pending.{Pending}
 use Rattle.presence.specs.Opening.{fresh}
 use Rattle.presence.specs.Step.{judgementFor, afterRound}
 use Rattle.presence.specs.declared.State.{State}
 use Rattle.agreement.specs.Session.{Session, Accepted, size, u, bitIn, wordIn, readRound, readBits, readBytes, state, health, handed, sent}
-use Rattle.agreement.proofs.Steps.{small, held, reading, causes, state-zero, state-suc, health-suc}
+use Rattle.agreement.specs.Existence.{NoChanges}
+use Rattle.agreement.proofs.Steps.{small, held, reading, causes, state-zero, health-suc}
+use Rattle.agreement.proofs.Without.{round-without, plain}
 use Rattle.agreement.proofs.Aligned.{sent-is}
 use Rattle.renumbering.specs.Renumbering.{Renumbering, vectorFor, arrayFor, rowsFor, wordFor}
 use Rattle.renumbering.specs.States.{setupFor, readingFor, stateFor}
@@ -45,12 +49,12 @@ module _ (T : Session) (i k j : ℕ) (h : j < size T) (e : getD (T .setup .place
 
 -- ---- a session S, and T that is S renumbered but for its setup, which is only equal to the renumbered one
 
-module _ (S : Session) (ok : Accepted S) (zero-u : u S ≡ 0) (π : Renumbering (size S)) (T : Session) (r : Renumbered S π T) where
+module _ (S : Session) (ok : Accepted S) (unoffered : NoChanges S) (zero-u : u S ≡ 0) (π : Renumbering (size S)) (T : Session) (r : Renumbered S π T) where
   abbrev n : ℕ
   n = size S
 
   abbrev pub S′ : Session
-  S′ = record { setup = setupFor n π (S .setup); cast = T .cast; controller = T .controller; word = T .word }
+  S′ = record { setup = setupFor n π (S .setup); cast = T .cast; controller = T .controller; word = T .word; offers = T .offers }
 
   few : n ≤ 16
   few = small S ok
@@ -134,23 +138,24 @@ module _ (S : Session) (ok : Accepted S) (zero-u : u S ≡ 0) (π : Renumbering 
 
     -- ---- what a module makes of it
 
-    -- a state with the setup of the session: the state after a round, and its health vector
+    -- a state with the setup of the session and nothing pending: the state after a round, and its health vector
     abbrev SameStep : ℕ → State → Type 0
     SameStep k st =
         (afterRound (stateFor n π st) (readingFor n π (reading S i k)) ≡ stateFor n π (afterRound st (reading S i k)))
         × (judgementFor (stateFor n π st) (readingFor n π (reading S i k)) .health ≡ vectorFor n π (judgementFor st (reading S i k) .health))
 
-    same-step : (k : ℕ) (st : State) → st .setup ≡ S .setup → SameStep k st
-    same-step k st e =
-        subst (λ (s : Setup). SameStep k (with s)) (sym e)
+    same-step : (k : ℕ) (st : State) → (st .setup ≡ S .setup) × (st .pending ≡ nothing) → SameStep k st
+    same-step k st (e, p) =
+        subst (λ (x : State). SameStep k x) (λ t. with (sym e t) (sym p t))
         (round-for (S .setup) π few (straight (S .setup) π ok zero-u) (straight′ (S .setup) π ok zero-u) (st .own) (st .counters) (st .previous)
         (st .latest) (st .earlier) (reading S i k))
       where
-        with : Setup → State
-        with s = record { setup = s; own = st .own; counters = st .counters; previous = st .previous; latest = st .latest; earlier = st .earlier }
+        with : Setup → Pending → State
+        with s c =
+            record { setup = s; own = st .own; counters = st .counters; previous = st .previous; latest = st .latest; earlier = st .earlier; pending = c }
 
     fresh-for : fresh (S′ .setup) (π .to i + 1) ≡ stateFor n π (fresh (S .setup) (i + 1))
-    unfolding fresh
+    unfolding fresh nothing
     fresh-for =
         let e : i ≡ i + 1 - 1 = omega arith in
         let f = sym (vector-full n π) in
@@ -162,15 +167,16 @@ module _ (S : Session) (ok : Accepted S) (zero-u : u S ≡ 0) (π : Renumbering 
           previous = record { heard = f t; rows = rows-pack n π few (λ j. full n) (λ j. full n) (λ j h. f) t };
           latest = f t;
           earlier = f t;
+          pending = record { left = 0; p = 0; r = 0; criticality = z t };
         }
 
     pub state-for : (k : ℕ) → state S′ (π .to i) k ≡ stateFor n π (state S i k)
     state-for zero = state-zero S′ ok′ (π .to i) below′ ∙ fresh-for ∙ ap (stateFor n π) (sym (state-zero S ok i below))
     state-for (suc k) =
-        state-suc S′ ok′ (π .to i) below′ k
+        round-without S′ (r .no-changes) ok′ (π .to i) below′ k
         ∙ ap₂ afterRound (state-for k) (reading-for (suc k))
-        ∙ same-step (suc k) (state S i k) (held S ok i below k .setup) .0
-        ∙ ap (stateFor n π) (sym (state-suc S ok i below k))
+        ∙ same-step (suc k) (state S i k) (plain S unoffered ok i below k) .0
+        ∙ ap (stateFor n π) (sym (round-without S unoffered ok i below k))
 
     pub health-for : (k : ℕ) → health S′ (π .to i) k ≡ vectorFor n π (health S i k)
     unfolding health
@@ -178,7 +184,7 @@ module _ (S : Session) (ok : Accepted S) (zero-u : u S ≡ 0) (π : Renumbering 
     health-for (suc k) =
         health-suc S′ ok′ (π .to i) below′ k
         ∙ ap₂ (λ (st : State) (r : Reading). judgementFor st r .health) (state-for k) (reading-for (suc k))
-        ∙ same-step (suc k) (state S i k) (held S ok i below k .setup) .1
+        ∙ same-step (suc k) (state S i k) (plain S unoffered ok i below k) .1
         ∙ ap (vectorFor n π) (sym (health-suc S ok i below k))
 
     -- ---- what it sends
@@ -188,7 +194,7 @@ module _ (S : Session) (ok : Accepted S) (zero-u : u S ≡ 0) (π : Renumbering 
         let h = held S ok i below k in
         sent-is S′ ok′ (π .to i) below′ k
         ∙ ap (λ (st : State). busWord (st .latest)) (state-for k)
-        ∙ sym (bus-for n π few (state S i k .latest) (subst (λ (s : Setup). state S i k .latest < 2 ^ s .n) (h .setup) (h .fits .latest)))
+        ∙ sym (bus-for n π few (state S i k .latest) (subst (λ (m : ℕ). state S i k .latest < 2 ^ m) (h .size-is) (h .fits .latest)))
         ∙ ap (wordFor n π) (sym (sent-is S ok i below k))
 
     -- without a send mark a word is sent in the round after that in which it is handed out

@@ -13,7 +13,9 @@ use Rattle.rules.specs.declared.Entry.{Entry}
 use Rattle.presence.specs.declared.State.{State}
 use Rattle.agreement.specs.Fault.{limit}
 use Rattle.agreement.specs.Session.{Session, Accepted, size, u, follows, RuleFollower, bitIn, wordIn, round, sent, Bound, viewOf, keptBy, kept}
+use Rattle.agreement.specs.Existence.{NoChanges}
 use Rattle.agreement.proofs.Demand.{demand-3}
+use Rattle.agreement.proofs.Without.{common-without}
 use Rattle.renumbering.specs.Renumbering.{Renumbering, wordFor}
 use Rattle.renumbering.specs.Sessions.{Renumbered}
 use Rattle.renumbering.proofs.VectorForLaws.{vector-bit}
@@ -30,12 +32,12 @@ and-both : (a a′ b b′ : Bool) → a′ ≡ a → (a ≡ true → b′ ≡ b)
 and-both true a′ b b′ e f = ap₂ (λ (x y : Bool). x && y) e (f refl)
 and-both false a′ b b′ e f = ap (λ (x : Bool). x && b′) e
 
-module _ (S : Session) (ok : Accepted S) (zero-u : u S ≡ 0) (π : Renumbering (size S)) (T : Session) (r : Renumbered S π T) where
+module _ (S : Session) (ok : Accepted S) (unoffered : NoChanges S) (zero-u : u S ≡ 0) (π : Renumbering (size S)) (T : Session) (r : Renumbered S π T) where
   abbrev n : ℕ
   n = size S
 
   abbrev R : Session
-  R = S′ S ok zero-u π T r
+  R = S′ S ok unoffered zero-u π T r
 
   pub lag′ : u R ≡ 0
   lag′ = ap b2n (straight′ (S .setup) π ok zero-u)
@@ -44,10 +46,10 @@ module _ (S : Session) (ok : Accepted S) (zero-u : u S ≡ 0) (π : Renumbering 
   round-for k = record {
     hears = λ i j hi hj.
         ap₂ (λ (x y : ℕ). entryOf n (bitIn R k x y) (wordIn R k x y) .heard) (sym (π .to-from i hi)) (sym (π .to-from j hj))
-        ∙ ap (λ (e : Entry). e .heard) (entry-at S ok zero-u π T r k (π .from i) (π .from j) (π .from-below i hi) (π .from-below j hj));
+        ∙ ap (λ (e : Entry). e .heard) (entry-at S ok unoffered zero-u π T r k (π .from i) (π .from j) (π .from-below i hi) (π .from-below j hj));
     word = λ i j hi hj.
         ap₂ (wordIn R k) (sym (π .to-from i hi)) (sym (π .to-from j hj))
-        ∙ word-for S ok zero-u π T r k (π .from i) (π .from j) (π .from-below i hi) (π .from-below j hj);
+        ∙ word-for S ok unoffered zero-u π T r k (π .from i) (π .from j) (π .from-below i hi) (π .from-below j hj);
   }
 
   follows-for : (j : ℕ) → j < n → follows R j ≡ follows S (π .from j)
@@ -68,7 +70,7 @@ module _ (S : Session) (ok : Accepted S) (zero-u : u S ≡ 0) (π : Renumbering 
       ap (λ (x : ℕ). limit n (follows R) (bit (viewOf R (π .to i) (ρ + x - 1))) (round R ρ) (round R (ρ - x - 1))) e
       ∙ limit-for n π (follows S) (follows R) follows-for (round S ρ) (round R ρ) (round S (ρ - u S - 1)) (round R (ρ - u S - 1))
       (round-for ρ) (round-for (ρ - u S - 1)) (bit (viewOf S i (ρ + u S - 1))) (bit (viewOf R (π .to i) (ρ + u S - 1)))
-      (λ j h. ap (λ (st : State). bit (st .counters .view) j) (state-for S ok zero-u π T r i below (ρ + u S - 1)) ∙ vector-bit n π _ j h)
+      (λ j h. ap (λ (st : State). bit (st .counters .view) j) (state-for S ok unoffered zero-u π T r i below (ρ + u S - 1)) ∙ vector-bit n π _ j h)
 
   module _ (last : ℕ) (bound : Bound S last) where
     pub bound′ : Bound R last
@@ -83,7 +85,7 @@ module _ (S : Session) (ok : Accepted S) (zero-u : u S ≡ 0) (π : Renumbering 
         resent : (k : ℕ) → 0 < k → (l : ℕ) → l < n → wordFor n π (sent S (π .from l) k) ≡ sent R l k
         resent zero pos l h = absurd (omega arith)
         resent (suc k) pos l h =
-            sym (sent-for S ok zero-u π T r (π .from l) (π .from-below l h) k) ∙ ap (λ (m : ℕ). sent R m (suc k)) (π .to-from l h)
+            sym (sent-for S ok unoffered zero-u π T r (π .from l) (π .from-below l h) k) ∙ ap (λ (m : ℕ). sent R m (suc k)) (π .to-from l h)
 
     -- whether the limit was kept in every round so far: by one rule-follower and the one that it became, as it does not matter whose view is taken
     pub in-out : (k : ℕ) → k ≤ last → all k (λ ρ. kept R (suc ρ)) ≡ all k (λ ρ. kept S (suc ρ))
@@ -101,10 +103,10 @@ module _ (S : Session) (ok : Accepted S) (zero-u : u S ≡ 0) (π : Renumbering 
             → kept R (suc k) ≡ kept S (suc k)
         by-one i f t t′ =
             let flat = lag′ in
-            sym (demand-3 .one-view R (ok′ S ok zero-u π T r) last bound′ (suc k) (omega arith) (omega arith) (sooner R t′)
+            sym (demand-3 .one-view R (ok′ S ok unoffered zero-u π T r) last bound′ (common-without R (r .no-changes) last) (suc k) (omega arith) (omega arith) (sooner R t′)
             (π .to i) (follower-to i f))
             ∙ kept-for i (f .below) (suc k)
-            ∙ demand-3 .one-view S ok last bound (suc k) (omega arith) (omega arith) (sooner S t) i f
+            ∙ demand-3 .one-view S ok last bound (common-without S unoffered last) (suc k) (omega arith) (omega arith) (sooner S t) i f
 
         now : all k (λ ρ. kept S (suc ρ)) ≡ true → all k (λ ρ. kept R (suc ρ)) ≡ true → kept R (suc k) ≡ kept S (suc k)
         now t t′ =

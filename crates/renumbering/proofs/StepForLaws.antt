@@ -20,12 +20,14 @@ use Rattle.accounts.specs.declared.Account.{Account}
 use Rattle.accounts.specs.declared.Counters.{Counters}
 use Rattle.rules.proofs.AlignmentLaws.{aligned-heard, aligned-row}
 use Rattle.rules.proofs.SyndromeLaws.{voter-bit, health-lt, syndrome-lt, health-bit, syndrome-bit}
+use Rattle.changes.specs.Pending.{nothing, countedDown}
+use Rattle.changes.specs.Books.{turned, counted, booksAfter}
 use Rattle.presence.specs.Step.{ownSyndrome, alignedFor, judgementFor, afterRound}
 use Rattle.presence.specs.declared.State.{State}
 use Rattle.renumbering.specs.Renumbering.{Renumbering, vectorFor, arrayFor, rowsFor}
 use Rattle.renumbering.specs.States.{setupFor, readingFor, countersFor, stateFor}
 use Rattle.renumbering.proofs.PermutationLaws.{eqb-renumbered, any-renumbered, tally-renumbered}
-use Rattle.renumbering.proofs.VectorForLaws.{vector-bit, vector-by, vector-pack, array-entry, rows-entry, array-pack, doubles-entry, doubles-pack}
+use Rattle.renumbering.proofs.VectorForLaws.{zeros-for, vector-bit, vector-by, vector-pack, array-entry, rows-entry, array-pack, doubles-entry, doubles-pack}
 
 -- with u = 0 nothing comes from the previous read
 module _ (n : ℕ) (skew : Bool) (place : ℕ) (previous this : Reading) (straight : skew ≡ false) (j : ℕ) (h : j < n) where
@@ -132,11 +134,11 @@ module _ (s : Setup) (π : Renumbering (s .n)) (small : s .n ≤ 16) where
           pack-ext (s .n) _ _ (λ j h. ap (λ (a : Account). a .present) (accounted-for health c j h))
           ∙ sym (vector-pack (s .n) π (λ j. accountedAt s health c j .present))
 
-  -- ---- a round, where u is 0 before and after
+  -- ---- a round, where u is 0 before and after, and nothing is pending
   module _ (straight : skewed (s .n) (s .places) ≡ false) (straight′ : skewed (s .n) (arrayFor (s .n) π (s .places)) ≡ false)
       (own : ℕ) (c : Counters) (previous : Reading) (latest earlier : ℕ) (this : Reading) where
     abbrev before : State
-    before = record { setup = s; own = own; counters = c; previous = previous; latest = latest; earlier = earlier }
+    before = record { setup = s; own = own; counters = c; previous = previous; latest = latest; earlier = earlier; pending = nothing }
 
     abbrev before′ : State
     before′ = stateFor (s .n) π before
@@ -170,24 +172,25 @@ module _ (s : Setup) (π : Renumbering (s .n)) (small : s .n ≤ 16) where
     unfolding judgementFor
     judged-syndrome = syndrome-for (s .n) π small _ _ _ _ _ _ (vector-bit (s .n) π (c .view)) aligned-hears aligned-rows own-for
 
-    counted : countersOf (setupFor (s .n) π s) (judgementFor before′ this′ .health) (countersFor (s .n) π c)
+    recounted : countersOf (setupFor (s .n) π s) (judgementFor before′ this′ .health) (countersFor (s .n) π c)
         ≡ countersFor (s .n) π (countersOf s (judgementFor before this .health) c)
-    counted =
+    recounted =
         ap (λ (h : ℕ). countersOf (setupFor (s .n) π s) h (countersFor (s .n) π c)) judged-health
         ∙ counters-for (judgementFor before this .health) c
 
     -- the state after the round, and the health vector
     pub round-for : (afterRound before′ this′ ≡ stateFor (s .n) π (afterRound before this))
         × (judgementFor before′ this′ .health ≡ vectorFor (s .n) π (judgementFor before this .health))
-    unfolding afterRound
+    unfolding afterRound booksAfter counted turned countedDown nothing
     round-for = (
       λ i. record {
         setup = setupFor (s .n) π s;
         own = π .to (own - 1) + 1;
-        counters = counted i;
+        counters = recounted i;
         previous = this′;
         latest = judged-syndrome i;
         earlier = vectorFor (s .n) π latest;
+        pending = record { left = 0; p = 0; r = 0; criticality = zeros-for (s .n) π small i };
       },
       judged-health,
     )

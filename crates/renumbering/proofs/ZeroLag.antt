@@ -14,6 +14,9 @@ use Rattle.image.specs.Rows.{rowFits, rowOk, rowsRoomy}
 use Rattle.image.specs.CounterSection.{counterOk}
 use Rattle.image.specs.Counters.{countersRoomy}
 use Rattle.image.specs.Check.{checkTail}
+use Rattle.changes.specs.Pending.{nothing, countedDown, pendingRoomy}
+use Rattle.changes.specs.Words.{leftOk, newTest, newWord}
+use Rattle.changes.specs.Books.{turned, counted, booksAfter}
 use Rattle.presence.specs.Valid.{roomy, stateVerdict}
 use Rattle.rules.specs.Lag.{skewed}
 use Rattle.rules.specs.Hearing.{busWord, receptionOf, isHeard, heardRow, causeIn, entryOf, readingOf, causesOf}
@@ -43,7 +46,7 @@ use Rattle.backplane.specs.Run.{begun, goesOn, nextOf, later, printed}
 use Rattle.backplane.specs.Output.{linesTo, outputOf}
 use Prim.Native.Nat.{ℕ}
 use native.Mathlib.Omega.{arith}
-use Rattle.agreement.specs.Session.{bitIn, wordIn, readRound, state, health}
+use Rattle.agreement.specs.Session.{made, bitIn, wordIn, readRound, state, health}
 use Rattle.presence.specs.declared.State.{State}
 use Rattle.script.specs.Effect.{toldAt, playAt}
 use Rattle.backplane.specs.Sheet.{scriptOf}
@@ -60,14 +63,14 @@ six : _≡_ {A = ℕ} 6 0 → ⊥
 six e = omega arith
 
 pub zero-lag-needed : ZeroLagNeeded
-unfolding fits ofInt toBits double doubles clearDoubles wordAt bytesOf bit pack count any all lowest array bounded updated table andThen outcome thenTests runWord runsOf fadesIn limitsIn limitList setupBytes setupOf blankSetup moduleFits markFits whole headFits headOk limitOk moduleOk markOk moduleTest checkHead checkWords checkFront setupPart checkSetup setupRoomy roomVerdict setupVerdict readSetup skewed busWord receptionOf isHeard heardRow causeIn entryOf readingOf causesOf alignedOf decision tally voteOf healthOf differsAt accusationOf accusationsOf syndromeOf votersOf judgementOf outgoingOf charged rewarded awaited accounted accountedBy accountAt accountedAt countersOf rowFits counterOk ownNumberOk ownOk rowOk syndromeOk rowsRoomy countersRoomy checkTail roomy stateVerdict fresh blank checkOpening openOf placeOf markOf ownSyndrome alignedFor judgementFor outgoingFor afterRound refusedStep acceptedStep readStep stepOf castOk eventOk playOk playRefusal eventRefusal wordRefusal scanned finished scan checkCast checkPlay checkScript none concerns withEvent isPlay lieAfter eventsAfter gather start advanced lastScan roundsOf differ half heard halfIn breakerIn unheardIn within keptOver numeral vector lineWith linesOf refusedLine roundOf faultless arrived wordsRead bitsRead followersView countingView hearingOf openedStates opened sentWords stepAt steppedStates answeredHealth earlier played begun goesOn nextOf later printed linesTo outputOf bitIn wordIn readRound state health toldAt playAt vectorFor arrayFor doublesFor rowsFor wordFor castWordFor eventWordFor playWordFor scriptFor sessionFor
+unfolding fits ofInt toBits double doubles clearDoubles wordAt bytesOf bit pack count any all lowest array bounded updated table andThen outcome thenTests runWord runsOf fadesIn limitsIn limitList setupBytes setupOf blankSetup moduleFits markFits whole headFits headOk limitOk moduleOk markOk moduleTest checkHead checkWords checkFront setupPart checkSetup setupRoomy roomVerdict setupVerdict readSetup skewed busWord receptionOf isHeard heardRow causeIn entryOf readingOf causesOf alignedOf decision tally voteOf healthOf differsAt accusationOf accusationsOf syndromeOf votersOf judgementOf outgoingOf charged rewarded awaited accounted accountedBy accountAt accountedAt countersOf rowFits counterOk ownNumberOk ownOk rowOk syndromeOk rowsRoomy countersRoomy checkTail roomy stateVerdict fresh blank checkOpening openOf placeOf markOf ownSyndrome alignedFor judgementFor outgoingFor afterRound refusedStep acceptedStep readStep stepOf castOk eventOk playOk playRefusal eventRefusal wordRefusal scanned finished scan checkCast checkPlay checkScript none concerns withEvent isPlay lieAfter eventsAfter gather start advanced lastScan roundsOf differ half heard halfIn breakerIn unheardIn within keptOver numeral vector lineWith linesOf refusedLine roundOf faultless arrived wordsRead bitsRead followersView countingView hearingOf openedStates opened sentWords stepAt steppedStates answeredHealth earlier played begun goesOn nextOf later printed linesTo outputOf bitIn wordIn readRound state health toldAt playAt vectorFor arrayFor doublesFor rowsFor wordFor castWordFor eventWordFor playWordFor scriptFor sessionFor leftOk newTest pendingRoomy nothing newWord countedDown turned counted booksAfter made
 zero-lag-needed = record {
   accepted = (refl, refl);
   lag = refl;
   read = (refl, refl);
   read-renumbered = (refl, refl);
   states = λ f.
-      let same = f lostRun refl swapped (sessionFor lostRun swapped) (renumbers-sessions .has lostRun swapped) refl 0 1 (omega arith) in
+      let same = f lostRun refl (λ k i. refl) swapped (sessionFor lostRun swapped) (renumbers-sessions .has lostRun (λ k i. refl) swapped) refl 0 1 (omega arith) in
       apart (ap (λ (st : State). st .previous .heard) same);
   played = refl;
   refused = refl;

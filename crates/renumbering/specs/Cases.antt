@@ -48,7 +48,7 @@ fourDoubles a b c d = (double a ∷ double b ∷ double c ∷ double d ∷ []) +
 abbrev pub setupWith : ℕ → List ℕ → List ℕ → Setup
 setupWith marks places criticality = record { n = 4; q = 5; limits = Counts 6 7; marks = marks; places = places; criticality = criticality }
 
--- the state of module 3, which heard modules 1, 2 and 4, with penalties and with scores
+-- the state of module 3, which heard modules 1, 2 and 4, with penalties and with scores, and with a change pending
 abbrev pub before : State
 before = record {
   setup = setupWith 4 (four 4 1 2 3) (four 10 20 30 40);
@@ -57,6 +57,7 @@ before = record {
   previous = record { heard = 11; rows = four 15 1 0 6 };
   latest = 3;
   earlier = 8;
+  pending = record { left = 2; p = 9; r = 4; criticality = four 5 6 7 8 };
 }
 
 -- it became the state of module 4, which heard modules 1, 2 and 3
@@ -68,6 +69,7 @@ after = record {
   previous = record { heard = 7; rows = four 12 15 2 0 };
   latest = 6;
   earlier = 1;
+  pending = record { left = 2; p = 9; r = 4; criticality = four 8 5 6 7 };
 }
 
 -- ---- a script

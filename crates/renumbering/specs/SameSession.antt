@@ -1,12 +1,14 @@
 -- Where u is 0, renumbering the modules renumbers every health vector, counter and view in every round. (document 02, E8)
--- The numbers that accusations name are left out. Proved in proofs/SameSession.antt.
+-- The numbers that accusations name are left out. Nobody is offered a change of limits here (E10). Proved in proofs/SameSession.antt.
 use Prim.Native.Nat.{ℕ, suc, _≤_, _<_}
 use mathlib.Core.Path.{_≡_}
 use Rattle.words.specs.Count.{all}
+use mathlib.Core.List.{List}
 use Rattle.rules.specs.Causes.{causeOf}
 use Rattle.presence.specs.declared.State.{State}
-use Rattle.agreement.specs.Session.{Session, Accepted, size, u, bitIn, wordIn, answerAt, handed, sent, Bound, keptBy, kept}
+use Rattle.agreement.specs.Session.{Offer, Session, Accepted, size, u, bitIn, wordIn, answerAt, handed, sent, Bound, keptBy, kept}
 use Rattle.agreement.specs.Life.{Life}
+use Rattle.agreement.specs.Existence.{NoChanges}
 use Rattle.renumbering.specs.Renumbering.{Renumbering, vectorFor, arrayFor, wordFor}
 use Rattle.renumbering.specs.States.{stateFor}
 use Rattle.renumbering.specs.Sessions.{Renumbered, sessionFor}
@@ -19,12 +21,12 @@ pub record SameSession (S : Session) (π : Renumbering (size S)) (S′ : Session
   pub bound : (last : ℕ) → Bound S last → Bound S′ last
   -- After every round the module holds its state renumbered (view, penalties, rewards, return counts, the previous read and both syndromes), and
   -- last answered its health vector renumbered, whatever refused calls lay between in either session.
-  pub same : (i k h h′ : ℕ) (st st′ : State) → i < size S → Life S i k st h → Life S′ (π .to i) k st′ h′
+  pub same : (i k h h′ : ℕ) (os os′ : List Offer) (st st′ : State) → i < size S → Life S i k os st h → Life S′ (π .to i) k os′ st′ h′
       → (st′ ≡ stateFor (size S) π st) × (h′ ≡ vectorFor (size S) π h)
   -- a word is heard as before, or is not heard for the same cause, and the causes that a step answers move with their modules
   pub cause : (k i j : ℕ) → i < size S → j < size S
       → causeOf (size S) (bitIn S′ k (π .to i) (π .to j)) (wordIn S′ k (π .to i) (π .to j)) ≡ causeOf (size S) (bitIn S k i j) (wordIn S k i j)
-  pub causes : (i k h h′ : ℕ) (st st′ : State) → i < size S → Life S i k st h → Life S′ (π .to i) k st′ h′
+  pub causes : (i k h h′ : ℕ) (os os′ : List Offer) (st st′ : State) → i < size S → Life S i k os st h → Life S′ (π .to i) k os′ st′ h′
       → answerAt S′ (π .to i) (suc k) st′ .causes ≡ arrayFor (size S) π (answerAt S i (suc k) st .causes)
   -- every word that is handed out or sent is renumbered
   pub handed : (i k : ℕ) → i < size S → handed S′ (π .to i) k ≡ wordFor (size S) π (handed S i k)
@@ -33,8 +35,8 @@ pub record SameSession (S : Session) (π : Renumbering (size S)) (S′ : Session
   pub limit : (i ρ : ℕ) → i < size S → keptBy S′ (π .to i) ρ ≡ keptBy S i ρ
   pub in-out : (last : ℕ) → Bound S last → (k : ℕ) → k ≤ last → all k (λ ρ. kept S′ (suc ρ)) ≡ all k (λ ρ. kept S (suc ρ))
 
--- every renumbering of every session with an accepted setup whose u is 0
+-- every renumbering of every session with an accepted setup whose u is 0, in which nobody is offered a change
 pub record RenumbersSessions : Type 0 where
-  pub same : (S : Session) → Accepted S → u S ≡ 0 → (π : Renumbering (size S)) (S′ : Session) → Renumbered S π S′ → SameSession S π S′
+  pub same : (S : Session) → Accepted S → NoChanges S → u S ≡ 0 → (π : Renumbering (size S)) (S′ : Session) → Renumbered S π S′ → SameSession S π S′
   -- and there is such a session for each
-  pub has : (S : Session) (π : Renumbering (size S)) → Renumbered S π (sessionFor S π)
+  pub has : (S : Session) → NoChanges S → (π : Renumbering (size S)) → Renumbered S π (sessionFor S π)

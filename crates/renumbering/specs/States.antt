@@ -3,6 +3,7 @@ use Prim.Native.Nat.{ℕ, _+_, _-_}
 use Rattle.setup.specs.declared.Setup.{Setup}
 use Rattle.rules.specs.declared.Reading.{Reading}
 use Rattle.accounts.specs.declared.Counters.{Counters}
+use Rattle.changes.specs.declared.Pending.{Pending}
 use Rattle.presence.specs.declared.State.{State}
 use Rattle.renumbering.specs.Renumbering.{Renumbering, vectorFor, arrayFor, doublesFor, rowsFor}
 
@@ -32,6 +33,10 @@ module _ (n : ℕ) (π : Renumbering n) where
     returns = arrayFor n π (c .returns);
   }
 
+  -- the criticalities of a pending change
+  abbrev pub pendingFor : Pending → Pending
+  pendingFor c = record { left = c .left; p = c .p; r = c .r; criticality = arrayFor n π (c .criticality) }
+
   -- a whole state; the module's own number is its new one
   abbrev pub stateFor : State → State
   stateFor st = record {
@@ -41,4 +46,5 @@ module _ (n : ℕ) (π : Renumbering n) where
     previous = readingFor (st .previous);
     latest = vectorFor n π (st .latest);
     earlier = vectorFor n π (st .earlier);
+    pending = pendingFor (st .pending);
   }

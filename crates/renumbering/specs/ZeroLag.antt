@@ -11,6 +11,7 @@ use Rattle.setup.specs.declared.Limits.the-variants.{Counts}
 use Rattle.rules.specs.Hearing.{busWord}
 use Rattle.script.specs.Check.{checkScript}
 use Rattle.agreement.specs.Session.{Session, Accepted, size, u, answerAt, state}
+use Rattle.agreement.specs.Existence.{NoChanges}
 use Rattle.backplane.specs.Output.{outputOf}
 use Rattle.backplane.specs.Sheet.{scriptOf, textOf}
 use Rattle.renumbering.specs.Renumbering.{Renumbering}
@@ -39,6 +40,7 @@ lostRun = record {
   cast = 0;
   controller = λ k i j. not (eqb k 1 && eqb j 0);
   word = λ k i j. busWord 3;
+  offers = λ k i. [];
 }
 
 -- ---- module 1 must not have a send mark
@@ -52,7 +54,7 @@ markedWords = 0x1000_0002 ∷ 0x2000_0001 ∷ 0x3000_0003 ∷ 0x4080_0001 ∷ 0x
 -- of states, for any u: those of the renumbered session are renumbered, if its setup is accepted
 abbrev pub StatesAnyLag : Type 0
 StatesAnyLag =
-    (S : Session) → Accepted S → (π : Renumbering (size S)) (S′ : Session) → Renumbered S π S′ → Accepted S′
+    (S : Session) → Accepted S → NoChanges S → (π : Renumbering (size S)) (S′ : Session) → Renumbered S π S′ → Accepted S′
     → (i k : ℕ) → i < size S → state S′ (π .to i) k ≡ stateFor (size S) π (state S i k)
 
 -- of scripts, for any u: the renumbered script is accepted
