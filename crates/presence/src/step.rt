@@ -11,7 +11,7 @@ use words::bits::power;
 ghost use mathlib.Core.Path.{_≡_};
 ghost use Rattle.changes.specs.Books.{turned as turnedOf};
 ghost use Rattle.presence.specs.Valid.{Valid};
-ghost use Rattle.presence.specs.Step.{placeOf, markOf, judgementFor, outgoingFor, booksOf, foundView, afterRound, refusedStep, acceptedStep, readStep, stepOf};
+ghost use Rattle.presence.specs.Step.{placeOf, markOf, judgementFor, outgoingFor, booksOf, afterRound, refusedStep, acceptedStep, readStep, stepOf};
 
 impl State {
     // The module's own read place.
@@ -72,16 +72,6 @@ impl State {
             counters,
             pending,
         })
-    }
-
-    // The view that rule 8 finds in the next step.
-    pub fn found_view(self) -> u32
-        requires { ⌜ Valid self ⌝ }
-        ensures { λ r. ⌜ r ≡ foundView self ⌝ }
-    {
-        let books = self.turned();
-        let counters = books.counters;
-        counters.view
     }
 
     // Rule 8, and what the next step needs.
