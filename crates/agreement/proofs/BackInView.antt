@@ -3,7 +3,7 @@
 use Prim.Native.Nat.{ℕ, zero, suc, _+_, _-_, _≤_, _<_}
 use mathlib.Core.Path.{_≡_, refl, sym, ap, _∙_, subst}
 use mathlib.Core.Bool.{Bool, true, false, cond}
-use mathlib.Core.Logic.{_⊎_, inl, inr, ⊎-elim}
+use mathlib.Core.Logic.{_⊎_, inl, inr, ⊎-elim, _≢_}
 use mathlib.Core.List.{List}
 use native.Mathlib.Omega.{arith}
 use lib.Dec.{leb}
@@ -26,7 +26,7 @@ use Rattle.changes.specs.Books.{turned, counted, booksAfter}
 use Rattle.changes.specs.declared.Books.{Books}
 use Rattle.changes.proofs.AdjustLaws.{adjusted-at, adjusted-out}
 use Rattle.changes.proofs.PendingLaws.{counts-of}
-use Rattle.changes.proofs.TurnLaws.{turned-both, turned-size, turned-q, turned-returns, turned-setup-fits}
+use Rattle.changes.proofs.TurnLaws.{turned-both, turned-unchanged, turned-size, turned-q, turned-returns, turned-setup-fits}
 use Rattle.presence.specs.Opening.{fresh}
 use Rattle.presence.specs.Step.{booksOf, foundView}
 use Rattle.presence.specs.declared.State.{State}
@@ -140,6 +140,12 @@ module _ (S : Session) (ok : Accepted S) (i j : ℕ) (hi : i < size S) (hj : j <
       (turned-out (booksOf (ready S i k)) (subst (λ (n : ℕ). n ≤ 16) (sym (d .size-is)) (small S ok)) j (subst (λ (n : ℕ). j < n) (sym (d .size-is)) hj)
       (same ∙ viewed k false e))
 
+  as-seen : (k : ℕ) → ready S i k .pending .left ≢ 1 → finds S i k j ≡ sees S i k j
+  unfolding foundView
+  as-seen k f =
+      ap (λ (b : Books). bit (b .counters .view) j) (turned-unchanged (booksOf (ready S i k)) f)
+      ∙ ap (λ (x : State). bit (x .counters .view) j) (ready-is S i k)
+
   returns : (k : ℕ) → GoodRounds S i k j → sees S i (suc k) j ≡ true
   returns k g =
       shown (suc k) true
@@ -246,6 +252,7 @@ back-in-view = record {
   returns = λ S ok i j k hi hj g. returns S ok i j hi hj k g;
   only-then = λ S ok i j k hi hj off on. only-then S ok i j hi hj k off on;
   not-by-change = λ S ok i j k hi hj out. not-by-change S ok i j hi hj k out;
+  as-seen = λ S ok i j k hi hj f. as-seen S ok i j hi hj k f;
   leaves-at-once = λ S ok counting i j k hi hj off on le bad. leaves S ok i j hi hj counting k off on le bad;
   never = λ S ok i j k m hi hj z out l.
       let e : m ≡ k + (m - k) = omega arith in

@@ -5,6 +5,7 @@
 use Prim.Native.Nat.{ℕ, suc, _+_, _≤_, _<_}
 use mathlib.Core.Path.{_≡_}
 use mathlib.Core.Bool.{Bool, true, false}
+use mathlib.Core.Logic.{_≢_}
 use Rattle.words.specs.Bits.{bit}
 use Rattle.setup.specs.Limits.{fades}
 use Rattle.changes.specs.Pending.{penaltyLimitOf}
@@ -17,7 +18,7 @@ module _ (S : Session) where
   sees i k j = bit (viewOf S i k) j
 
   -- Whether rule 8 finds module j in the view in round k + 1 at module i: where a change takes effect in that round, after it. Where none does, this is
-  -- what it sees after round k.
+  -- what it sees after round k (`as-seen`).
   abbrev pub finds : ℕ → ℕ → ℕ → Bool
   finds i k j = bit (foundView (ready S i k)) j
 
@@ -43,6 +44,8 @@ pub record BackInView : Type 0 where
       → GoodRounds S i k j
   -- who was out before a round is found out in it: nobody comes back by a change
   pub not-by-change : (S : Session) → Accepted S → (i j k : ℕ) → i < size S → j < size S → sees S i k j ≡ false → finds S i k j ≡ false
+  -- and where no change takes effect in a round, it finds what was seen after the round before
+  pub as-seen : (S : Session) → Accepted S → (i j k : ℕ) → i < size S → j < size S → ready S i k .pending .left ≢ 1 → finds S i k j ≡ sees S i k j
   -- where its next round is bad it leaves at once, if account is kept by counts and P is not raised in that round
   pub leaves-at-once : (S : Session) → Accepted S → fades (S .setup .limits) ≡ false → (i j k : ℕ) → i < size S → j < size S
       → finds S i k j ≡ false → sees S i (suc k) j ≡ true → penaltyLimit S i (suc (suc k)) ≤ penaltyLimit S i (suc k)
