@@ -38,7 +38,7 @@ use Rattle.changes.specs.declared.Pending.{Pending}
 use Rattle.changes.specs.declared.Books.{Books}
 use Rattle.changes.proofs.AdjustLaws.{adjusted-by}
 use Rattle.changes.proofs.NewWords.{first-word, second-word, later-word}
-use Rattle.changes.proofs.SectionLaws.{change-same}
+use Rattle.changes.proofs.ChangeWords.{change-same}
 use Rattle.changes.proofs.TurnLaws.{turned-changed, turned-unchanged, turned-left}
 use Rattle.image.specs.Layout.{leftAt}
 use Rattle.image.specs.Check.{leftIn, checkImage}

@@ -26,7 +26,7 @@ use Rattle.setup.specs.Check.{checkSetup}
 use Rattle.words.specs.declared.Verdict.{Verdict}
 use Rattle.changes.specs.Books.{counted, booksAfter}
 use Rattle.changes.proofs.TurnLaws.{turned-marks}
-use Rattle.changes.proofs.SectionLaws.{read-left}
+use Rattle.changes.proofs.ChangeWords.{read-left}
 use Rattle.image.specs.Layout.{ownAt, latestAt, earlierAt, imageLength}
 use Rattle.image.specs.Words.{ownIn, syndromeIn}
 use Rattle.image.specs.Check.{leftIn, imageTests, imageSize, checkImage}

@@ -36,15 +36,15 @@ abbrev pub thrice : ℕ
 thrice = 0x1000_0303
 
 -- a setup: a head, and the words after it
-abbrev pub setup : ℕ → List ℕ → List ℕ
-setup head ws = bytes (head ∷ ws)
+abbrev pub limitSetup : ℕ → List ℕ → List ℕ
+limitSetup head ws = bytes (head ∷ ws)
 
 -- the old one, and a new one
 abbrev pub old : List ℕ
-old = setup two (limits 5 4 2 3 4)
+old = limitSetup two (limits 5 4 2 3 4)
 
 abbrev pub new : List ℕ
-new = setup two (limits 9 8 7 6 5)
+new = limitSetup two (limits 9 8 7 6 5)
 
 -- penalties, rewards and return counts: kinds 13, 14 and 15
 abbrev pub accounts : ℕ → ℕ → ℕ → ℕ → ℕ → ℕ → ℕ → ℕ → ℕ → List ℕ
@@ -62,8 +62,8 @@ abbrev pub quiet : List ℕ → List ℕ
 quiet end = image two 7 (accounts 0 0 0 0 0 0 0 0 0) end
 
 -- nothing pending
-abbrev pub fresh : List ℕ
-fresh = quiet (0 ∷ [])
+abbrev pub nonePending : List ℕ
+nonePending = quiet (0 ∷ [])
 
 -- outputs for an image with nothing pending, 22 words, and with a change pending, 27 words
 abbrev pub short : List ℕ
@@ -77,21 +77,21 @@ abbrev pub step : ℕ → List ℕ → List ℕ → Called
 step row s out = stepCall s (bytesOf 3 (λ j. busWord row)) 7 out
 
 -- of an image: the view (word 6) and the accounts (words 12 to 20)
-abbrev pub held : List ℕ → ℕ → List ℕ → List Case
-held s view account = holds s 6 ((0xA001_0000 + view) ∷ []) ++ holds s 12 account
+abbrev pub accountsHeld : List ℕ → ℕ → List ℕ → List Case
+accountsHeld s view account = holds s 6 ((0xA001_0000 + view) ∷ []) ++ holds s 12 account
 
 -- ---- the pending change is part of the image: at its end one more word, the rounds left or 0, and if not 0 the new kinds 2, 3 and 4 as in a setup
 -- 5 N + 7 words, with a pending change 6 N + 9, and 5 N + 10 where the setup fades. An opening writes 0; a change writes its lead and the new words,
 -- and all else is as it was; saving writes the same words again.
-abbrev pub imageCases : List Case
-imageCases =
+abbrev pub pendingImageCases : List Case
+pendingImageCases =
     case (imageLength 3 3 0) (22 * 4) ∷ case (imageLength 3 3 1) (27 * 4) ∷ case (imageLength 3 3 1000) (27 * 4) ∷ case (imageLength 6 3 0) (25 * 4)
     ∷ (answers (openCall old 1 short .answer) 0 0 ++ (answers (openCall old 1 (take 84 short) .answer) 9 0 ++ (answers (openCall old 1 long .answer) 9 0
     ++ (case (length (openCall old 1 short .out)) 88
     ∷ holds (openCall old 1 short .out) 0
     (two ∷ (limits 5 4 2 3 4 ++ (0xA001_0007 ∷ 0xB0C0_0007 ∷ 0xB140_0007 ∷ 0xB1C0_0007 ∷ 0xC000_0007 ∷ 0xC000_0007 ∷ (accounts 0 0 0 0 0 0 0 0 0 ++ (0 ∷ [])))))
-    ++ (case (length (changeCall fresh new 7 long .out)) 108
-    ∷ holds (changeCall fresh new 7 long .out) 0
+    ++ (case (length (changeCall nonePending new 7 long .out)) 108
+    ∷ holds (changeCall nonePending new 7 long .out) 0
     (two ∷ (limits 5 4 2 3 4 ++ (0xA001_0007 ∷ 0xB0C0_0007 ∷ 0xB140_0007 ∷ 0xB1C0_0007 ∷ 0xC000_0007 ∷ 0xC000_0007
     ∷ (accounts 0 0 0 0 0 0 0 0 0 ++ (7 ∷ limits 9 8 7 6 5)))))
     ++ (answers (saveCall (quiet (7 ∷ limits 9 8 7 6 5)) long .answer) 0 0
@@ -100,16 +100,16 @@ imageCases =
 -- ---- how many rounds ahead, 1 (the next step) to 1,000: else 24
 abbrev pub leadCases : List Case
 leadCases =
-    answers (changeCall fresh new 0 long .answer) 24 0 ++ (answers (changeCall fresh new 1 long .answer) 0 0
-    ++ (answers (changeCall fresh new 1000 long .answer) 0 0 ++ (answers (changeCall fresh new 1001 long .answer) 24 0
-    ++ (answers (changeCall fresh new 0xFFFF_FFFF long .answer) 24 0 ++ (holds (changeCall fresh new 1000 long .out) 21 (1000 ∷ 0x2000_0009 ∷ [])
-    ++ (case (changeCall fresh new 1 long .answer .health) 0 ∷ []))))))
+    answers (changeCall nonePending new 0 long .answer) 24 0 ++ (answers (changeCall nonePending new 1 long .answer) 0 0
+    ++ (answers (changeCall nonePending new 1000 long .answer) 0 0 ++ (answers (changeCall nonePending new 1001 long .answer) 24 0
+    ++ (answers (changeCall nonePending new 0xFFFF_FFFF long .answer) 24 0 ++ (holds (changeCall nonePending new 1000 long .out) 21 (1000 ∷ 0x2000_0009 ∷ [])
+    ++ (case (changeCall nonePending new 1 long .answer .health) 0 ∷ []))))))
 
 -- ---- the state is checked whole before the new words: with no new setup, no lead and no output, an image of no bytes, one whose own number is 0, one
 -- with rounds left but no new words, and one with a pending P of 0
 abbrev pub stateFirstCases : List Case
 stateFirstCases =
-    answers (changeCall [] [] 0 [] .answer) 1 0 ++ (answers (changeCall (putWord fresh 6 0xA000_0007) [] 0 [] .answer) 7 6
+    answers (changeCall [] [] 0 [] .answer) 1 0 ++ (answers (changeCall (putWord nonePending 6 0xA000_0007) [] 0 [] .answer) 7 6
     ++ (answers (changeCall (quiet (1 ∷ [])) [] 0 [] .answer) 3 0 ++ answers (changeCall (quiet (5 ∷ limits 0 8 7 6 5)) [] 0 [] .answer) 8 22))
 
 -- ---- the numbers of a setup for the new words, by their own indexes, before 23, 24 and 9
@@ -120,19 +120,19 @@ fading = 0 ∷ 0x3FE0_0000 ∷ 0 ∷ 0x4000_0000 ∷ 0 ∷ 0x4086_0002 ∷ 0x410
 
 abbrev pub newWordCases : List Case
 newWordCases =
-    answers (changeCall fresh [] 0 [] .answer) 1 0 ++ (answers (changeCall fresh (setup 0x1000_0301 (limits 9 8 7 6 5)) 0 [] .answer) 2 0
-    ++ (answers (changeCall fresh (take 20 new) 0 [] .answer) 3 0 ++ (answers (changeCall fresh (setup thrice (limits 0 8 7 6 5)) 0 [] .answer) 4 1
-    ++ (answers (changeCall fresh (setup thrice (limits 1000001 8 7 6 5)) 0 [] .answer) 4 1
-    ++ (answers (changeCall fresh (setup thrice (limits 9 0 7 6 5)) 0 [] .answer) 4 2
-    ++ (answers (changeCall fresh (setup thrice (limits 9 8 7 0 5)) 0 [] .answer) 5 4
-    ++ (answers (changeCall fresh (putWord new 5 0x41C6_0005) 0 [] .answer) 6 5
-    ++ answers (changeCall fresh (putWord (setup two fading) 2 0x8000_0000) 0 [] .answer) 22 2)))))))
+    answers (changeCall nonePending [] 0 [] .answer) 1 0 ++ (answers (changeCall nonePending (limitSetup 0x1000_0301 (limits 9 8 7 6 5)) 0 [] .answer) 2 0
+    ++ (answers (changeCall nonePending (take 20 new) 0 [] .answer) 3 0 ++ (answers (changeCall nonePending (limitSetup thrice (limits 0 8 7 6 5)) 0 [] .answer) 4 1
+    ++ (answers (changeCall nonePending (limitSetup thrice (limits 1000001 8 7 6 5)) 0 [] .answer) 4 1
+    ++ (answers (changeCall nonePending (limitSetup thrice (limits 9 0 7 6 5)) 0 [] .answer) 4 2
+    ++ (answers (changeCall nonePending (limitSetup thrice (limits 9 8 7 0 5)) 0 [] .answer) 5 4
+    ++ (answers (changeCall nonePending (putWord new 5 0x41C6_0005) 0 [] .answer) 6 5
+    ++ answers (changeCall nonePending (putWord (limitSetup two fading) 2 0x8000_0000) 0 [] .answer) 22 2)))))))
 
 -- ---- 23 if anything else differs or either side fades
 -- Of the new setup: N; Q; the read place of module 2; it fades; of the old one: it fades; both fade. The same setup is accepted, and so is one in which
 -- any of P, R and the criticalities alone differs.
 abbrev pub fadingImage : List ℕ
-fadingImage = openCall (setup two fading) 1 (replicate 100 0) .out
+fadingImage = openCall (limitSetup two fading) 1 (replicate 100 0) .out
 
 -- module 3 has l = 0, without and with the send mark
 abbrev pub unmarked : List ℕ
@@ -147,42 +147,42 @@ changed from to = changeCall (openCall from 1 short .out) to 1 long .answer
 abbrev pub frameCases : List Case
 frameCases =
     answers (changed old (bytes (0x1000_0204 ∷ 0x2000_0005 ∷ 0x3000_0004 ∷ 0x4086_0002 ∷ 0x4106_0003 ∷ 0x4186_0004 ∷ 0x4206_0001 ∷ []))) 23 0
-    ++ (answers (changed old (setup thrice (limits 5 4 2 3 4))) 23 0 ++ (answers (changed old (putWord old 4 0x4104_0003)) 23 0
+    ++ (answers (changed old (limitSetup thrice (limits 5 4 2 3 4))) 23 0 ++ (answers (changed old (putWord old 4 0x4104_0003)) 23 0
     ++ (answers (changed unmarked marked) 23 0 ++ (answers (changed marked unmarked) 23 0 ++ (answers (changed marked marked) 0 0
-    ++ (answers (changed old (setup two fading)) 23 0 ++ (answers (changeCall fadingImage old 1 long .answer) 23 0
-    ++ (answers (changeCall fadingImage (setup two fading) 1 long .answer) 23 0 ++ (answers (changed old old) 0 0
-    ++ (answers (changed old (setup two (limits 6 4 2 3 4))) 0 0 ++ (answers (changed old (setup two (limits 5 5 2 3 4))) 0 0
-    ++ answers (changed old (setup two (limits 5 4 2 3 100000))) 0 0)))))))))))
+    ++ (answers (changed old (limitSetup two fading)) 23 0 ++ (answers (changeCall fadingImage old 1 long .answer) 23 0
+    ++ (answers (changeCall fadingImage (limitSetup two fading) 1 long .answer) 23 0 ++ (answers (changed old old) 0 0
+    ++ (answers (changed old (limitSetup two (limits 6 4 2 3 4))) 0 0 ++ (answers (changed old (limitSetup two (limits 5 5 2 3 4))) 0 0
+    ++ answers (changed old (limitSetup two (limits 5 4 2 3 100000))) 0 0)))))))))))
 
 -- ---- then 24 if one is pending or the lead is out of range
 -- Pending, 5 rounds or 1; 23 before 24.
 abbrev pub followCases : List Case
 followCases =
     answers (changeCall (quiet (5 ∷ limits 9 8 7 6 5)) new 1 long .answer) 24 0 ++ (answers (changeCall (quiet (1 ∷ limits 9 8 7 6 5)) new 1 long .answer) 24 0
-    ++ (answers (changeCall (quiet (5 ∷ limits 9 8 7 6 5)) (setup thrice (limits 9 8 7 6 5)) 1 long .answer) 23 0
-    ++ answers (changeCall fresh (setup thrice (limits 9 8 7 6 5)) 1001 long .answer) 23 0))
+    ++ (answers (changeCall (quiet (5 ∷ limits 9 8 7 6 5)) (limitSetup thrice (limits 9 8 7 6 5)) 1 long .answer) 23 0
+    ++ answers (changeCall nonePending (limitSetup thrice (limits 9 8 7 6 5)) 1001 long .answer) 23 0))
 
 -- ---- 9 comes last in a change, whose output has the length of the image after it
 abbrev pub roomCases : List Case
 roomCases =
-    answers (changeCall fresh new 1 short .answer) 9 0 ++ (answers (changeCall fresh new 1 (replicate 112 0) .answer) 9 0
-    ++ (answers (changeCall fresh new 1 [] .answer) 9 0 ++ (answers (changeCall fresh new 0 short .answer) 24 0
-    ++ answers (changeCall fresh (setup thrice (limits 9 8 7 6 5)) 1 short .answer) 23 0)))
+    answers (changeCall nonePending new 1 short .answer) 9 0 ++ (answers (changeCall nonePending new 1 (replicate 112 0) .answer) 9 0
+    ++ (answers (changeCall nonePending new 1 [] .answer) 9 0 ++ (answers (changeCall nonePending new 0 short .answer) 24 0
+    ++ answers (changeCall nonePending (limitSetup thrice (limits 9 8 7 6 5)) 1 short .answer) 23 0)))
 
 -- ---- a refused change leaves its output as it was: by 8, 4, 23, 24 and 9
-abbrev pub kept : Called → List Case
-kept c = case (length (c .out)) 88 ∷ holds (c .out) 0 (replicate 22 0xA5A5_A5A5)
+abbrev pub keptOutput : Called → List Case
+keptOutput c = case (length (c .out)) 88 ∷ holds (c .out) 0 (replicate 22 0xA5A5_A5A5)
 
 abbrev pub refusedCases : List Case
 refusedCases =
-    kept (changeCall (quiet (1001 ∷ limits 9 8 7 6 5)) new 1 short) ++ (kept (changeCall fresh (setup two (limits 0 8 7 6 5)) 1 short)
-    ++ (kept (changeCall fresh (setup thrice (limits 9 8 7 6 5)) 1 short) ++ (kept (changeCall fresh new 0 short) ++ kept (changeCall fresh new 1 short))))
+    keptOutput (changeCall (quiet (1001 ∷ limits 9 8 7 6 5)) new 1 short) ++ (keptOutput (changeCall nonePending (limitSetup two (limits 0 8 7 6 5)) 1 short)
+    ++ (keptOutput (changeCall nonePending (limitSetup thrice (limits 9 8 7 6 5)) 1 short) ++ (keptOutput (changeCall nonePending new 0 short) ++ keptOutput (changeCall nonePending new 1 short))))
 
 -- ---- it takes the old one's place in the step that the lead says
 -- Lead 3: two steps count the rounds down, and the old words hold; after the third the new ones do, and nothing is pending, so that the next change may
 -- follow. Lead 1: after the next step.
 abbrev pub changing : ℕ → List ℕ
-changing lead = changeCall fresh new lead long .out
+changing lead = changeCall nonePending new lead long .out
 
 abbrev pub roundCases : List Case
 roundCases =
@@ -198,44 +198,44 @@ roundCases =
     ++ (holds third 21 (0 ∷ [])
     ++ (case (length third) 88
     ∷ answers (changeCall third old 2 long .answer) 0 0
-    ++ (holds next 0 (two ∷ limits 9 8 7 6 5) ++ (holds next 21 (0 ∷ []) ++ (case (length next) 88 ∷ held next 7 (accounts 0 0 0 0 0 0 0 0 0))))))))))
+    ++ (holds next 0 (two ∷ limits 9 8 7 6 5) ++ (holds next 21 (0 ∷ []) ++ (case (length next) 88 ∷ accountsHeld next 7 (accounts 0 0 0 0 0 0 0 0 0))))))))))
 
 -- ---- the output of a step has the length of the image after it: 27 words while the change is pending still, 22 where it takes effect; 9 before 10
 abbrev pub stepRoomCases : List Case
 stepRoomCases =
     answers (step 7 (quiet (2 ∷ limits 9 8 7 6 5)) long .answer) 0 0 ++ (answers (step 7 (quiet (2 ∷ limits 9 8 7 6 5)) short .answer) 9 0
     ++ (answers (step 7 (quiet (1 ∷ limits 9 8 7 6 5)) short .answer) 0 0 ++ (answers (step 7 (quiet (1 ∷ limits 9 8 7 6 5)) long .answer) 9 0
-    ++ (answers (step 7 fresh short .answer) 0 0 ++ (answers (step 7 fresh long .answer) 9 0
+    ++ (answers (step 7 nonePending short .answer) 0 0 ++ (answers (step 7 nonePending long .answer) 9 0
     ++ (answers (stepCall (quiet (1 ∷ limits 9 8 7 6 5)) (bytesOf 3 (λ j. busWord 7)) 8 long .answer) 9 0
     ++ (answers (stepCall (quiet (1 ∷ limits 9 8 7 6 5)) (bytesOf 3 (λ j. busWord 7)) 8 short .answer) 10 0
-    ++ (answers (saveCall (quiet (1 ∷ limits 9 8 7 6 5)) short .answer) 9 0 ++ answers (saveCall fresh long .answer) 9 0))))))))
+    ++ (answers (saveCall (quiet (1 ∷ limits 9 8 7 6 5)) short .answer) 9 0 ++ answers (saveCall nonePending long .answer) 9 0))))))))
 
 -- ---- at the start of that round's counting, modules in the view with reward at or above the new R get zero counters
 -- Penalties 3, 4 and 5, rewards 1, 2 and 3, the change due. In a round with health 0 each penalty in the view grows by the new criticality, from 0 where
 -- the counters became zero: with R = 2, and P = 100, those of modules 2 and 3; with R = 3 that of module 3; with R = 4 none.
-abbrev pub due : ℕ → List ℕ → List ℕ
-due head ws = image head 7 (accounts 3 4 5 1 2 3 0 0 0) (1 ∷ ws)
+abbrev pub changeDue : ℕ → List ℕ → List ℕ
+changeDue head ws = image head 7 (accounts 3 4 5 1 2 3 0 0 0) (1 ∷ ws)
 
 abbrev pub forgivenCases : List Case
 forgivenCases =
-    held (step 0 (due two (limits 100 2 7 1 9)) short .out) 7 (accounts 10 1 9 0 0 0 0 0 0)
-    ++ (held (step 0 (due two (limits 100 3 7 1 9)) short .out) 7 (accounts 10 5 9 0 0 0 0 0 0)
-    ++ (held (step 0 (due two (limits 100 4 7 1 9)) short .out) 7 (accounts 10 5 14 0 0 0 0 0 0)
-    ++ (held (step 7 (due two (limits 100 3 7 1 9)) short .out) 7 (accounts 3 0 0 2 0 0 0 0 0)
+    accountsHeld (step 0 (changeDue two (limits 100 2 7 1 9)) short .out) 7 (accounts 10 1 9 0 0 0 0 0 0)
+    ++ (accountsHeld (step 0 (changeDue two (limits 100 3 7 1 9)) short .out) 7 (accounts 10 5 9 0 0 0 0 0 0)
+    ++ (accountsHeld (step 0 (changeDue two (limits 100 4 7 1 9)) short .out) 7 (accounts 10 5 14 0 0 0 0 0 0)
+    ++ (accountsHeld (step 7 (changeDue two (limits 100 3 7 1 9)) short .out) 7 (accounts 3 0 0 2 0 0 0 0 0)
     -- the round before it the old limits hold
-    ++ held (step 0 (image two 7 (accounts 0 0 0 0 0 0 0 0 0) (2 ∷ limits 100 2 7 1 9)) long .out) 7 (accounts 2 3 4 0 0 0 0 0 0))))
+    ++ accountsHeld (step 0 (image two 7 (accounts 0 0 0 0 0 0 0 0 0) (2 ∷ limits 100 2 7 1 9)) long .out) 7 (accounts 2 3 4 0 0 0 0 0 0))))
 
 -- ---- then those with penalty over the new P leave; those at it stay
 -- The same accounts, R = 4, and all modules healthy: with P = 4 module 3 leaves, reward 0, and its return is counted from this round on, unless its
 -- health is 0. Zero counters come first: with P = 2 and R = 2 modules 2 and 3 stay, though their penalties were over P, and module 1 leaves.
 abbrev pub leaveCases : List Case
 leaveCases =
-    held (step 7 (due two (limits 4 4 7 1 9)) short .out) 3 (accounts 3 4 5 2 3 0 0 0 1)
-    ++ (held (step 3 (due two (limits 4 4 7 1 9)) short .out) 3 (accounts 3 4 5 2 3 0 0 0 0)
-    ++ (held (step 7 (due two (limits 5 4 7 1 9)) short .out) 7 (accounts 3 4 0 2 3 0 0 0 0)
-    ++ (held (step 0 (due two (limits 2 2 7 1 9)) short .out) 2 (accounts 3 1 9 0 0 0 0 0 0)
+    accountsHeld (step 7 (changeDue two (limits 4 4 7 1 9)) short .out) 3 (accounts 3 4 5 2 3 0 0 0 1)
+    ++ (accountsHeld (step 3 (changeDue two (limits 4 4 7 1 9)) short .out) 3 (accounts 3 4 5 2 3 0 0 0 0)
+    ++ (accountsHeld (step 7 (changeDue two (limits 5 4 7 1 9)) short .out) 7 (accounts 3 4 0 2 3 0 0 0 0)
+    ++ (accountsHeld (step 0 (changeDue two (limits 2 2 7 1 9)) short .out) 2 (accounts 3 1 9 0 0 0 0 0 0)
     -- votes and health are by the view before the step
-    ++ (case (step 3 (due two (limits 1 4 1 1 1)) short .answer .health) 3 ∷ []))))
+    ++ (case (step 3 (changeDue two (limits 1 4 1 1 1)) short .answer .health) 3 ∷ []))))
 
 -- ---- modules outside, those that just left among them, get reward 0, and their penalties are raised to at least P + 1 and cut to at most
 -- P + criticality
@@ -246,17 +246,17 @@ outside head ws = image head 3 (accounts 0 0 8 0 0 3 0 0 1) (1 ∷ ws)
 
 abbrev pub outsideCases : List Case
 outsideCases =
-    held (step 7 (outside thrice (limits 10 4 7 1 9)) short .out) 3 (accounts 0 0 11 0 0 0 0 0 2)
-    ++ (held (step 3 (outside thrice (limits 10 4 7 1 9)) short .out) 3 (accounts 0 0 11 0 0 0 0 0 0)
-    ++ (held (step 7 (outside thrice (limits 2 4 7 1 1)) short .out) 3 (accounts 0 0 3 0 0 0 0 0 2)
-    ++ (held (step 7 (outside thrice (limits 6 4 7 1 4)) short .out) 3 (accounts 0 0 8 0 0 0 0 0 2)
+    accountsHeld (step 7 (outside thrice (limits 10 4 7 1 9)) short .out) 3 (accounts 0 0 11 0 0 0 0 0 2)
+    ++ (accountsHeld (step 3 (outside thrice (limits 10 4 7 1 9)) short .out) 3 (accounts 0 0 11 0 0 0 0 0 0)
+    ++ (accountsHeld (step 7 (outside thrice (limits 2 4 7 1 1)) short .out) 3 (accounts 0 0 3 0 0 0 0 0 2)
+    ++ (accountsHeld (step 7 (outside thrice (limits 6 4 7 1 4)) short .out) 3 (accounts 0 0 8 0 0 0 0 0 2)
     -- at Q it returns with the new P
-    ++ (held (step 7 (outside two (limits 10 4 7 1 9)) short .out) 7 (accounts 0 0 10 0 0 0 0 0 0)
+    ++ (accountsHeld (step 7 (outside two (limits 10 4 7 1 9)) short .out) 7 (accounts 0 0 10 0 0 0 0 0 0)
     -- those that just left: all three are cut to 2 by P = 1 and criticality 1
-    ++ (held (step 7 (due two (limits 1 4 1 1 1)) short .out) 0 (accounts 2 2 2 0 0 0 1 1 1)
+    ++ (accountsHeld (step 7 (changeDue two (limits 1 4 1 1 1)) short .out) 0 (accounts 2 2 2 0 0 0 1 1 1)
     -- with Q = 1 one that just left is back at once, with the new P; with Q = 0 it stays out, uncounted
-    ++ (held (step 7 (due once (limits 4 4 7 1 9)) short .out) 7 (accounts 3 4 4 2 3 0 0 0 0)
-    ++ held (step 7 (due never (limits 4 4 7 1 9)) short .out) 3 (accounts 3 4 5 2 3 0 0 0 0)))))))
+    ++ (accountsHeld (step 7 (changeDue once (limits 4 4 7 1 9)) short .out) 7 (accounts 3 4 4 2 3 0 0 0 0)
+    ++ accountsHeld (step 7 (changeDue never (limits 4 4 7 1 9)) short .out) 3 (accounts 3 4 5 2 3 0 0 0 0)))))))
 
 -- ---- a length other than the rounds-left word calls for is 3
 -- Too short to hold that word; 22 words with 1 round left, and with 1,001; 27 with none; 26 and 28 with 1; where the setup fades 25 words with 1.
@@ -265,7 +265,7 @@ savedAnswer s = saveCall s s .answer
 
 abbrev pub savedLengthCases : List Case
 savedLengthCases =
-    answers (savedAnswer fresh) 0 0 ++ (answers (savedAnswer (take 84 fresh)) 3 0 ++ (answers (savedAnswer (quiet (1 ∷ []))) 3 0
+    answers (savedAnswer nonePending) 0 0 ++ (answers (savedAnswer (take 84 nonePending)) 3 0 ++ (answers (savedAnswer (quiet (1 ∷ []))) 3 0
     ++ (answers (savedAnswer (quiet (1001 ∷ []))) 3 0 ++ (answers (savedAnswer (quiet (0 ∷ limits 9 8 7 6 5))) 3 0
     ++ (answers (savedAnswer (take 104 (quiet (1 ∷ limits 9 8 7 6 5)))) 3 0 ++ (answers (savedAnswer (quiet (1 ∷ (limits 9 8 7 6 5 ++ (0 ∷ []))))) 3 0
     ++ (answers (savedAnswer (quiet (1 ∷ limits 9 8 7 6 5))) 0 0 ++ (answers (savedAnswer fadingImage) 0 0
@@ -278,23 +278,23 @@ abbrev pub pended : List ℕ → Answer
 pended end = savedAnswer (quiet end)
 
 -- new words, of which word i of the image is another one
-abbrev pub altered : ℕ → ℕ → Answer
-altered i w = savedAnswer (putWord (quiet (1 ∷ limits 9 8 7 6 5)) i w)
+abbrev pub alteredPending : ℕ → ℕ → Answer
+alteredPending i w = savedAnswer (putWord (quiet (1 ∷ limits 9 8 7 6 5)) i w)
 
 -- a change pending from a setup with a word of module 3 to one with another
-abbrev pub moved : List ℕ → ℕ → Answer
-moved from w = savedAnswer (putWord (changeCall (openCall from 1 short .out) from 1 long .out) 26 w)
+abbrev pub movedPlace : List ℕ → ℕ → Answer
+movedPlace from w = savedAnswer (putWord (changeCall (openCall from 1 short .out) from 1 long .out) 26 w)
 
 abbrev pub savedWordCases : List Case
 savedWordCases =
     answers (pended (1000 ∷ limits 9 8 7 6 5)) 0 0 ++ (answers (pended (1001 ∷ limits 9 8 7 6 5)) 8 21
     ++ (answers (pended (0xFFFF_FFFF ∷ limits 9 8 7 6 5)) 8 21
     ++ (answers (savedAnswer (putWord fadingImage 24 1 ++ bytes (limits 9 8 7 6 5))) 8 24
-    ++ (answers (altered 22 0x2000_0000) 8 22 ++ (answers (altered 22 0x200F_4241) 8 22 ++ (answers (altered 22 0x200F_4240) 0 0
-    ++ (answers (altered 22 0x3000_0009) 8 22 ++ (answers (altered 23 0x3000_0000) 8 23 ++ (answers (altered 23 0x307A_1201) 8 23
-    ++ (answers (altered 24 0x4086_0000) 8 24 ++ (answers (altered 24 0x4087_86A1) 8 24 ++ (answers (altered 24 0x4087_86A0) 0 0
-    ++ (answers (altered 25 0x4186_0006) 8 25 ++ (answers (altered 26 0x4184_0005) 8 26 ++ (answers (altered 26 0x41C6_0005) 8 26
-    ++ (answers (moved unmarked 0x41C0_0004) 8 26 ++ (answers (moved marked 0x4180_0004) 8 26 ++ (answers (moved marked 0x41C0_0009) 0 0
+    ++ (answers (alteredPending 22 0x2000_0000) 8 22 ++ (answers (alteredPending 22 0x200F_4241) 8 22 ++ (answers (alteredPending 22 0x200F_4240) 0 0
+    ++ (answers (alteredPending 22 0x3000_0009) 8 22 ++ (answers (alteredPending 23 0x3000_0000) 8 23 ++ (answers (alteredPending 23 0x307A_1201) 8 23
+    ++ (answers (alteredPending 24 0x4086_0000) 8 24 ++ (answers (alteredPending 24 0x4087_86A1) 8 24 ++ (answers (alteredPending 24 0x4087_86A0) 0 0
+    ++ (answers (alteredPending 25 0x4186_0006) 8 25 ++ (answers (alteredPending 26 0x4184_0005) 8 26 ++ (answers (alteredPending 26 0x41C6_0005) 8 26
+    ++ (answers (movedPlace unmarked 0x41C0_0004) 8 26 ++ (answers (movedPlace marked 0x4180_0004) 8 26 ++ (answers (movedPlace marked 0x41C0_0009) 0 0
     ++ (answers (pended (1 ∷ limits 0 8 0 6 5)) 8 22 ++ (answers (pended (1001 ∷ limits 0 8 7 6 5)) 8 21
     ++ answers (savedAnswer (putWord (quiet (1001 ∷ limits 0 8 7 6 5)) 20 0xF180_0001)) 8 20))))))))))))))))))))
 
@@ -303,7 +303,7 @@ savedWordCases =
 -- of changes
 abbrev pub ChangesRight : Type 0
 ChangesRight =
-    right (imageCases ++ (leadCases ++ (stateFirstCases ++ (newWordCases ++ (frameCases ++ (followCases ++ (roomCases ++ refusedCases))))))) ≡ true
+    right (pendingImageCases ++ (leadCases ++ (stateFirstCases ++ (newWordCases ++ (frameCases ++ (followCases ++ (roomCases ++ refusedCases))))))) ≡ true
 
 -- of steps
 abbrev pub StepsRight : Type 0

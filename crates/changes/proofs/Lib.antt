@@ -2,8 +2,8 @@ pub mod AdjustLaws
 pub mod PendingLaws
 pub mod TurnLaws
 pub mod SectionTests
-pub mod LentLaws
+pub mod AdjustedArrays
 pub mod NewWords
 pub mod NewMeaning
-pub mod SectionLaws
+pub mod ChangeWords
 pub mod Cases

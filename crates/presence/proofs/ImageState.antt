@@ -10,7 +10,7 @@ use Rattle.words.proofs.ArrayLaws.{array-clear}
 use Rattle.setup.specs.Setup.{sizeIn, fadesIn, frontIn, setupOf}
 use Rattle.setup.proofs.FrontLaws.{setup-fits}
 use Rattle.setup.specs.Layout.{frontWords}
-use Rattle.changes.proofs.SectionLaws.{read-pending}
+use Rattle.changes.proofs.ChangeWords.{read-pending}
 use Rattle.image.specs.Layout.{ownAt, latestAt, earlierAt, leftAt}
 use Rattle.image.specs.Words.{viewIn}
 use Rattle.image.specs.Rows.{readingIn}

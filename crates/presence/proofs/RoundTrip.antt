@@ -32,7 +32,7 @@ use Rattle.rules.specs.Hearing.{readingOf}
 use Rattle.changes.specs.Words.{newCount, pendingIn, changeRuns}
 use Rattle.changes.specs.Books.{counted, booksAfter}
 use Rattle.changes.proofs.PendingLaws.{nothing-shaped, of-shaped, read-shaped as pending-shaped}
-use Rattle.changes.proofs.SectionLaws.{change-back, change-same, read-left}
+use Rattle.changes.proofs.ChangeWords.{change-back, change-same, read-left}
 use Rattle.changes.proofs.TurnLaws.{turned-shaped}
 use Rattle.image.specs.Layout.{ownAt, latestAt, earlierAt, accountsAt, leftAt, imageWords, imageLength}
 use Rattle.image.specs.Words.{viewIn}

@@ -19,7 +19,7 @@ use Rattle.setup.proofs.SetupWords.{moduleOf}
 use Rattle.setup.proofs.WordFields.{return-back, criticality-back}
 use Rattle.accounts.specs.declared.Counters.{Counters}
 use Rattle.changes.specs.Words.{newCount, changeRuns}
-use Rattle.changes.proofs.SectionLaws.{change-total, change-stands}
+use Rattle.changes.proofs.ChangeWords.{change-total, change-stands}
 use Rattle.image.specs.Layout.{ownAt, rowsAt, latestAt, earlierAt, accountsAt, leftAt, imageLength}
 use Rattle.image.specs.Words.{ownWord, ownIn, viewIn, syndromeWord, syndromeIn}
 use Rattle.image.specs.Rows.{rowWord}

@@ -27,7 +27,7 @@ use Rattle.changes.specs.Pending.{pendingOf}
 use Rattle.changes.specs.Books.{turned, counted, booksAfter}
 use Rattle.changes.specs.Frame.{frameVerdict}
 use Rattle.changes.proofs.PendingLaws.{PendingFits, nothing-fits, frame-fits, fits-small as fits-pending}
-use Rattle.changes.proofs.SectionLaws.{ModulesStand, change-ok, change-pass}
+use Rattle.changes.proofs.ChangeWords.{ModulesStand, change-ok, change-pass}
 use Rattle.changes.proofs.TurnLaws.{turned-size, turned-setup-fits, turned-pending-fits}
 use Rattle.image.specs.Layout.{ownAt, leftAt}
 use Rattle.image.specs.Rows.{rowFits}

@@ -7,7 +7,7 @@ use Rattle.words.proofs.ArrayLaws.{replaced-step}
 use Rattle.accounts.specs.declared.Account.{Account}
 use Rattle.accounts.proofs.CountedLaws.{ahead}
 use Rattle.changes.specs.Lent.{adjustedIn}
-use Rattle.changes.proofs.LentLaws.{adjusted-lent, replaced-all}
+use Rattle.changes.proofs.AdjustedArrays.{adjusted-lent, replaced-all}
 use Rattle.changes.proofs.lent.adjust.Statement.{statement}
 use Rattle.changes.proofs.lent.adjust.Tie as tie
 

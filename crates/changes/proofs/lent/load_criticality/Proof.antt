@@ -6,7 +6,7 @@ use Rattle.words.specs.Word.{wordAt}
 use Rattle.words.specs.Array.{replaced}
 use Rattle.words.proofs.ArrayLaws.{replaced-step}
 use Rattle.setup.specs.Setup.{criticalityIn}
-use Rattle.changes.proofs.LentLaws.{replaced-all}
+use Rattle.changes.proofs.AdjustedArrays.{replaced-all}
 use Rattle.changes.proofs.lent.load_criticality.Statement.{statement}
 use Rattle.changes.proofs.lent.load_criticality.Tie as tie
 

@@ -1,6 +1,6 @@
 -- The criticalities are read, then the counters adjusted to them.
 use native.Mathlib.Omega.{arith}
-use Rattle.changes.proofs.LentLaws.{read-small, turned-lent}
+use Rattle.changes.proofs.AdjustedArrays.{read-small, turned-lent}
 use borrow.Author.Needs.{needs}
 use Rattle.changes.proofs.lent.turn.Statement.{statement}
 use Rattle.changes.proofs.lent.turn.Tie as tie
