@@ -31,10 +31,10 @@
  * Nothing is kept between calls: the result of a call and the bytes it writes
  * follow from its arguments alone.  The functions use no heap, no static
  * variables and no C library calls.  With counts and with fading (see SETUP)
- * an accepted presence_step takes 1,000 bytes of stack (measured, for N = 2,
- * 4, 8 and 16) and a refused one 1,128, presence_page_step 1,208 and 1,336,
- * presence_page_open 344, presence_open 216; no other call takes more than
- * 200.
+ * an accepted presence_step takes 1,032 bytes of stack (measured, for N = 2,
+ * 4, 8 and 16) and a refused one 1,192, presence_page_step 1,248 and 1,400,
+ * presence_page_open 328, presence_change 296, presence_open and presence_save
+ * 216; no other call takes more than 200.
  *
  * Instructions of an accepted presence_step and presence_page_step (page), the
  * most that were counted in quiet and loud rounds and in rounds in which
@@ -46,20 +46,25 @@
  * With counts:
  *
  *    N   step   page        N   step   page        N   step   page
- *    2  1,042  1,227        7  1,926  2,184       12  2,049  2,294
- *    3  1,241  1,451        8  1,435  1,637       13  2,415  2,684
- *    4  1,149  1,333        9  1,833  2,059       14  2,622  2,916
- *    5  1,518  1,726       10  2,033  2,284       15  2,821  3,140
- *    6  1,727  1,960       11  2,232  2,508       16  2,292  2,553
+ *    2  1,106  1,304        7  2,006  2,265       12  2,130  2,383
+ *    3  1,306  1,528        8  1,502  1,720       13  2,507  2,783
+ *    4  1,216  1,404        9  1,912  2,154       14  2,715  3,015
+ *    5  1,596  1,807       10  2,113  2,379       15  2,915  3,239
+ *    6  1,806  2,041       11  2,313  2,603       16  2,371  2,654
  *
  * With fading:
  *
  *    N   step   page        N   step   page        N   step   page
- *    2  1,069  1,254        7  2,220  2,470       12  2,676  2,910
- *    3  1,334  1,542        8  1,864  2,059       13  3,037  3,294
- *    4  1,352  1,533        9  2,235  2,453       14  3,284  3,564
- *    5  1,713  1,917       10  2,460  2,701       15  3,542  3,845
- *    6  1,962  2,189       11  2,725  2,989       16  3,148  3,394
+ *    2  1,134  1,333        7  2,303  2,565       12  2,755  3,022
+ *    3  1,402  1,623        8  1,931  2,159       13  3,127  3,418
+ *    4  1,417  1,611        9  2,312  2,565       14  3,378  3,691
+ *    5  1,789  2,007       10  2,539  2,814       15  3,639  3,974
+ *    6  2,042  2,282       11  2,807  3,104       16  3,227  3,528
+ *
+ * With counts and a change of limits pending (see NEW LIMITS WITHOUT A STOP), at
+ * N = 2, 4, 8 and 16: a step takes 1,222, 1,396, 1,750 and 2,785, with a page
+ * 1,420, 1,585, 1,969 and 3,069; the step that applies the change 1,295, 1,451,
+ * 1,869 and 2,996, with a page 1,555, 1,741, 2,186 and 3,436.
  *
  *
  * CALLS AT THE SAME TIME

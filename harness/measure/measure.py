@@ -256,8 +256,8 @@ def steps_as_said(presence, page, form):
 # ---- goals ----
 
 # by form and N the most that a step may take of plain C's instructions: what was reached, rounded up
-GOALS = {"counts": {2: 1.0, 4: 0.66, 8: 0.43, 16: 0.32},
-         "fading": {2: 1.10, 4: 0.86, 8: 0.62, 16: 0.48}}
+GOALS = {"counts": {2: 1.0, 4: 0.68, 8: 0.45, 16: 0.33},
+         "fading": {2: 1.11, 4: 0.87, 8: 0.63, 16: 0.49}}
 ALIKE = {"counts"}  # the forms of which the same number of instructions in every kind of round is asked
 
 
