@@ -61,10 +61,10 @@
  *    5  1,789  2,007       10  2,539  2,814       15  3,639  3,974
  *    6  2,042  2,282       11  2,807  3,104       16  3,227  3,528
  *
- * With counts and a change of limits pending (see NEW LIMITS WITHOUT A STOP), at
- * N = 2, 4, 8 and 16: a step takes 1,222, 1,396, 1,750 and 2,785, with a page
- * 1,420, 1,585, 1,969 and 3,069; the step that applies the change 1,295, 1,451,
- * 1,869 and 2,996, with a page 1,555, 1,741, 2,186 and 3,436.
+ * With counts and a change of limits pending (see NEW LIMITS WITHOUT A STOP),
+ * at N = 2, 4, 8 and 16: a step takes 1,222, 1,396, 1,750 and 2,785, with a
+ * page 1,420, 1,585, 1,969 and 3,069; the step that applies the change 1,295,
+ * 1,451, 1,869 and 2,996, with a page 1,555, 1,741, 2,186 and 3,436.
  *
  *
  * CALLS AT THE SAME TIME
