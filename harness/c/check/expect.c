@@ -42,6 +42,13 @@ void check_setup(const uint8_t *in, size_t in_len, uint32_t number,
     same("health of a setup check", r.reply.value, 0);
 }
 
+/* Hands the image that an accepted call wrote to a caller who wants it. */
+static void keep(const struct result *r, size_t out_len, uint8_t *image)
+{
+    if (r->reply.number == 0 && image != NULL)
+        memcpy(image, r->out, out_len);
+}
+
 void open_module(const uint8_t *in, size_t in_len, uint32_t own, size_t out_len,
                  uint32_t number, uint32_t index, uint8_t *image)
 {
@@ -51,8 +58,7 @@ void open_module(const uint8_t *in, size_t in_len, uint32_t own, size_t out_len,
 
     expect(&c, number, index, &r);
     same("health of an opening", r.reply.value, 0);
-    if (r.reply.number == 0 && image != NULL)
-        memcpy(image, r.out, out_len);
+    keep(&r, out_len, image);
 }
 
 uint32_t step(const uint8_t *in, size_t in_len, const uint8_t *read,
@@ -65,8 +71,7 @@ uint32_t step(const uint8_t *in, size_t in_len, const uint8_t *read,
     struct result r;
 
     expect(&c, number, index, &r);
-    if (r.reply.number == 0 && image != NULL)
-        memcpy(image, r.out, out_len);
+    keep(&r, out_len, image);
     return r.reply.value;
 }
 
@@ -94,8 +99,7 @@ void change(const uint8_t *in, size_t in_len, const uint8_t *setup,
 
     expect(&c, number, index, &r);
     same("health of a change", r.reply.value, 0);
-    if (r.reply.number == 0 && image != NULL)
-        memcpy(image, r.out, out_len);
+    keep(&r, out_len, image);
 }
 
 uint32_t outgoing(const uint8_t *in, size_t in_len, uint32_t number,
