@@ -179,6 +179,7 @@ applied s new lead f g a b e =
     λ i. record {
       n = h .size i;
       q = h .q i;
+      partitionable = h .partitionable i;
       limits = sym (counts-of (new .limits) (h .counts-new)) i;
       marks = h .marks i;
       places = same h i;
