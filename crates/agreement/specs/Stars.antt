@@ -65,7 +65,7 @@ sheet = setupOf sheetBytes
 -- the sheet's limits and criticality with other send marks and read places, for n modules
 abbrev pub like : ℕ → ℕ → List ℕ → Setup
 like n marks places =
-    record { n = n; q = 0; limits = Counts 1 3; marks = marks; places = array n (λ j. getD places j 0); criticality = array n (λ j. 1) }
+    record { n = n; q = 0; partitionable = false; limits = Counts 1 3; marks = marks; places = array n (λ j. getD places j 0); criticality = array n (λ j. 1) }
 
 -- the rule-breakers, as a vector; who hears whom by round, receiver and sender; and the row sent by round and sender; no change is offered
 abbrev pub castSession : ℕ → Setup → (ℕ → ℕ → ℕ → Bool) → (ℕ → ℕ → ℕ) → Session

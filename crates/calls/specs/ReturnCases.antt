@@ -64,7 +64,7 @@ away head rows = after (13 ∷ 13 ∷ rows) (openedImage head)
 abbrev pub headCases : List Case
 headCases =
     answers (checkCall (setup 0x1000_0004)) 0 0 ++ (answers (checkCall (setup 0x1000_0104)) 0 0 ++ (answers (checkCall (setup 0x1F42_4004)) 0 0
-    ++ (answers (checkCall (setup 0x1F42_4104)) 2 0 ++ (answers (checkCall (setup 0x1FFF_FF04)) 2 0 ++ (answers (checkCall (setup 0x1000_0024)) 2 0
+    ++ (answers (checkCall (setup 0x1F42_4104)) 2 0 ++ (answers (checkCall (setup 0x1FFF_FF04)) 2 0 ++ (answers (checkCall (setup 0x1000_0024)) 0 0
     ++ (answers (checkCall (setup 0x1000_0044)) 2 0 ++ answers (checkCall (setup 0x1000_0084)) 2 0))))))
 
 -- ---- an image has N words of kind 15 after those of kind 14, for 3 and 9; at opening the counts are 0. The rounds left (document 02, E10) are the last

@@ -39,7 +39,7 @@ refused-by number index out g f z = f (ap (λ (x : Called). x .answer .number) (
 module _ (st : State) (v : Valid st) where
   pub image-size : sizeIn (wordAt (imageOf st) 0) ≡ st .setup .n
   unfolding imageOf runsOf bytesOf
-  image-size = ap sizeIn (word-first (headWord (st .setup .q) (st .setup .n)) _) ∙ omega (arith, valid-small st v .size)
+  image-size = ap sizeIn (word-first (headWord (st .setup .q) (st .setup .partitionable) (st .setup .n)) _) ∙ omega (arith, valid-small st v .size)
 
   pub image-form : fadesIn (wordAt (imageOf st)) ≡ fades (st .setup .limits)
   image-form = fades-back (wordAt (imageOf st)) (st .setup .limits) (stands-bytes st .limits)

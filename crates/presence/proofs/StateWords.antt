@@ -65,7 +65,7 @@ image-length st = runs-length (imageRuns st) ∙ omega (arith, last-total st)
 
 -- w are the words of the image
 pub record Stands (st : State) (w : ℕ → ℕ) : Type 0 where
-  pub head : w 0 ≡ headWord (st .setup .q) (st .setup .n)
+  pub head : w 0 ≡ headWord (st .setup .q) (st .setup .partitionable) (st .setup .n)
   pub limits : LimitsStand w (st .setup .limits)
   pub modules : (j : ℕ) → j < st .setup .n → w (frontOf (st .setup) + j) ≡ moduleOf (st .setup) j
   pub own : w (ownAt (frontOf (st .setup)) (st .setup .n)) ≡ ownWord (st .own) (st .counters .view)
@@ -122,7 +122,7 @@ state-read st w f m d =
       before =
           record {
             limits-there = limits-back w (st .setup .limits) (fit-room (st .setup .limits) (f .limits)) (d .limits);
-            q-there = ap returnLimitIn (d .head) ∙ return-back (st .setup .q) (st .setup .n) (record { limit = f .q-most; least = f .least; most = f .most });
+            q-there = ap returnLimitIn (d .head) ∙ return-back (st .setup .q) (st .setup .partitionable) (st .setup .n) (record { limit = f .q-most; least = f .least; most = f .most });
             criticality-there = λ j h.
                 ap criticalityIn (d .modules j h)
                 ∙ criticality-back j (bit (st .setup .marks) j) _ _ (omega (arith, f .each j h .within, f .most)) (omega (arith, f .each j h .most));

@@ -46,7 +46,7 @@ fourDoubles a b c d = (double a ∷ double b ∷ double c ∷ double d ∷ []) +
 
 -- a setup with this number's send mark, and these read places and criticalities
 abbrev pub setupWith : ℕ → List ℕ → List ℕ → Setup
-setupWith marks places criticality = record { n = 4; q = 5; limits = Counts 6 7; marks = marks; places = places; criticality = criticality }
+setupWith marks places criticality = record { n = 4; q = 5; partitionable = false; limits = Counts 6 7; marks = marks; places = places; criticality = criticality }
 
 -- the state of module 3, which heard modules 1, 2 and 4, with penalties and with scores, and with a change pending
 abbrev pub before : State

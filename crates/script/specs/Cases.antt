@@ -83,8 +83,8 @@ cases =
     run (0x6000_0000 ∷ 0x7100_000F ∷ 0x9000_0002 ∷ []) 0 0
     -- 1: no word; 2: N = 17, Q = 1,000,001, a bit between Q and N; 3: fewer than N + 3 words, with Q = 0 and with Q = 1,000,000
     ∷ record { words = []; number = 1; index = 0 } ∷ record { words = 0x1000_0011 ∷ []; number = 2; index = 0 }
-    ∷ record { words = 0x1F42_4104 ∷ []; number = 2; index = 0 } ∷ record { words = 0x1000_0024 ∷ []; number = 2; index = 0 }
-    ∷ record { words = 0x1000_0084 ∷ []; number = 2; index = 0 } ∷ record { words = 0x1F42_4004 ∷ []; number = 3; index = 0 }
+    ∷ record { words = 0x1F42_4104 ∷ []; number = 2; index = 0 } ∷ record { words = 0x1000_0044 ∷ []; number = 2; index = 0 }
+    ∷ record { words = 0x1000_0084 ∷ []; number = 2; index = 0 } ∷ record { words = 0x1F42_4004 ∷ []; number = 3; index = 0 } ∷ record { words = 0x1000_0024 ∷ []; number = 3; index = 0 }
     ∷ record { words = 0x1000_0004 ∷ 0x2000_0001 ∷ 0x3000_0003 ∷ []; number = 3; index = 0 }
     -- a setup that fades is accepted, and the cast is looked for after its N + 6 words: no cast, no cast first, a lie by the cast and by another
     ∷ fading (0x6000_0000 ∷ 0x7100_000F ∷ 0x9000_0002 ∷ []) 0 0 ∷ fading [] 14 10 ∷ fading (0x9000_0001 ∷ []) 12 10
