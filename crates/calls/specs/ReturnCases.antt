@@ -60,7 +60,7 @@ after (row ∷ rows) image = after rows (stepCall image (bytesOf 4 (λ j. busWor
 abbrev pub away : ℕ → List ℕ → List ℕ
 away head rows = after (13 ∷ 13 ∷ rows) (openedImage head)
 
--- ---- head bits 27..8 give Q, 0 for never or 1..1,000,000; number 2 covers Q, and the spare bits 7..5
+-- ---- head bits 27..8 give Q, 0 for never or 1..1,000,000; number 2 covers Q, and the spare bits 7..6; bit 5 is taken (document 02, E11)
 abbrev pub headCases : List Case
 headCases =
     answers (checkCall (setup 0x1000_0004)) 0 0 ++ (answers (checkCall (setup 0x1000_0104)) 0 0 ++ (answers (checkCall (setup 0x1F42_4004)) 0 0
