@@ -1,0 +1,4 @@
+pub mod ViewWordLaws
+pub mod MajorityLaws
+pub mod ViewsLaws
+pub mod ViewTestLaws
