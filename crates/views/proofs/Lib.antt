@@ -2,3 +2,4 @@ pub mod ViewWordLaws
 pub mod MajorityLaws
 pub mod ViewsLaws
 pub mod ViewTestLaws
+pub mod ViewWords

@@ -1,5 +1,5 @@
 -- View words: which are heard, what a read keeps of them, and how they are aligned.
-use mathlib.Core.Path.{_≡_, refl, ap, _∙_}
+use mathlib.Core.Path.{_≡_, refl, sym, ap, _∙_, subst}
 use mathlib.Core.Bool.{Bool, true, false, cond, not, _&&_}
 use mathlib.Core.List.{List}
 use Prim.Native.Nat.{ℕ, _+_, _*_, _/_, _%_, _^_, _<_, _≤_, zero-le}
@@ -11,7 +11,7 @@ use Rattle.words.specs.Word.{wordAt}
 use Rattle.words.specs.Bits.{bit}
 use Rattle.words.specs.Array.{array, replaced, Filled}
 use Rattle.words.proofs.Truth.{and-l, and-r, and-true, cond-false}
-use Rattle.words.proofs.ArrayLaws.{clearFrom, array-at, array-ext, array-length, array-clear, replaced-ahead, replaced-array}
+use Rattle.words.proofs.ArrayLaws.{clearFrom, array-at, array-ext, array-length, array-clear, array-filled, replaced-ahead, replaced-array}
 use Rattle.rules.specs.Alignment.{fromPrevious}
 use Rattle.rules.proofs.ReceptionLaws.{below-kind}
 use Rattle.views.specs.ViewWord.{viewWord, viewWordHeard, viewEntry, viewsRead, alignedViews}
@@ -104,3 +104,7 @@ pub views-aligned : {l : List ℕ} (j n split : ℕ) (a this : List ℕ) → j �
     → l ≡ replaced j (λ k. cond (ltb k split) (getD a k 0) (getD this k 0)) a → l ≡ array n (λ k. cond (ltb k split) (getD a k 0) (getD this k 0))
 views-aligned j n split a this e small f h =
     replaced-array n n (λ k. cond (ltb k split) (getD a k 0) (getD this k 0)) a (omega arith) small f (λ i p q. absurd (omega arith)) (rw e at h)
+
+-- view words that were just read are in use below n alone
+pub filled-by : {l : List ℕ} (n : ℕ) (f : ℕ → ℕ) → n ≤ 16 → l ≡ array n f → Filled n l
+filled-by n f small e = subst (Filled n) (sym e) (array-filled n f small)

@@ -21,6 +21,7 @@ ghost use Rattle.views.specs.Section.{viewOk, viewTests, viewsIn, viewRu
 
 // The most that a word holds, and one more than a vector does.
 const MOST_WORD: u32 = 4294967295;
+
 const VECTOR: u32 = 65536;
 
 // ---- tested
@@ -120,7 +121,16 @@ pub fn save_views(n: usize, latest: u32, views: Views, out: &mut [u8], at: usize
     ensures { λ _. ⌜ now (out .exit) ≡ putRuns (now (out .entry)) at (viewRuns true n latest views) ⌝ }
 {
     let words = views.words;
-    save_view_words(n, &words, latest, views.earlier, views.adopted, views.out, out, at);
+    save_view_words(
+        n,
+        &words,
+        latest,
+        views.earlier,
+        views.adopted,
+        views.out,
+        out,
+        at,
+    );
 }
 
 // Whether the views have room in their words, and nothing stands in what no word shows.
