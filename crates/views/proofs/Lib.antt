@@ -3,3 +3,4 @@ pub mod MajorityLaws
 pub mod ViewsLaws
 pub mod ViewTestLaws
 pub mod ViewWords
+pub mod Cases

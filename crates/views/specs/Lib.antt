@@ -3,3 +3,4 @@ pub mod Adoption
 pub mod Views
 pub mod Section
 pub mod AdoptionMeans
+pub mod Cases
