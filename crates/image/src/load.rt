@@ -5,6 +5,7 @@ use crate::layout::left_at;
 use crate::read::load_words;
 use crate::rows::load_rows;
 use crate::scores::load_scores;
+use crate::torn::views_good;
 use changes::section::check_change;
 use setup::Limits;
 use setup::bounds::front_words;
@@ -22,7 +23,7 @@ ghost use Rattle.words.specs.Array.{array};
 ghost use Rattle.words.specs.Verdict.{allRight};
 ghost use Rattle.setup.specs.Layout.{headAt, frontWords};
 ghost use Rattle.setup.specs.Limits.{mostReturnLimit, fades as fadesOf};
-ghost use Rattle.setup.specs.Setup.{sizeIn, returnLimitIn, criticalityIn, fadesIn, limitsIn};
+ghost use Rattle.setup.specs.Setup.{sizeIn, partitionableIn, returnLimitIn, criticalityIn, fadesIn, limitsIn};
 ghost use Rattle.setup.specs.Check.{limitTests};
 ghost use Rattle.image.specs.Layout.{ownAt, leftAt, beforeLeft, imageLength};
 ghost use Rattle.image.specs.Words.{viewIn};
@@ -92,7 +93,7 @@ pub fn load_image(
     second: &mut [u32; 16],
     returns: &mut [u32; 16],
 ) -> ImagePart
-    requires { ⌜ (n ≤ 16) × (length (now s) ≡ imageLength (frontWords fades) n (wordAt (now s) (leftAt (frontWords fades) n))) × (n ≡ sizeIn (wordAt (now s) 0)) × (fades ≡ fadesIn (wordAt (now s)))
+    requires { ⌜ (n ≤ 16) × (length (now s) ≡ imageLength (frontWords fades) n (wordAt (now s) (leftAt (frontWords fades) n)) (partitionableIn (wordAt (now s) 0))) × (n ≡ sizeIn (wordAt (now s) 0)) × (fades ≡ fadesIn (wordAt (now s)))
         × (returnLimitIn (wordAt (now s) 0) ≤ mostReturnLimit) ⌝ }
     requires { ⌜ (now criticality ≡ array 0 (λ _. 0)) × (now rows ≡ array 0 (λ _. 0)) × (now first ≡ array 0 (λ _. 0)) × (now second ≡ array 0 (λ _. 0))
         × (now returns ≡ array 0 (λ _. 0)) ⌝ }
@@ -107,6 +108,7 @@ pub fn load_image(
     let at = left_at(front, n);
     let left = word_at(s, at);
     let change = check_change(s, fades, n, at);
+    let views = views_good(s, front, n, alone.view, left);
     if !limits_right(s, fades) {
         return no_part();
     }
@@ -123,7 +125,7 @@ pub fn load_image(
         returns,
     );
     ImagePart {
-        good: modules.good & (alone.good & (read.good & (right & (change.number == 0)))),
+        good: modules.good & (alone.good & (read.good & (right & ((change.number == 0) & views)))),
         skew: modules.skew,
         q,
         limits,

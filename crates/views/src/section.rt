@@ -17,12 +17,23 @@ ghost use Rattle.words.specs.Word.{wordAt};
 ghost use Rattle.words.specs.Count.{lowest};
 ghost use Rattle.words.specs.Verdict.{firstRefusal, allRight};
 ghost use Rattle.words.specs.Runs.{putRuns};
-ghost use Rattle.views.specs.Section.{viewOk, viewTests, viewsIn, viewRuns, viewsRoomy};
+ghost use Rattle.views.specs.Section.{viewsCount, viewOk, viewTests, viewsIn, viewRuns, viewsRoomy};
 
 // The most that a word holds, and one more than a vector does.
 const MOST_WORD: u32 = 4294967295;
 
 const VECTOR: u32 = 65536;
+
+// How many words the views have, of a setup with and without head bit 5.
+pub fn views_count(partitionable: bool, n: usize) -> usize
+    requires { ⌜ n ≤ 16 ⌝ }
+    ensures { λ r. ⌜ r ≡ viewsCount partitionable n ⌝ }
+{
+    if partitionable {
+        return n + 4;
+    }
+    0
+}
 
 // ---- tested
 
