@@ -2,7 +2,7 @@
 use Prim.Native.Nat.{ℕ, _+_, _*_, _/_, _%_, _^_}
 use mathlib.Core.Bool.{Bool, true, false, cond, _&&_}
 use mathlib.Core.List.{List}
-use lib.ListN.{getD}
+use lib.ListN.{getD, replicate}
 use lib.Dec.{eqb, ltb}
 use Rattle.words.specs.Word.{wordAt, kindUnit}
 use Rattle.words.specs.Bits.{bit}
@@ -27,9 +27,14 @@ abbrev pub readWords : Bool → ℕ → ℕ
 readWords true n = n + n
 readWords false n = n
 
--- the view words of a read: that of module j + 1 stands at n + j
+-- the view words of such a read: that of module j + 1 stands at n + j
 unfoldable pub viewsRead : ℕ → List ℕ → ℕ → List ℕ
 viewsRead n read controller = array n (λ j. viewEntry n (bit controller j) (wordAt read (n + j)))
+
+-- the same of any setup: without head bit 5 there are none
+unfoldable pub viewsSeen : Bool → ℕ → List ℕ → ℕ → List ℕ
+viewsSeen true n read controller = viewsRead n read controller
+viewsSeen false n read controller = replicate 16 0
 
 -- "aligned .. like syndromes": each view word from the previous read or from this one, by rule 3
 unfoldable pub alignedViews : ℕ → Bool → ℕ → List ℕ → List ℕ → List ℕ

@@ -1,7 +1,7 @@
 -- What a module holds of views, at opening and after each step. (document 02, E11)
 use Prim.Native.Nat.{ℕ}
 use mathlib.Core.Path.{_≡_}
-use mathlib.Core.Bool.{false, cond, not, _||_}
+use mathlib.Core.Bool.{Bool, true, false, cond, not, _||_}
 use mathlib.Core.List.{List}
 use lib.ListN.{length, replicate}
 use Rattle.words.specs.Bits.{full}
@@ -17,6 +17,11 @@ fullViews n = record { words = array n (λ j. viewWord (full n)); earlier = full
 -- a setup without head bit 5 has no views
 unfoldable pub noViews : Views
 noViews = record { words = replicate 16 0; earlier = 0; adopted = 0; out = false }
+
+-- at opening
+unfoldable pub freshViews : Bool → ℕ → Views
+freshViews true n = fullViews n
+freshViews false n = noViews
 
 -- After a step that votes on the view words `voted`, whose read has the view words `this` and before which the local view was `local`: "if any module
 -- has none, the receiver takes itself out and stays out until opened anew. Out, .. its adopted view stays."

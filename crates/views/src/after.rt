@@ -11,7 +11,7 @@ ghost use Prim.Native.Nat.{_≤_};
 ghost use lib.ListN.{getD};
 ghost use lib.Dec.{ltb};
 ghost use Rattle.words.specs.Array.{array};
-ghost use Rattle.views.specs.Views.{fullViews, noViews, viewsAfter};
+ghost use Rattle.views.specs.Views.{fullViews, noViews, freshViews, viewsAfter};
 
 // Every view is full, as at opening.
 pub fn full_views(n: usize) -> Views
@@ -38,6 +38,17 @@ pub fn no_views() -> Views
         adopted: 0,
         out: false,
     }
+}
+
+// The views of a fresh module.
+pub fn fresh_views(partitionable: bool, n: usize) -> Views
+    requires { ⌜ n ≤ 16 ⌝ }
+    ensures { λ r. ⌜ r ≡ freshViews partitionable n ⌝ }
+{
+    if partitionable {
+        return full_views(n);
+    }
+    no_views()
 }
 
 // The view words of the round that is voted on: below `split` those of the previous read.

@@ -9,7 +9,18 @@ ghost use Prim.Native.Nat.{_+_, _*_, _≤_};
 ghost use lib.ListN.{length, getD};
 ghost use lib.Dec.{ltb};
 ghost use Rattle.words.specs.Array.{array, Filled};
-ghost use Rattle.views.specs.ViewWord.{viewsRead};
+ghost use Rattle.views.specs.ViewWord.{readWords, viewsRead, viewsSeen};
+
+// How many words a read has, of a setup with and without head bit 5.
+pub fn read_words(partitionable: bool, n: usize) -> usize
+    requires { ⌜ n ≤ 16 ⌝ }
+    ensures { λ r. ⌜ r ≡ readWords partitionable n ⌝ }
+{
+    if partitionable {
+        return n + n;
+    }
+    n
+}
 
 // The view words of a read of 2n words, in an array that is lent as zeros; 0 where one is missing.
 pub fn read_views(n: usize, read: &[u8], controller: u32, this: &mut [u32; 16])
@@ -20,6 +31,19 @@ pub fn read_views(n: usize, read: &[u8], controller: u32, this: &mut [u32; 16])
         let w = word_at(read, n + j);
         this[j] = pick(bit_at(controller, j) & view_heard(n, w), w, 0);
     }
+}
+
+// The view words of a read of any setup: without head bit 5 there are none.
+pub fn views_seen(partitionable: bool, n: usize, read: &[u8], controller: u32) -> [u32; 16]
+    requires { ⌜ (n ≤ 16) × (readWords partitionable n * 4 ≤ length (now read)) ⌝ }
+    ensures { λ r. ⌜ r ≡ viewsSeen partitionable n (now (read .entry)) controller ⌝ }
+{
+    if partitionable {
+        let mut this = [0u32; 16];
+        read_views(n, read, controller, &mut this);
+        return this;
+    }
+    [0u32; 16]
 }
 
 // The view words of the round that is voted on, in `views`, which holds those of the previous read: below `split` they stay, the others are of this
