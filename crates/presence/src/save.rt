@@ -7,10 +7,12 @@ use image::left_at;
 use image::save_accounts;
 use image::save_sections;
 use image::second_of;
+use image::views_at;
 use setup::bounds::fades;
 use setup::bounds::front_words;
 use setup::layout::setup_length;
 use setup::write::write_words;
+use views::section::save_views;
 use words::Verdict;
 use words::check::accept;
 use words::check::refusal;
@@ -53,6 +55,16 @@ pub(crate) fn save_words(state: State, out: &mut [u8])
     );
     save_accounts(form, setup.n, &first, &second, &returns, out);
     save_change(setup, pending, out, at);
+    if setup.partitionable {
+        let views = state.views;
+        return save_views(
+            setup.n,
+            counters.view,
+            views,
+            out,
+            views_at(front, setup.n, pending.left),
+        );
+    }
 }
 
 impl State {
@@ -67,7 +79,14 @@ impl State {
         }
         let setup = self.setup;
         let limits = setup.limits;
-        if out.len() != image_length(front_words(fades(limits)), setup.n, pending.left) {
+        if out.len()
+            != image_length(
+                front_words(fades(limits)),
+                setup.n,
+                pending.left,
+                setup.partitionable,
+            )
+        {
             return refusal(9, 0);
         }
         save_words(self, out);
