@@ -13,7 +13,8 @@ use Rattle.setup.specs.Limits.{fades}
 use Rattle.setup.specs.Setup.{frontOf, setupRuns, setupBytes}
 use Rattle.setup.proofs.SetupWords.{written-length}
 use Rattle.changes.specs.Words.{changeRuns}
-use Rattle.image.specs.Layout.{ownAt, leftAt}
+use Rattle.changes.proofs.ChangeWords.{change-total}
+use Rattle.image.specs.Layout.{ownAt, leftAt, viewsAt}
 use Rattle.image.specs.Words.{ownWord, syndromeWord}
 use Rattle.image.specs.Rows.{rowRun}
 use Rattle.image.specs.Sections.{sectionRuns}
@@ -22,19 +23,25 @@ use Rattle.image.proofs.CounterLaws.{AccountsSmall}
 use Rattle.image.proofs.LentLaws.{lent-written, lent-small}
 use Rattle.presence.specs.Image.{stateRuns, imageOf, stateLength}
 use Rattle.presence.specs.declared.State.{State}
-use Rattle.presence.proofs.StateWords.{counters-total, state-total}
+use Rattle.presence.proofs.StateWords.{viewsOf, counters-total, state-total}
 
--- the sections, then the pending change
+-- the sections, then the pending change, then the views
 sections-join : (st : State) (o : List ℕ)
     → putRuns o (ownAt (frontOf (st .setup)) (st .setup .n)) (stateRuns st)
-    ≡ putRuns (putRuns o (ownAt (frontOf (st .setup)) (st .setup .n)) (sectionRuns (fades (st .setup .limits)) (st .setup .n) (st .own) (st .counters) (st .previous) (st .latest) (st .earlier)))
-    (leftAt (frontOf (st .setup)) (st .setup .n)) (changeRuns (st .setup) (st .pending))
+    ≡ putRuns (putRuns (putRuns o (ownAt (frontOf (st .setup)) (st .setup .n)) (sectionRuns (fades (st .setup .limits)) (st .setup .n) (st .own) (st .counters) (st .previous) (st .latest) (st .earlier)))
+    (leftAt (frontOf (st .setup)) (st .setup .n)) (changeRuns (st .setup) (st .pending))) (viewsAt (frontOf (st .setup)) (st .setup .n) (st .pending .left)) (viewsOf st)
 unfolding total
 sections-join st o =
     let rs = sectionRuns (fades (st .setup .limits)) (st .setup .n) (st .own) (st .counters) (st .previous) (st .latest) (st .earlier) in
     let at = ownAt (frontOf (st .setup)) (st .setup .n) in
     let e : at + total rs ≡ leftAt (frontOf (st .setup)) (st .setup .n) = omega (arith, counters-total (fades (st .setup .limits)) (st .setup .n) (st .counters)) in
-    put-join o at rs (changeRuns (st .setup) (st .pending)) ∙ ap (λ (k : ℕ). putRuns (putRuns o at rs) k (changeRuns (st .setup) (st .pending))) e
+    let cs = changeRuns (st .setup) (st .pending) in
+    let left = leftAt (frontOf (st .setup)) (st .setup .n) in
+    let g : left + total cs ≡ viewsAt (frontOf (st .setup)) (st .setup .n) (st .pending .left) = omega (arith, change-total (st .setup) (st .pending)) in
+    put-join o at rs (cs ++ viewsOf st)
+    ∙ ap (λ (k : ℕ). putRuns (putRuns o at rs) k (cs ++ viewsOf st)) e
+    ∙ put-join (putRuns o at rs) left cs (viewsOf st)
+    ∙ ap (λ (k : ℕ). putRuns (putRuns (putRuns o at rs) left cs) k (viewsOf st)) g
 
 -- accounts that are lent by the form of the setup: they have room, and what is written from them are the words of the state
 module _ {b : Bool} {x y : List ℕ} (st : State) (f : b ≡ fades (st .setup .limits)) (ex : x ≡ firstOf b (st .setup .n) (st .counters))
@@ -43,9 +50,9 @@ module _ {b : Bool} {x y : List ℕ} (st : State) (f : b ≡ fades (st .setup .l
   accounts-lent m = rw (ex, ey, f) (lent-small (fades (st .setup .limits)) (st .setup .n) (st .counters) m)
 
   pub lent-state : (o : List ℕ)
-      → putRuns (putRuns o (ownAt (frontWords b) (st .setup .n)) (one (ownWord (st .own) (st .counters .view)) ∷ rowRun (st .setup .n) (st .previous)
+      → putRuns (putRuns (putRuns o (ownAt (frontWords b) (st .setup .n)) (one (ownWord (st .own) (st .counters .view)) ∷ rowRun (st .setup .n) (st .previous)
       ∷ one (syndromeWord (st .latest)) ∷ one (syndromeWord (st .earlier)) ∷ lentRuns b (st .setup .n) x y (st .counters .returns)))
-      (leftAt (frontWords b) (st .setup .n)) (changeRuns (st .setup) (st .pending))
+      (leftAt (frontWords b) (st .setup .n)) (changeRuns (st .setup) (st .pending))) (viewsAt (frontWords b) (st .setup .n) (st .pending .left)) (viewsOf st)
       ≡ putRuns o (ownAt (frontOf (st .setup)) (st .setup .n)) (stateRuns st)
   unfolding putRuns
   lent-state o =

@@ -30,12 +30,14 @@ use Rattle.changes.specs.Books.{turned, counted, booksAfter}
 use Rattle.changes.specs.declared.Books.{Books}
 use Rattle.changes.specs.declared.Pending.{Pending}
 use Rattle.changes.proofs.TurnLaws.{turned-setup-fits}
+use Rattle.views.specs.Views.{freshViews}
+use Rattle.views.specs.declared.Views.{Views}
 use Rattle.image.specs.Counters.{zeroCounters}
 use Rattle.image.proofs.CounterLaws.{within-kept, within-waits}
 use Rattle.image.proofs.BooksLaws.{turned-accounts}
 use Rattle.presence.specs.Valid.{stateVerdict, Valid}
 use Rattle.presence.specs.Opening.{fresh, blank, checkOpening, openOf}
-use Rattle.presence.specs.Step.{skewOf, placeOf, ownSyndrome, alignedFor, judgementFor, outgoingFor, booksOf, afterRound, refusedStep, acceptedStep, readStep, stepOf}
+use Rattle.presence.specs.Step.{skewOf, placeOf, ownSyndrome, alignedFor, judgementFor, outgoingFor, booksOf, viewsFor, outgoingView, readLength, seenBy, afterRound, refusedStep, acceptedStep, readStep, stepOf}
 use Rattle.presence.specs.declared.State.{State}
 use Rattle.presence.specs.declared.Opened.{Opened}
 use Rattle.presence.specs.declared.Stepped.{Stepped}
@@ -64,16 +66,17 @@ place-small st f e =
 
 -- ---- rule 8
 
-pub after-made : (st : State) (this : Reading) {j : Judgement} {c : Counters} {b : Books} → j ≡ judgementFor st this → b ≡ turned (booksOf st)
-    → c ≡ countersOf (b .setup) (j .health) (b .counters)
+pub after-made : (st : State) (this : Reading) (seen : List ℕ) {j : Judgement} {c : Counters} {b : Books} {v : Views} → j ≡ judgementFor st this
+    → b ≡ turned (booksOf st) → c ≡ countersOf (b .setup) (j .health) (b .counters) → v ≡ viewsFor st seen
     → _≡_ {A = State}
-    (record { setup = b .setup; own = st .own; counters = c; previous = this; latest = j .syndrome; earlier = st .latest; pending = b .pending }) (afterRound st this)
+    (record { setup = b .setup; own = st .own; counters = c; previous = this; latest = j .syndrome; earlier = st .latest; pending = b .pending; views = v }) (afterRound st this seen)
 unfolding afterRound booksAfter counted
-after-made st this {j} {c} {b} e f h =
+after-made st this seen {j} {c} {b} e f h g =
     let made : Books → Judgement → Counters → State =
-    λ x k d. record { setup = x .setup; own = st .own; counters = d; previous = this; latest = k .syndrome; earlier = st .latest; pending = x .pending }
+    λ x k d. record { setup = x .setup; own = st .own; counters = d; previous = this; latest = k .syndrome; earlier = st .latest; pending = x .pending; views = viewsFor st seen }
     in
-    ap₂ (made b) e (h ∙ ap (λ (k : Judgement). countersOf (b .setup) (k .health) (b .counters)) e)
+    (λ i. record { setup = b .setup; own = st .own; counters = c; previous = this; latest = j .syndrome; earlier = st .latest; pending = b .pending; views = g i })
+    ∙ ap₂ (made b) e (h ∙ ap (λ (k : Judgement). countersOf (b .setup) (k .health) (b .counters)) e)
     ∙ ap (λ (x : Books). made x (judgementFor st this) (countersOf (x .setup) (judgementFor st this .health) (x .counters))) f
 
 -- the accounts of a valid state are small enough to add to, after a change that is due has taken effect
@@ -100,34 +103,36 @@ books-range st f e =
 
 -- ---- the round
 
-pub round-made : (st : State) (this : Reading) (causes : List ℕ) {j : Judgement} {word : ℕ} {next : State} → j ≡ judgementFor st this
-    → word ≡ outgoingFor st this → next ≡ afterRound st this
-    → _≡_ {A = Stepped} (record { number = 0; index = 0; health = j .health; accusations = j .accusations; word = word; causes = causes; state = next })
-    (acceptedStep st this causes)
+pub round-made : (st : State) (this : Reading) (seen causes : List ℕ) {j : Judgement} {word view : ℕ} {next : State} → j ≡ judgementFor st this
+    → word ≡ outgoingFor st this → view ≡ outgoingView st (next .counters .view) → next ≡ afterRound st this seen
+    → _≡_ {A = Stepped} (record { number = 0; index = 0; health = j .health; accusations = j .accusations; word = word; second = view; causes = causes; state = next })
+    (acceptedStep st this seen causes)
 unfolding acceptedStep
-round-made st this causes {j} {word} {next} e w n =
-    let made : (k : Judgement) (x : ℕ) (s : State) → Stepped =
-    λ k x s. record { number = 0; index = 0; health = k .health; accusations = k .accusations; word = x; causes = causes; state = s }
+round-made st this seen causes {j} {word} {view} {next} e w v n =
+    let made : (k : Judgement) (x y : ℕ) (s : State) → Stepped =
+    λ k x y s. record { number = 0; index = 0; health = k .health; accusations = k .accusations; word = x; second = y; causes = causes; state = s }
     in
-    ap (λ (k : Judgement). made k word next) e ∙ ap₂ (made (judgementFor st this)) w n
+    ap (λ (k : Judgement). made k word view next) e
+    ∙ ap₂ (λ (x y : ℕ). made (judgementFor st this) x y next) w v
+    ∙ ap (λ (s : State). made (judgementFor st this) (outgoingFor st this) (outgoingView st (s .counters .view)) s) n
 
 -- ---- 9 and 10
 
 module _ (st : State) (read : List ℕ) (controller : ℕ) {r : Stepped} where
-  pub read-length : r ≡ refusedStep st 9 0 → (length read ≡ st .setup .n * 4 → ⊥) → r ≡ readStep st read controller
+  pub read-length : r ≡ refusedStep st 9 0 → (length read ≡ readLength st → ⊥) → r ≡ readStep st read controller
   unfolding readStep
-  read-length h f = h ∙ sym (cond-false _ _ (ne-eqb (length read) (st .setup .n * 4) f))
+  read-length h f = h ∙ sym (cond-false _ _ (ne-eqb (length read) (readLength st) f))
 
-  pub read-controller : r ≡ refusedStep st 10 0 → length read ≡ st .setup .n * 4 → 2 ^ st .setup .n ≤ controller → r ≡ readStep st read controller
+  pub read-controller : r ≡ refusedStep st 10 0 → length read ≡ readLength st → 2 ^ st .setup .n ≤ controller → r ≡ readStep st read controller
   unfolding readStep
   read-controller h l c =
-      h ∙ sym (cond-true _ _ (eq-eqb (length read) (st .setup .n * 4) l) ∙ cond-false _ _ (le-ltb controller (2 ^ st .setup .n) c))
+      h ∙ sym (cond-true _ _ (eq-eqb (length read) (readLength st) l) ∙ cond-false _ _ (le-ltb controller (2 ^ st .setup .n) c))
 
-  pub read-taken : r ≡ acceptedStep st (readingOf (st .setup .n) read controller) (causesOf (st .setup .n) read controller) → length read ≡ st .setup .n * 4 → controller < 2 ^ st .setup .n
+  pub read-taken : r ≡ acceptedStep st (readingOf (st .setup .n) read controller) (seenBy st read controller) (causesOf (st .setup .n) read controller) → length read ≡ readLength st → controller < 2 ^ st .setup .n
       → r ≡ readStep st read controller
   unfolding readStep
   read-taken h l c =
-      h ∙ sym (cond-true _ _ (eq-eqb (length read) (st .setup .n * 4) l) ∙ cond-true _ _ (lt-ltb controller (2 ^ st .setup .n) c))
+      h ∙ sym (cond-true _ _ (eq-eqb (length read) (readLength st) l) ∙ cond-true _ _ (lt-ltb controller (2 ^ st .setup .n) c))
 
   -- ---- the state first
 
@@ -149,15 +154,15 @@ step-of st {k} read controller {t} e v h =
 
 -- ---- opening
 
-pub fresh-made : (s : Setup) (own : ℕ) {v : ℕ} {rows : List ℕ} {c : Counters} {p : Pending} → v ≡ full (s .n) → rows ≡ array (s .n) (λ j. v)
-    → c ≡ zeroCounters v → p ≡ nothing
-    → _≡_ {A = State} (record { setup = s; own = own; counters = c; previous = record { heard = v; rows = rows }; latest = v; earlier = v; pending = p }) (fresh s own)
+pub fresh-made : (s : Setup) (own : ℕ) {v : ℕ} {rows : List ℕ} {c : Counters} {p : Pending} {w : Views} → v ≡ full (s .n) → rows ≡ array (s .n) (λ j. v)
+    → c ≡ zeroCounters v → p ≡ nothing → w ≡ freshViews (s .partitionable) (s .n)
+    → _≡_ {A = State} (record { setup = s; own = own; counters = c; previous = record { heard = v; rows = rows }; latest = v; earlier = v; pending = p; views = w }) (fresh s own)
 unfolding fresh
-fresh-made s own {v} {rows} {c} {p} e h k n =
+fresh-made s own {v} {rows} {c} {p} e h k n f =
     let made : ℕ → List ℕ → Counters → State =
-    λ x r d. record { setup = s; own = own; counters = d; previous = record { heard = x; rows = r }; latest = x; earlier = x; pending = nothing }
+    λ x r d. record { setup = s; own = own; counters = d; previous = record { heard = x; rows = r }; latest = x; earlier = x; pending = nothing; views = freshViews (s .partitionable) (s .n) }
     in
-    (λ i. record { setup = s; own = own; counters = c; previous = record { heard = v; rows = rows }; latest = v; earlier = v; pending = n i })
+    (λ i. record { setup = s; own = own; counters = c; previous = record { heard = v; rows = rows }; latest = v; earlier = v; pending = n i; views = f i })
     ∙ ap (made v rows) k ∙ ap₂ (λ (x : ℕ) (r : List ℕ). made x r (zeroCounters v)) e (h ∙ ap (λ (x : ℕ). array (s .n) (λ j. x)) e)
     ∙ ap (λ (x : ℕ). made (full (s .n)) (array (s .n) (λ j. full (s .n))) (zeroCounters x)) e
 

@@ -20,6 +20,6 @@ pub record OutgoingHeard : Type 0 where
   pub earlier : (st : State) → Valid st → wordHeard (st .setup .n) (busWord (st .earlier)) ≡ true
   -- and so is the view word of a partitionable setup, and that of either local view that such a state holds (document 02, E11)
   pub view-stepped : (st : State) (read : List ℕ) (controller : ℕ) → st .setup .partitionable ≡ true → stepOf st read controller .number ≡ 0
-      → viewWordHeard (st .setup .n) (stepOf st read controller .view_word) ≡ true
+      → viewWordHeard (st .setup .n) (stepOf st read controller .second) ≡ true
   pub view-latest : (st : State) → Valid st → viewWordHeard (st .setup .n) (viewWord (st .counters .view)) ≡ true
   pub view-earlier : (st : State) → st .setup .partitionable ≡ true → Valid st → viewWordHeard (st .setup .n) (viewWord (st .views .earlier)) ≡ true

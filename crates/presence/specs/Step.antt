@@ -40,6 +40,14 @@ markOf st = bit (st .setup .marks) (st .own - 1)
 unfoldable pub ownSyndrome : State → ℕ
 ownSyndrome st = cond (skewOf st) (st .earlier) (st .latest)
 
+-- how many bytes its read has: N words, or 2N where the setup is partitionable
+abbrev pub readLength : State → ℕ
+readLength st = readWords (st .setup .partitionable) (st .setup .n) * 4
+
+-- the view words of such a read, none where the setup is not partitionable
+abbrev pub seenBy : State → List ℕ → ℕ → List ℕ
+seenBy st read controller = viewsSeen (st .setup .partitionable) (st .setup .n) read controller
+
 -- ---- a round, from this read
 
 -- rule 3: this read aligned with the previous one; of reads that rule 3 describes all entries are then of round k - u
@@ -96,7 +104,7 @@ afterRound st this seen =
 -- a refusal leaves the state as it was; health, accusations, both words and causes are 0
 unfoldable pub refusedStep : State → ℕ → ℕ → Stepped
 refusedStep st number index =
-    record { number = number; index = index; health = 0; accusations = replicate 16 0; word = 0; view_word = 0; causes = replicate 16 0; state = st }
+    record { number = number; index = index; health = 0; accusations = replicate 16 0; word = 0; second = 0; causes = replicate 16 0; state = st }
 
 -- number 0, what the rules give, the causes of the read as it came, and the state after the round, which keeps no causes
 unfoldable pub acceptedStep : State → Reading → List ℕ → List ℕ → Stepped
@@ -106,7 +114,7 @@ acceptedStep st this seen causes = record {
   health = judgementFor st this .health;
   accusations = judgementFor st this .accusations;
   word = outgoingFor st this;
-  view_word = outgoingView st (afterRound st this seen .counters .view);
+  second = outgoingView st (afterRound st this seen .counters .view);
   causes = causes;
   state = afterRound st this seen;
 }
@@ -114,10 +122,9 @@ acceptedStep st this seen causes = record {
 -- 9: a read of other than N words, or 2N where the setup is partitionable; 10: a controller bit at N or above; both with index 0
 unfoldable pub readStep : State → List ℕ → ℕ → Stepped
 readStep st read controller =
-    cond (eqb (length read) (readWords (st .setup .partitionable) (st .setup .n) * 4))
+    cond (eqb (length read) (readLength st))
     (cond (ltb controller (2 ^ st .setup .n))
-    (acceptedStep st (readingOf (st .setup .n) read controller) (viewsSeen (st .setup .partitionable) (st .setup .n) read controller)
-    (causesOf (st .setup .n) read controller))
+    (acceptedStep st (readingOf (st .setup .n) read controller) (seenBy st read controller) (causesOf (st .setup .n) read controller))
     (refusedStep st 10 0))
     (refusedStep st 9 0)
 

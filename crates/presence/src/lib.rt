@@ -43,15 +43,15 @@ pub struct Changed {
     pub state: State,
 }
 
-// What a step answers: the word and the view word are those handed out for the bus, the second 0 where the setup is not partitionable; the causes are
-// the codes of this read, as it came (0 to 3).
+// What a step answers: the word and the second word, which holds the local view, are those handed out for the bus, the second 0 where the setup is not
+// partitionable; the causes are the codes of this read, as it came (0 to 3).
 pub struct Stepped {
     pub number: u32,
     pub index: u32,
     pub health: u32,
     pub accusations: [u32; 16],
     pub word: u32,
-    pub view_word: u32,
+    pub second: u32,
     pub causes: [u32; 16],
     pub state: State,
 }

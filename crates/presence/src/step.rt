@@ -145,7 +145,7 @@ impl State {
             health: 0,
             accusations: [0u32; 16],
             word: 0,
-            view_word: 0,
+            second: 0,
             causes: [0u32; 16],
             state: self,
         }
@@ -161,14 +161,14 @@ impl State {
         let accusations = j.accusations;
         let state = self.after(this, seen, j);
         let counters = state.counters;
-        let view_word = self.outgoing_view(counters.view);
+        let second = self.outgoing_view(counters.view);
         Stepped {
             number: 0,
             index: 0,
             health: j.health,
             accusations,
             word,
-            view_word,
+            second,
             causes,
             state,
         }

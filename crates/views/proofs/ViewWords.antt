@@ -31,6 +31,10 @@ unfolding total
 views-total true n latest v = omega arith
 views-total false n latest v = refl
 
+pub views-most : (b : Bool) (n : ℕ) → viewsCount b n ≤ n + 4
+views-most true n = omega arith
+views-most false n = omega arith
+
 -- ---- the words w follow those of the views, word by word
 
 pub record ViewsStand (w : ℕ → ℕ) (at n latest : ℕ) (v : Views) : Type 0 where

@@ -17,7 +17,7 @@ use Rattle.words.proofs.BitLaws.{full-lt}
 use Rattle.words.proofs.ArrayLaws.{clearFrom, clear-of, array-at, array-own, array-length, array-clear, bounded-at, bounded-clear, bounded-of}
 use Rattle.views.specs.ViewWord.{viewWord, viewWordHeard, viewEntry, viewsRead}
 use Rattle.views.specs.Adoption.{adoptable, adoptedFrom}
-use Rattle.views.specs.Views.{fullViews, noViews, viewsAfter, ShapedViews}
+use Rattle.views.specs.Views.{fullViews, noViews, freshViews, viewsAfter, ShapedViews}
 use Rattle.views.specs.Section.{viewOk, viewsIn, viewsRoomy}
 use Rattle.views.specs.declared.Views.{Views}
 use Rattle.views.proofs.ViewWordLaws.{view-heard, heard-view, views-at, views-clear, views-length}
@@ -120,7 +120,8 @@ pub none-fits : (n : ℕ) → ViewsFit false n noViews
 unfolding noViews
 none-fits n = (refl, refl, refl, clear-of 0 (replicate 16 0) (λ i h l. getD-replicate {A = ℕ} 16 i 0 0 l))
 
-pub opened-fits : (b : Bool) (n : ℕ) → n ≤ 16 → ViewsFit b n (cond b (fullViews n) noViews)
+pub opened-fits : (b : Bool) (n : ℕ) → n ≤ 16 → ViewsFit b n (freshViews b n)
+unfolding freshViews
 opened-fits true n small = full-fits n small
 opened-fits false n small = none-fits n
 
@@ -197,7 +198,8 @@ pub none-shaped : ShapedViews noViews
 unfolding noViews
 none-shaped = length-replicate {A = ℕ} 16 0
 
-pub opened-shaped : (b : Bool) (n : ℕ) → ShapedViews (cond b (fullViews n) noViews)
+pub opened-shaped : (b : Bool) (n : ℕ) → ShapedViews (freshViews b n)
+unfolding freshViews
 opened-shaped true n = full-shaped n
 opened-shaped false n = none-shaped
 
