@@ -12,6 +12,7 @@ use setup::bounds::front_words;
 use setup::bounds::limits_at;
 use setup::bounds::limits_right;
 use setup::modules::load_modules;
+use words::bits::bit_at;
 use words::word::field;
 use words::word::word_at;
 ghost use mathlib.Core.Path.{_≡_};
@@ -100,7 +101,8 @@ pub fn load_image(
     ensures { λ r. ⌜ (r .good ≡ allRight (imageTests (now (s .entry)) n))
         × (r .good ≡ true → PartOf (now (s .entry)) fades n r (now (criticality .exit)) (now (rows .exit)) (now (first .exit)) (now (second .exit)) (now (returns .exit))) ⌝ }
 {
-    let q = field(word_at(s, 0), 8, 20);
+    let head = word_at(s, 0);
+    let q = field(head, 8, 20);
     let front = front_words(fades);
     let modules = load_modules(s, front, n, criticality);
     let alone = load_words(s, front, n);
@@ -108,7 +110,7 @@ pub fn load_image(
     let at = left_at(front, n);
     let left = word_at(s, at);
     let change = check_change(s, fades, n, at);
-    let views = views_good(s, front, n, alone.view, left);
+    let views = views_good(s, bit_at(head, 5), front, n, alone.view, left);
     if !limits_right(s, fades) {
         return no_part();
     }

@@ -6,7 +6,6 @@ use views::section::check_views;
 use views::section::views_right;
 use words::Verdict;
 use words::bits::bit_at;
-use words::check::accept;
 use words::word::word_at;
 ghost use mathlib.Core.Path.{_≡_};
 ghost use Prim.Native.Nat.{_≤_};
@@ -28,19 +27,26 @@ pub(crate) fn then_views(v: Verdict, s: &[u8], front: usize, n: usize) -> Verdic
         return v;
     }
     if !bit_at(word_at(s, 0), 5) {
-        return accept();
+        return v;
     }
     let view = view_in(s, front, n);
     let left = word_at(s, left_at(front, n));
     check_views(s, n, view, views_at(front, n, left))
 }
 
-// Whether the views are right, by the view and the rounds left that were read.
-pub fn views_good(s: &[u8], front: usize, n: usize, view: u32, left: u32) -> bool
-    requires { ⌜ (front ≤ 6) × (n ≤ 16) × (length (now s) ≡ imageLength front n left (partitionableIn (wordAt (now s) 0))) ⌝ }
-    ensures { λ r. ⌜ r ≡ allRight (viewTests (partitionableIn (wordAt (now (s .entry)) 0)) (wordAt (now (s .entry))) n view (viewsAt front n left)) ⌝ }
+// Whether the views are right, by head bit 5, the view and the rounds left that were read.
+pub fn views_good(
+    s: &[u8],
+    partitionable: bool,
+    front: usize,
+    n: usize,
+    view: u32,
+    left: u32,
+) -> bool
+    requires { ⌜ (front ≤ 6) × (n ≤ 16) × (length (now s) ≡ imageLength front n left partitionable) ⌝ }
+    ensures { λ r. ⌜ r ≡ allRight (viewTests partitionable (wordAt (now (s .entry))) n view (viewsAt front n left)) ⌝ }
 {
-    if !bit_at(word_at(s, 0), 5) {
+    if !partitionable {
         return true;
     }
     views_right(s, n, view, views_at(front, n, left))
