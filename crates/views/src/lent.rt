@@ -2,6 +2,8 @@
 use crate::adopt::adoption;
 use crate::read::align_views;
 use crate::read::read_views;
+use crate::word::view_word;
+use words::array::filled;
 use words::bits::flag;
 use words::bits::pick;
 use words::word::put_word;
@@ -12,10 +14,11 @@ ghost use Prim.Native.Nat.{_+_, _*_, _^_, _≤_, _<_};
 ghost use lib.ListN.{length, getD};
 ghost use lib.Dec.{ltb};
 ghost use Rattle.words.specs.Word.{wordAt};
+ghost use Rattle.words.specs.Bits.{full as fullOf};
 ghost use Rattle.words.specs.Array.{array};
 ghost use Rattle.words.specs.Runs.{putRuns};
 ghost use Rattle.views.specs.ViewWord.{viewsRead};
-ghost use Rattle.views.specs.Views.{viewsAfter};
+ghost use Rattle.views.specs.Views.{fullViews, viewsAfter};
 ghost use Rattle.views.specs.Section.{viewsIn, viewRuns};
 
 // The view words of a saved state, in an array that is lent as zeros.
@@ -51,6 +54,15 @@ pub fn save_view_words(
     put_word(out, at + n + 1, earlier);
     put_word(out, at + n + 2, adopted);
     put_word(out, at + n + 3, flag(outside));
+}
+
+// Writes the words of full views, as at opening; `full` is the full view.
+pub fn save_full(n: usize, full: u32, out: &mut [u8], at: usize)
+    requires { ⌜ (n ≤ 16) × (full ≡ fullOf n) × (at < 2 ^ 16) × ((at + n + 4) * 4 ≤ length (now out)) ⌝ }
+    ensures { λ _. ⌜ now (out .exit) ≡ putRuns (now (out .entry)) at (viewRuns true n full (fullViews n)) ⌝ }
+{
+    let words = filled(n, view_word(full));
+    save_view_words(n, &words, full, full, full, false, out, at);
 }
 
 // The views of a saved state, whose words stand from `at` on in s, after a step with this read, written from `to` on in `out`. `local` is the local view
