@@ -539,22 +539,32 @@ extern "C" {
 
 /* Lengths in bytes for n modules with counts, setup n+3 and image 5n+7 words,
    6n+9 while a change is pending, and with fading, setup n+6 and image 5n+10
-   words.  A read has n words with both. */
+   words.  A read has n words with both.  With head bit 5 each of these images
+   has n+4 words more, PRESENCE_VIEWS_BYTES, and a read has 2n. */
 #define PRESENCE_SETUP_BYTES(n) (4u * ((size_t)(n) + 3u))
 #define PRESENCE_IMAGE_BYTES(n) (4u * (5u * (size_t)(n) + 7u))
 #define PRESENCE_PENDING_IMAGE_BYTES(n) (4u * (6u * (size_t)(n) + 9u))
 #define PRESENCE_FADING_SETUP_BYTES(n) (4u * ((size_t)(n) + 6u))
 #define PRESENCE_FADING_IMAGE_BYTES(n) (4u * (5u * (size_t)(n) + 10u))
 #define PRESENCE_READ_BYTES(n) (4u * (size_t)(n))
+#define PRESENCE_VIEWS_BYTES(n) (4u * ((size_t)(n) + 4u))
+#define PRESENCE_PARTITIONABLE_READ_BYTES(n) (8u * (size_t)(n))
 
 /* The same for N = 16.  A setup of either form has room in that with fading, an
-   image of either form in that with a pending change; so it is for every N. */
+   image of either form in that with a pending change; so it is for every N.
+   Where head bit 5 may be set, an image of any form has room in the two lengths
+   PENDING_IMAGE and VIEWS together. */
 #define PRESENCE_MAX_SETUP_BYTES 76u
 #define PRESENCE_MAX_IMAGE_BYTES 348u
 #define PRESENCE_MAX_PENDING_IMAGE_BYTES 420u
 #define PRESENCE_MAX_FADING_SETUP_BYTES 88u
 #define PRESENCE_MAX_FADING_IMAGE_BYTES 360u
 #define PRESENCE_MAX_READ_BYTES 64u
+#define PRESENCE_MAX_VIEWS_BYTES 80u
+#define PRESENCE_MAX_PARTITIONABLE_READ_BYTES 128u
+
+/* Head bit 5, by which a setup is partitionable. */
+#define PRESENCE_PARTITIONABLE 0x20u
 
 /* The most rounds that a change may be ahead. */
 #define PRESENCE_MAX_LEAD 1000u
@@ -563,8 +573,10 @@ extern "C" {
 #define PRESENCE_FADING_FRONT_BYTES 24u
 
 /* Whether an accepted setup or image, given as a pointer to uint8_t, is of the
-   fading form: 1 or 0. */
+   fading form, and whether it is partitionable: 1 or 0. */
 #define PRESENCE_IS_FADING(bytes) ((bytes)[4] >> 4 == 0)
+#define PRESENCE_IS_PARTITIONABLE(bytes) \
+    (((bytes)[3] & PRESENCE_PARTITIONABLE) != 0)
 
 /* The page: its length, the offsets of its words, and the flags. */
 #define PRESENCE_PAGE_BYTES 64u
@@ -587,9 +599,10 @@ extern "C" {
 #define PRESENCE_CAUSE_STRAY_BITS 3u
 
 /*
- * The view in an accepted image of n modules, given as a pointer to uint8_t:
- * with counts bits 15..0 of word n+3, with fading of word n+6.  Each is for
- * images of its form alone.  Both use their arguments twice.
+ * The local view in an accepted image of n modules, given as a pointer to
+ * uint8_t: with counts bits 15..0 of word n+3, with fading of word n+6.  Each
+ * is for images of its form alone.  Both use their arguments twice.  A card
+ * acts on presence_shown_view, which without head bit 5 is this view.
  */
 #define PRESENCE_VIEW(image, n)                              \
     (((uint32_t)(image)[PRESENCE_SETUP_BYTES(n) + 2u] << 8) | \
@@ -759,6 +772,19 @@ presence_answer presence_change(const uint8_t *state, size_t state_len,
 presence_word presence_outgoing(const uint8_t *state, size_t state_len);
 
 /*
+ * The view word handed out by the step, or the opening, that wrote this image:
+ * kind 10 with the local view after that step, or with the local view before it
+ * if the module's own send mark is set.  Without head bit 5 the word is 0, and
+ * there is nothing to send.  A change leaves it as it was.
+ *   state, state_len   the image, as for presence_outgoing
+ * Order of the checks: 1, 2, 3, 4, 5, 6, 7, 8 (image).
+ * Writes nothing.
+ * It is sent in the same round and slot as the word of presence_outgoing, taken
+ * from the same image.
+ */
+presence_word presence_outgoing_view(const uint8_t *state, size_t state_len);
+
+/*
  * Whether a word that came in is heard, and if not, why: the first cause that
  * applies.  Serves to look at a single word, of the latest read or of a log;
  * words 4 to 7 of a page have the same of a whole read.
@@ -836,9 +862,35 @@ presence_word presence_page_write(uint8_t *page, size_t page_len,
 presence_word presence_page_interrupt(const uint8_t *page, size_t page_len);
 
 /*
- * Helpers, which are no part of the library.  The next three take an accepted
- * image of n modules, of either form.
+ * Helpers, which are no part of the library.  Those on lengths and views take
+ * an accepted image of n modules, of any form; the first two take an accepted
+ * setup as well.
  */
+
+/* The length of a read. */
+static inline size_t presence_read_bytes(const uint8_t *bytes, uint32_t n)
+{
+    return PRESENCE_IS_PARTITIONABLE(bytes)
+               ? PRESENCE_PARTITIONABLE_READ_BYTES(n)
+               : PRESENCE_READ_BYTES(n);
+}
+
+/* The length of an image without a pending change: what out_len of an opening
+   has to be. */
+static inline size_t presence_opened_bytes(const uint8_t *bytes, uint32_t n)
+{
+    return (PRESENCE_IS_FADING(bytes) ? PRESENCE_FADING_IMAGE_BYTES(n)
+                                      : PRESENCE_IMAGE_BYTES(n)) +
+           (PRESENCE_IS_PARTITIONABLE(bytes) ? PRESENCE_VIEWS_BYTES(n) : 0u);
+}
+
+/* The length of an image of counts with a pending change: what out_len of a
+   change has to be. */
+static inline size_t presence_changed_bytes(const uint8_t *bytes, uint32_t n)
+{
+    return presence_opened_bytes(bytes, n) + PRESENCE_PENDING_IMAGE_BYTES(n) -
+           PRESENCE_IMAGE_BYTES(n);
+}
 
 /* The rounds left until a pending change, 0 if none is pending. */
 static inline uint32_t presence_rounds_left(const uint8_t *image, uint32_t n)
@@ -854,20 +906,36 @@ static inline uint32_t presence_rounds_left(const uint8_t *image, uint32_t n)
 /* The length of an image, with or without a pending change. */
 static inline size_t presence_image_bytes(const uint8_t *image, uint32_t n)
 {
-    if (PRESENCE_IS_FADING(image))
-        return PRESENCE_FADING_IMAGE_BYTES(n);
-    return presence_rounds_left(image, n) > 0 ? PRESENCE_PENDING_IMAGE_BYTES(n)
-                                              : PRESENCE_IMAGE_BYTES(n);
+    return presence_rounds_left(image, n) > 0 ? presence_changed_bytes(image, n)
+                                              : presence_opened_bytes(image, n);
 }
 
 /* The length of the image after a step from this one: what out_len of the step
    has to be. */
 static inline size_t presence_stepped_bytes(const uint8_t *image, uint32_t n)
 {
-    if (PRESENCE_IS_FADING(image))
-        return PRESENCE_FADING_IMAGE_BYTES(n);
-    return presence_rounds_left(image, n) > 1 ? PRESENCE_PENDING_IMAGE_BYTES(n)
-                                              : PRESENCE_IMAGE_BYTES(n);
+    return presence_rounds_left(image, n) > 1 ? presence_changed_bytes(image, n)
+                                              : presence_opened_bytes(image, n);
+}
+
+/* The view that a card acts on, and that page and scan lock take: the adopted
+   one with head bit 5, else the local one. */
+static inline uint32_t presence_shown_view(const uint8_t *image, uint32_t n)
+{
+    const uint8_t *from = image + presence_image_bytes(image, n) - 8u;
+
+    if (!PRESENCE_IS_PARTITIONABLE(image))
+        return PRESENCE_IS_FADING(image) ? PRESENCE_FADING_VIEW(image, n)
+                                         : PRESENCE_VIEW(image, n);
+    return (uint32_t)from[2] << 8 | (uint32_t)from[3];
+}
+
+/* 1 if the card has taken itself out, else 0; 0 without head bit 5. */
+static inline uint32_t presence_is_out(const uint8_t *image, uint32_t n)
+{
+    return PRESENCE_IS_PARTITIONABLE(image)
+               ? image[presence_image_bytes(image, n) - 1u]
+               : 0u;
 }
 
 /*
