@@ -421,9 +421,9 @@
  * A step votes on the view words of one round, each with its sender's local
  * view after the step of the round before; the module's own word is among them,
  * as its controller heard it.  It is this round if every l is N, else the round
- * before this one.  For each module the value, in or out, that more than half
- * of all N modules carry is taken: 2 of N = 2 or 3, 3 of 4 or 5, 9 of 16.  It
- * is more than half of all, not of those heard or in the view.
+ * before this one.  For each module the value, in the view or not, that more
+ * than half of all N modules carry is taken: 2 of N = 2 or 3, 3 of 4 or 5, 9 of
+ * 16.  It is more than half of all, not of those heard or in the view.
  *
  *   - If every module has such a value, these values are the adopted view.
  *   - If one has none, nothing is adopted, and the card takes itself out.  It

@@ -75,12 +75,11 @@
  *
  * A CABLE THAT TEARS
  *
- * With head bit 5 of the setup (presence.h, STANDS WITH A TORN CABLE) locks go
- * by the views that are adopted.  Cards that have never been out hold equal
- * locks however much is lost, on the conditions that presence.h names for their
- * views, and of two parts of a torn cable at most one goes on to adopt.  A
- * holder in the other part leaves the adopted view in time, and so loses its
- * locks there.
+ * With head bit 5 of the setup (include/presence.h, STANDS WITH A TORN CABLE)
+ * locks go by the views that are adopted.  Cards that have never been out hold
+ * equal locks however much is lost, on the conditions that are named there, and
+ * of two parts of a torn cable at most one goes on to adopt.  A holder in the
+ * other part leaves the adopted view in time, and so loses its locks there.
  *
  * A card that is out hands over the same view as before in every step, so its
  * locks stay, and its joystick tells nothing of the stage: it moves nothing,

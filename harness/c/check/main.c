@@ -42,6 +42,7 @@ static void (*const groups[])(void) = {
     group_addresses,
     group_pages_opened,
     group_page_lives,
+    group_page_views,
     group_page_words,
     group_causes
 };

@@ -28,6 +28,7 @@ void group_nothing_kept(void);
 void group_addresses(void);
 void group_pages_opened(void);
 void group_page_lives(void);
+void group_page_views(void);
 void group_page_words(void);
 void group_causes(void);
 
