@@ -36,9 +36,9 @@
 
 /*
  * The setup that the cards are opened from, the same in all: Q = 8, P = 4,
- * R = 6.  P, R and criticalities may be others later (card_change).  That of the
- * stand has PRESENCE_PARTITIONABLE in its head, so that cards send their views
- * too.
+ * R = 6.  P, R and criticalities may be others later (card_change).  That of
+ * the stand has PRESENCE_PARTITIONABLE in its head, so that cards send their
+ * views too.
  *
  * With fading scores five words stand in the place of P and R, here with factor
  * 0.5 and limit 3.0:
@@ -190,17 +190,19 @@ static int of_this_rack(const uint8_t *image)
     return 1;
 }
 
-/* Opens state and page. */
-static void card_open(struct card *c)
+/* Opens state and page from a setup. */
+static void card_open(struct card *c, const uint8_t *from)
 {
-    presence_answer a = presence_page_open(setup, SETUP_BYTES, c->own,
-                                           c->image[0],
-                                           presence_opened_bytes(setup, N),
+    unsigned next = 1u - c->current;
+    presence_answer a = presence_page_open(from, SETUP_BYTES, c->own,
+                                           c->image[next],
+                                           presence_opened_bytes(from, N),
                                            c->page, sizeof c->page);
 
-    if (a.number != PRESENCE_ACCEPTED)
+    if (a.number == PRESENCE_ACCEPTED)
+        c->current = next;
+    else
         c->refused++;
-    c->current = 0;
 }
 
 /* Power on.  Goes on from the saved state and the page if the state is
@@ -217,7 +219,7 @@ static void card_start(struct card *c, uint32_t own)
     a = presence_save(c->saved, len, c->image[0], len);
     if (a.number != PRESENCE_ACCEPTED || !of_this_rack(c->saved) ||
         (c->saved[SETUP_BYTES + 1u] & 0x1Fu) != own)
-        card_open(c);
+        card_open(c, setup);
     act_on_view(c);
     set_line(c);
 }
@@ -257,12 +259,13 @@ static int hears_most(const struct card *c)
 }
 
 /* Beginning of a round.  A card that has taken itself out opens anew when it
-   hears enough, and drives nothing until it has made two steps (one would do if
-   all stepped at the end of the round).  Then the words of the step before. */
+   hears enough, by the limits that hold, with which its image begins, and
+   drives nothing until it has made two steps (one would do if all cards stepped
+   at the end of the round).  Then the words of the step before. */
 static void card_begin_round(struct card *c)
 {
     if (card_is_out(c) && hears_most(c)) {
-        card_open(c);
+        card_open(c, c->image[c->current]);
         c->wait = 2;
     }
     take_words(c);
