@@ -465,13 +465,15 @@
  *
  * What a card does.  Out, it drives nothing: its adopted view is an old one,
  * and the other part may drive what it drove.  When it hears more than half of
- * all cards again, it opens anew, as HOW A CARD LEAVES AND COMES BACK says.  It
- * should not wait: since it sends, it comes back to the others' views after Q
- * good rounds, or has never left them, and they leave to it what it does not
- * drive.  Opened anew it adopts what the others adopt, if it hears enough of
- * them, from its first step on if every l is N, else from its second: in the
- * first, up to l of the words that it votes on are those of its opened image,
- * which nobody sent.  Until then it drives nothing.
+ * all cards again, it opens anew, as HOW A CARD LEAVES AND COMES BACK says,
+ * from the setup that its image begins with; a pending change is lost with the
+ * image and has to be offered again.  It should not wait: since it sends, it
+ * comes back to the others' views after Q good rounds, or has never left them,
+ * and they leave to it what it does not drive.  Opened anew it adopts what the
+ * others adopt, if it hears enough of them, from its first step on if every l
+ * is N, else from its second: in the first, up to l of the words that it votes
+ * on are those of its opened image, which nobody sent.  Until then it drives
+ * nothing.
  *
  * What is promised, of cards that follow the rules, were opened before round 1
  * and made every step since:

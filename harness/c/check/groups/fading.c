@@ -146,7 +146,7 @@ void group_fading(void)
     begin_group("fading scores");
     for (n = 2; n <= MAX_N; n++)
         for (u = 0; u < 2; u++) {
-            for (i = 0; i < COUNT(courses); i++)
+            for (i = 0; i < COUNT(courses); i++) /* some with views */
                 follow(&b, i % 8 == n % 8 ? FADING_VIEWS : FADING, n, u,
                        &courses[i]);
             for (i = 0; i < 8; i++)

@@ -61,8 +61,8 @@ static uint32_t aligned(enum form form, const uint8_t *old, const uint8_t *read,
                : view_word_in(read, n, controller, j);
 }
 
-/* The view that more than half of all n carry, in votes by module: positive for
-   a 1.  Returns 0 if a module has no value. */
+/* The view of which each value is carried by more than half of all n.  Returns
+   0 if a module has no such value. */
 static int majority(enum form form, const uint8_t *old, const uint8_t *read,
                     uint32_t n, uint32_t controller, uint32_t *view)
 {
