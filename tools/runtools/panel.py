@@ -4,7 +4,7 @@ from . import marks, svg
 from .columns import label
 from .disassemble import modules_text, told_text
 from .layout import MARGIN, STRIP, module_label, row_height, score_text, width_of
-from .words import mask_of, why_unheard
+from .words import VIEW, mask_of, why_unheard
 
 
 def panel_height(account, row):
@@ -120,11 +120,16 @@ def cell_title(account, column, module, cell):
     if found:
         if found.losses:
             said.append(f"loss to {modules_text(mask_of(found.losses), account.n)}")
-        for word in sorted({told for _, told in found.lies}):
-            receivers = mask_of(receiver for receiver, told in found.lies if told == word)
-            why = why_unheard(word, account.n)
-            said.append(f"lie to {modules_text(receivers, account.n)} {told_text(word, account.n)}" + (f", not heard: {why}" if why else ""))
+        for told in sorted({lie[1:] for lie in found.lies}):
+            receivers = mask_of(lie.receiver for lie in found.lies if lie[1:] == told)
+            said.append(f"lie to {modules_text(receivers, account.n)} {told_text(*told, account.n)}{unheard_text(*told, account.n)}")
     return "\n".join(said)
+
+
+def unheard_text(told, view, n):
+    """Why a told word, or a told view word, is not heard; nothing where it is."""
+    why, why_view = why_unheard(told, n), None if view is None else why_unheard(view, n, VIEW)
+    return (f", not heard: {why}" if why else "") + (f", view not heard: {why_view}" if why_view else "")
 
 
 def score_title(column, module):
