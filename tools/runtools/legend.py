@@ -95,7 +95,7 @@ def notes(account, found):
     if account.script:
         said.append(f"What is judged in round k is round k − {2 * account.script.u + 1}, by the read places of this script.")
     else:
-        said.append("The upper bands are empty because no script was given; of a partitionable setup the views are then the adopted ones.")
+        said += ["The upper bands are empty because no script was given.", "If the setup is partitionable, the views are the adopted ones."]
     if account.of_followers and account.script.cast:
         said.append("Judged by the rule-followers; what rule-breakers print of others is not shown.")
     return said

@@ -135,7 +135,7 @@ def cell_title(account, column, module, cell):
     said = [f"round {label(column)}, module {module_label(account, module)}: {marks.state(cell)}{score_title(column, module)}"]
     if column.views:
         views = column.views[module - 1]
-        said.append(f"local view {views.local}, adopted view {views.adopted}" + (", out" if views.out else ""))
+        said.append(f"it holds the local view {views.local} and the adopted view {views.adopted}" + (", and is out" if views.out else ""))
     found = column.events.get(module)
     if found:
         if found.losses:
