@@ -1,7 +1,7 @@
 import tempfile
 import unittest
 
-from common import FADING_SHEET, SHEET, printed, read, root, stored, tool
+from common import FADING_SHEET, SHEET, partitionable, printed, read, root, stored, tool
 
 from runtools import check, script
 from runtools.account import Account, ranges_text
@@ -75,7 +75,7 @@ Left the view:
         self.assertIn("all modules, so there is no rule-follower", told(output, SETUP + "cast all\nplay 1"))
 
     def test_no_stored_run_has_a_fault(self):
-        for name, data, output in stored("vectors", "e06", "e09"):
+        for name, data, output in [*stored("vectors", "e06", "e09"), *partitionable()]:
             if check.refusal(data) is None:
                 with self.subTest(name):
                     account = Account(read_run(output.splitlines(True)), script.load(data, name))
