@@ -43,10 +43,10 @@ def views_after(account, number):
     adoption = account.adoption
     if not adoption:
         return None, ()
-    adopted = len(adoption.adopted(account.judges, number))
+    by_judges = len(adoption.adopted(account.judges, number))
+    adopted = DIFFERENT if by_judges > 1 else SAME if by_judges else NOTHING
     views = zip(account.run.rounds[number - 1].rows, adoption.views[number - 1])
-    held = tuple(Views(local, view, adoption.is_out(j, number)) for j, ((_, local), view) in enumerate(views, 1))
-    return (NOTHING, SAME)[adopted] if adopted < 2 else DIFFERENT, held
+    return adopted, tuple(Views(local, view, adoption.is_out(j, number)) for j, ((_, local), view) in enumerate(views, 1))
 
 
 def view_letters(found):

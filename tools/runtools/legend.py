@@ -87,7 +87,8 @@ def notes(account, found):
     said = [bands_note(account)]
     if account.scores:
         factor, limit = account.script.fading
-        said.append(f"A charge adds 1.0 to a score, a good round multiplies it by {factor!r}; with a score of {limit!r} or more a module leaves the view.")
+        said.append(f"A charge adds 1.0 to a score, a good round multiplies it by {factor!r}; "
+                    f"with a score of {limit!r} or more a module leaves the view.")
     if account.adoption:
         letters = ", ".join(f"{letter}{NO_BREAK}{view}" for view, letter in view_letters(found).items())
         said += ["How a module is judged goes by the local views, which follow from the printed health by rule 8; the bench prints the adopted ones.",

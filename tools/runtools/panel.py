@@ -1,5 +1,5 @@
-"""A panel of a picture: one line of columns, with a row for the fault limit, one for agreement, of a partitionable setup one for what was adopted, and
-one for each module."""
+"""A panel of a picture: one line of columns, with a row for the fault limit, one for agreement, one for what was adopted where the setup is
+partitionable, and one for each module."""
 
 from . import marks, svg
 from .columns import DIFFERENT, label

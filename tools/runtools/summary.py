@@ -26,7 +26,7 @@ def head_lines(account):
     script = account.script
     if script is None:
         return lines + ["cast:      unknown without --script; all modules are compared",
-                        "views:     as printed; of a partitionable setup these are the adopted ones, and charges go by the local ones (give --script)"]
+                        "views:     as printed; of a partitionable setup these are the adopted ones, while charges go by local ones (give --script)"]
     back = f", return {script.return_limit:,}" if script.return_limit else ""
     if script.fading:
         lines += ["fading:    factor {!r}, limit {!r}".format(*script.fading) + back]
@@ -185,8 +185,8 @@ def out_lines(account):
     for module, (number, undecided, heard) in sorted(adoption.out.items(), key=lambda item: (item[1].number, item[0])):
         without = "any module" if len(undecided) == n else f"{plural(len(undecided), 'module')} {labels(account, undecided)}"
         words = f"{len(heard)} of {n} view words (of {labels(account, heard)})" if heard else f"none of {n} view words"
-        lines.append(f"  module {account.label(module)}: in round {number}, no majority for {without}; in round {number - adoption.u} it heard {words}; "
-                     f"it keeps {adoption.views[number - 1][module - 1]}")
+        lines.append(f"  module {account.label(module)}: in round {number}, no majority for {without}; "
+                     f"in round {number - adoption.u} it heard {words}; it keeps {adoption.views[number - 1][module - 1]}")
     return lines if len(lines) > 1 else lines + ["  nobody"]
 
 

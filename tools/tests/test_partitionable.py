@@ -67,7 +67,7 @@ class LocalViews(unittest.TestCase):
         self.assertGreater(absent, 80)
 
     def test_equal_rounds_are_one_object(self):
-        run = with_local_views(read_run(printed(*[("in", *[ALL] * 4)] * 50).splitlines(True)), script.load((SETUP + "cast none\nplay 50").encode(), "text"))
+        run = account(printed(*[("in", *[ALL] * 4)] * 50), SETUP + "cast none\nplay 50").run
         self.assertEqual(len({id(round_) for round_ in run.rounds}), 1)
 
     def test_they_lie_before_the_adopted_ones(self):
@@ -101,9 +101,11 @@ class Votes(unittest.TestCase):
         for _ in range(5_000):
             n = chance.randint(2, 16)
             base = [chance.choice("01") for _ in range(n)]
-            heard = tuple(None if chance.random() < 0.2 else "".join(digit if chance.random() < 0.9 else chance.choice("01") for digit in base) for _ in range(n))
+            views = ["".join(digit if chance.random() < 0.9 else chance.choice("01") for digit in base) for _ in range(n)]
+            heard = tuple(None if chance.random() < 0.2 else view for view in views)
             adopted, undecided = vote_on(heard)
-            counts = [(sum(view is not None and view[j] == "0" for view in heard), sum(view is not None and view[j] == "1" for view in heard)) for j in range(n)]
+            carried = ["".join(view[j] for view in heard if view) for j in range(n)]
+            counts = [(digits.count("0"), digits.count("1")) for digits in carried]
             self.assertEqual(undecided, tuple(j for j, both in enumerate(counts, 1) if max(both) * 2 <= n))
             self.assertEqual(adopted, None if undecided else "".join("1" if ones > zeros else "0" for zeros, ones in counts))
             seen.add(bool(undecided))
@@ -159,7 +161,8 @@ class Adopted(unittest.TestCase):
     def test_an_even_split_leaves_nobody_in(self):
         adoption = account(EVEN_LINES, EVEN).adoption
         self.assertEqual(adoption.wrong, [])
-        self.assertEqual({module: (out.number, out.heard) for module, out in adoption.out.items()}, {1: (2, (1, 2)), 2: (2, (1, 2)), 3: (2, (3, 4)), 4: (2, (3, 4))})
+        self.assertEqual({module: out.number for module, out in adoption.out.items()}, {1: 2, 2: 2, 3: 2, 4: 2})
+        self.assertEqual([adoption.out[module].heard for module in range(1, 5)], [(1, 2), (1, 2), (3, 4), (3, 4)])
         self.assertEqual([adoption.adopted(range(1, 5), number) for number in (1, 2, 11)], [{"1111"}, set(), set()])
 
     def test_one_module_that_gives_different_view_words(self):
@@ -177,8 +180,8 @@ class Adopted(unittest.TestCase):
         # three of four view words are enough and two are not: module 4 is lost to 3, and module 2 gives it no view word, though a row
         run = "cast 2\nloss 4 to 3\nlie 2 to 3 {}\nplay 1\n"
         for told, out in [("says 1111 view 1111", False), ("word 0x00000000 view 1111", False), ("says 1111 view word 0x00000000", True),
-                          ("says 1111 view word 0xA000001F", True), ("says 1111 view word 0xA800000F", True), ("says 1111 view word 0x5000000F", True),
-                          ("says 1111 view word 0xA000000F", False), ("says 1111 view 1110", True)]:
+                          ("says 1111 view word 0xA000001F", True), ("says 1111 view word 0xA800000F", True),
+                          ("says 1111 view word 0x5000000F", True), ("says 1111 view word 0xA000000F", False), ("says 1111 view 1110", True)]:
             with self.subTest(told):
                 adoption = account(printed(("out", *[ALL] * 4)), SETUP + run.format(told)).adoption
                 self.assertEqual(list(adoption.out), [3] if out else [])
@@ -221,7 +224,8 @@ class Played(unittest.TestCase):
                     text += f"loss {sender} to {to}\n"
                 if to and sender in cast and chance.random() < 0.3:
                     row, view = ("".join(chance.choice("1110") for _ in range(n)) for _ in range(2))
-                    text += f"lie {sender} to {to} says {row} view " + (view if chance.random() < 0.7 else f"word 0x{chance.getrandbits(32):08X}") + "\n"
+                    view = view if chance.random() < 0.7 else f"word 0x{chance.getrandbits(32):08X}"
+                    text += f"lie {sender} to {to} says {row} view {view}\n"
             text += "play 1\n"
         return text
 
@@ -242,7 +246,8 @@ class Played(unittest.TestCase):
             modules = "".join(f"module {j} place {n} criticality 1\n" for j in range(1, n + 1))
             for heard, last in ((n // 2 + 1, "0"), (n // 2, "1")):
                 lost = "".join(f"loss {j} to 1\n" for j in range(heard + 1, n + 1)) + "play 5\n"
-                text = f"modules {n}\npenalty limit 4\nreward limit 2\npartitionable\n{modules}cast none\nplay 3\n{lost}" + f"loss {n} to all\nplay 1\n" * 9
+                text = f"modules {n}\npenalty limit 4\nreward limit 2\npartitionable\n{modules}cast none\nplay 3\n{lost}"
+                text += f"loss {n} to all\nplay 1\n" * 9
                 found = account(bench(assemble(text).data()), text)
                 self.assertEqual(found.adoption.views[-1], ("1" * (n - 1) + last,) + ("1" * (n - 1) + "0",) * (n - 1), (n, heard))
                 self.assertEqual((found.adoption.wrong, list(found.adoption.out)), ([], [1] if last == "1" else []))
@@ -300,15 +305,17 @@ Took themselves out (some module had no value that more than half of all 5 view 
 
     def test_why_modules_took_themselves_out(self):
         told = {name[:3]: summary(found) for name, found in accounts()}
-        self.assertTrue(told["012"].endswith("it keeps 1111\n  module 4: in round 7, no majority for any module; in round 6 it heard none of 4 view words; it keeps 1111\n"))
+        self.assertTrue(told["012"].endswith("it keeps 1111\n  module 4: in round 7, no majority for any module; "
+                                             "in round 6 it heard none of 4 view words; it keeps 1111\n"))
         self.assertIn("\n  module 3: in round 4, no majority for any module; in round 3 it heard 1 of 3 view words (of 3); it keeps 111\n"
                       "  module 1: in round 12, no majority for any module; in round 11 it heard 1 of 3 view words (of 2); it keeps 110\n", told["001"])
         self.assertIn("\nagreement: all rule-followers gave the same health and local view in every round\n", told["013"])
-        self.assertTrue(told["013"].endswith("\n\nAdopted another view (what the bench prints; full at the opening):\n  nobody\n\n"
-                                             "Took themselves out (some module had no value that more than half of all 4 view words carried):\n  nobody\n"))
+        self.assertTrue(told["013"].endswith(
+            "\n\nAdopted another view (what the bench prints; full at the opening):\n  nobody\n\n"
+            "Took themselves out (some module had no value that more than half of all 4 view words carried):\n  nobody\n"))
         text = SETUP.replace("module 3", "module 3 focus") + "cast 2\nloss 4 to 3\nlie 2 to 3 says 1111 view 0110\nplay 1"
-        self.assertIn("  module 3 focus: in round 1, no majority for modules 1, 4; in round 1 it heard 3 of 4 view words (of 1, 2, 3 focus); it keeps 1111\n",
-                      summary(account(printed(("out", *[ALL] * 4)), text)))
+        self.assertIn("  module 3 focus: in round 1, no majority for modules 1, 4; in round 1 it heard 3 of 4 view words (of 1, 2, 3 focus); "
+                      "it keeps 1111\n", summary(account(printed(("out", *[ALL] * 4)), text)))
 
     def test_adopted_views_by_rounds(self):
         told = {name[:3]: summary(found) for name, found in accounts()}
@@ -341,7 +348,7 @@ Took themselves out (some module had no value that more than half of all 5 view 
     def test_without_a_script_the_views_are_as_printed(self):
         _, output = torn()
         text = summary(Account(read_run(output.splitlines(True))))
-        self.assertIn("\nviews:     as printed; of a partitionable setup these are the adopted ones, and charges go by the local ones (give --script)\n", text)
+        self.assertIn("\nviews:     as printed; of a partitionable setup these are the adopted ones, while charges go by local ones (give --script)\n", text)
         self.assertIn("\nLeft the view:\n  module 1: in round 5, but not from the view of 1, 2\n", text)
         self.assertNotIn("\nviews:", summary(account(printed(("in", *[ALL] * 4)), SHEET.split("cast")[0] + "cast none\nplay 1")))
 
@@ -353,7 +360,8 @@ Took themselves out (some module had no value that more than half of all 5 view 
         self.assertIn("\n  round 24: 1111, by 1, 2, 3, 4\n  and 36 times more\n", text)
 
     def test_a_hundred_thousand_rounds(self):
-        text = "modules 2\npenalty limit 9\nreward limit 9\npartitionable\nmodule 1 place 2 criticality 1\nmodule 2 place 2 criticality 1\ncast none\n" + "play 1000\n" * 100
+        text = "modules 2\npenalty limit 9\nreward limit 9\npartitionable\nmodule 1 place 2 criticality 1\nmodule 2 place 2 criticality 1\n"
+        text += "cast none\n" + "play 1000\n" * 100
         lines = "".join(f"{k} 1 11 11 in\n{k} 2 11 11 in\n" for k in range(1, 100_001))
         self.assertIn("\nadoption:  no two rule-followers adopted different views in a round\n", summary(account(lines, text)))
 
@@ -386,8 +394,8 @@ class Picture(unittest.TestCase):
         data, output = torn()
         found = columns(account(output, data))
         self.assertEqual([(label(column), column.adopted, *[column.views[j].letters for j in (0, 2)]) for column in found],
-                         [("1", "=", "A A", "A A"), ("2", "=", "A A", "A A"), ("3", "=", "A A", "A A"), ("4", "=", "B A", "C A"), ("5–7", "=", "B A", "C C"),
-                          ("8", "=", "B A", "C C"), ("9–11", "=", "B A", "C C")])
+                         [("1", "=", "A A", "A A"), ("2", "=", "A A", "A A"), ("3", "=", "A A", "A A"), ("4", "=", "B A", "C A"),
+                          ("5–7", "=", "B A", "C C"), ("8", "=", "B A", "C C"), ("9–11", "=", "B A", "C C")])
         self.assertEqual([[views.out for views in column.views] for column in found], [[False] * 5] + [[True] * 2 + [False] * 3] * 6)
         self.assertEqual([column.adopted for column in columns(account(EVEN_LINES, EVEN))][:2], ["=", "–"])
         self.assertEqual([column.adopted for column in columns(account(TWO_FACED_LINES, TWO_FACED))], ["="] * 4 + ["≠"] * 3)
@@ -407,13 +415,15 @@ class Picture(unittest.TestCase):
     def test_a_printed_view_that_is_not_adopted_has_a_banner(self):
         data, output = torn()
         drawn = picture(account(output.replace("\n5 3 00111 00111", "\n5 3 00111 11111"), data), "wrong")
-        self.assertIn("FAULT: printed views are not the adopted ones, first in round 5 of module 3 (is it the script of this run?).", self.words(drawn))
+        said = "FAULT: printed views are not the adopted ones, first in round 5 of module 3 (is it the script of this run?)."
+        self.assertIn(said, self.words(drawn))
         self.assertNotIn("No two rule-followers adopted", self.words(drawn))
 
     def test_told_views(self):
         text = SETUP + "cast 2\nlie 2 to all but 1 says 1011 view 1110\nlie 2 to 1 word 0x5000001F view word 0xA000001F\nplay 1"
         drawn = picture(account(printed(("in", *[ALL] * 4)), text), "lies")
-        self.assertIn("\nlie to all but 1 says 1011 view 1110\nlie to 1 word 0x5000001F view word 0xA000001F, not heard: stray bits, view not heard: stray bits</title>", drawn)
+        self.assertIn("\nlie to all but 1 says 1011 view 1110\nlie to 1 word 0x5000001F view word 0xA000001F, "
+                      "not heard: stray bits, view not heard: stray bits</title>", drawn)
 
     def test_without_bit_5_nothing_is_said_of_it(self):
         drawn = picture(account(printed(("in", *[ALL] * 4)), SHEET.split("cast")[0] + "cast none\nplay 1"), "counts")

@@ -113,7 +113,8 @@ class StoredScripts(unittest.TestCase):
                 account = Account(read_run(renumbered_lines(printed, numbers).splitlines(True)), moved)
                 before = Account(read_run(printed.splitlines(True)), script.load(data, name))
                 self.assertEqual(account.adoption.wrong, [], name)
-                self.assertEqual({numbers[j - 1]: out.number for j, out in before.adoption.out.items()}, {j: out.number for j, out in account.adoption.out.items()})
+                self.assertEqual({numbers[j - 1]: out.number for j, out in before.adoption.out.items()},
+                                 {j: out.number for j, out in account.adoption.out.items()})
                 count += 1
         self.assertGreaterEqual(count, 5)
 
@@ -179,7 +180,8 @@ play 2  # rounds 1 to 2
 
 
     def test_told_views_are_renumbered(self):
-        text = RACK.replace("# the cards", "partitionable  # since June").replace("says 0011", "says 0011  view 1110").replace("0x5123abc1", "0x5123abc1 view word 0x0000f0f1")
+        text = RACK.replace("# the cards", "partitionable  # since June").replace("says 0011", "says 0011  view 1110")
+        text = text.replace("0x5123abc1", "0x5123abc1 view word 0x0000f0f1")
         made = renumber(text.encode(), [3, 1, 2, 4]).decode()
         self.assertIn("\npartitionable  # since June\n", made)
         self.assertIn("\nlie   1 to 3 2 says 0101  view 1110\nlie joystick to all word 0x5123ABC4 view word 0x0000F0F4   # stray bits\n", made)
@@ -198,7 +200,8 @@ class Words(unittest.TestCase):
 
     def test_so_of_a_told_view_word(self):
         setup = SHEET.replace("module 1", "partitionable\nmodule 1", 1).replace("cast none", "cast 1")
-        for word, moved in (("A0000001", "A0000002"), ("A0000008", "A0000001"), ("50000003", "50000006"), ("FFFFFFF4", "FFFFFFF8"), ("00000010", "00000010")):
+        words = [("A0000001", "A0000002"), ("A0000008", "A0000001"), ("50000003", "50000006"), ("FFFFFFF4", "FFFFFFF8"), ("00000010", "00000010")]
+        for word, moved in words:
             text = setup.replace("loss 2 to all", f"lie 1 to all says 1000 view word 0x{word}")
             made = renumber(assemble(text).data(), [2, 3, 4, 1])
             self.assertEqual((made[:4].hex(), made[36:44].hex().upper()), ("10000024", "50000002" + moved))

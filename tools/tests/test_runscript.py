@@ -216,7 +216,7 @@ class Language(unittest.TestCase):
     def test_any_told_words_come_back_bit_for_bit(self):
         chance = random.Random(11)
         for _ in range(2_000):
-            told = [chance.choice([chance.getrandbits(32), 0x5000000F & chance.getrandbits(32), 0xA000000F & chance.getrandbits(32) | 0xA0000000]) for _ in range(4)]
+            told = [chance.choice([chance.getrandbits(32), 0x50000000 | chance.getrandbits(5), 0xA0000000 | chance.getrandbits(5)]) for _ in range(4)]
             words = ["60000002", "81000001", *(f"{word:08X}" for word in told[:2]), "8100000E", *(f"{word:08X}" for word in told[2:]), "90000001"]
             data = assemble(self.PARTITIONABLE, unchecked=True).data() + bytes.fromhex("".join(words))
             self.assertIsNone(check.refusal(data))
@@ -314,8 +314,8 @@ class Errors(unittest.TestCase):
         (FADING_SHEET.split("module 4 ")[1], "place 4 criticality 1\n", 6, "the cast is missing (refused 14 at 10)"),
     ]
 
-    PARTITIONABLE_SHEET = SHEET.replace("module 1", "partitionable\nmodule 1").replace("cast none", "cast 2").replace("loss 2 to all", "lie 2 to all says 1011 view 1111")
     LIE = "says 1011 view 1111"
+    PARTITIONABLE_SHEET = SHEET.replace("module 1", "partitionable\nmodule 1").replace("cast none\n\nloss 2 to all", f"cast 2\n\nlie 2 to all {LIE}")
     PARTITIONABLE_CASES = [
         (LIE, "says 1011", 11, "the setup is partitionable, so a lie tells a view too: view VECTOR, or view word 0xHEX"),
         (LIE, "word 0x5000000F", 11, "the setup is partitionable, so a lie tells a view too"),

@@ -83,7 +83,8 @@ class Page(unittest.TestCase):
                          [("11111",) * 4] * 4 + [("11001", "11001", "00111", "00111")] * 3)
 
     def test_how_many_view_words_are_needed(self):
-        cards, needed = (list(map(int, re.findall(r"\d+", re.search(rf"^\| {row} \|.*$", PAGE, re.M)[0]))) for row in ("cards in the setup", "view words needed"))
+        cards, needed = (list(map(int, re.findall(r"\d+", re.search(rf"^\| {row} \|.*$", PAGE, re.M)[0])))
+                         for row in ("cards in the setup", "view words needed"))
         self.assertEqual(needed, [min(votes for votes in range(n + 1) if 2 * votes > n) for n in cards])
         self.assertEqual((cards[0], cards[-1]), (2, 16))
 
