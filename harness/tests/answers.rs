@@ -93,10 +93,12 @@ fn number_1() {
 fn number_2() {
     assert_eq!(checked(&with(&SHEET, 0, 0x10000011)), answer(2, 0));
     assert_eq!(checked(&with(&SHEET, 0, 0x10000001)), answer(2, 0));
-    // Spare bits 5, 6 and 7. Above them Q: 1 and 1,000,000 are accepted, one more is not.
-    for spare in [5, 6, 7] {
+    // Spare bits 6 and 7; bit 5 is none (document 02, E11). Above them Q: 1 and 1,000,000 are accepted, one more is not.
+    for spare in [6, 7] {
         assert_eq!(checked(&with(&SHEET, 0, 0x10000004 | 1 << spare)), answer(2, 0));
+        assert_eq!(checked(&with(&SHEET, 0, 0x10000024 | 1 << spare)), answer(2, 0));
     }
+    assert_eq!(checked(&with(&SHEET, 0, 0x10000024)), answer(0, 0));
     assert_eq!(checked(&with(&SHEET, 0, 0x10000104)), answer(0, 0));
     assert_eq!(checked(&with(&SHEET, 0, 0x10000004 | 1_000_000 << 8)), answer(0, 0));
     assert_eq!(checked(&with(&SHEET, 0, 0x10000004 | 1_000_001 << 8)), answer(2, 0));

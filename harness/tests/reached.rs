@@ -258,7 +258,7 @@ fn damaged_fading_bytes_reach_every_place() {
 fn place(bytes: &[u8], at: usize) -> &'static str {
     let words = words_of(bytes).unwrap();
     let n = (words[0] & 31) as usize;
-    let first = Form::of(&words).setup_length(n) + n + 3;
+    let first = Form::of(&words).first_module() + 2 * n + 3;
     match at {
         _ if at < first => "before scores",
         _ if at < first + 2 * n => "a score",
