@@ -3,6 +3,7 @@
 use super::Random;
 use crate::model::setup::Setup;
 use crate::model::state::State;
+use crate::model::views::{is_view_word, Views};
 use crate::model::words::full;
 
 /// A read as a module with this state may get it: mostly words near its own syndromes and views, some
@@ -20,18 +21,19 @@ pub fn read(random: &mut Random, setup: &Setup, state: &State) -> (Vec<u32>, u32
     for _ in 0..n {
         words.push(word(random, n, common, noise));
     }
-    if setup.partitionable {
+    let mut controller = controller(random, n);
+    if let Some(views) = &state.views {
         words.extend(view_words(random, n, state));
+        // A module that is not out goes out with the first read without a majority, so most of its reads have one.
+        if !views.out && random.chance(7, 8) {
+            agree(random, setup, views, &mut words[n..], &mut controller);
+        }
     }
-    (words, controller(random, setup, state))
+    (words, controller)
 }
 
-/// A module that is not out goes out with the first read without a majority, so half of its reads lose one word at most.
-fn controller(random: &mut Random, setup: &Setup, state: &State) -> u32 {
-    let n = setup.n;
-    let may_adopt = state.views.is_some_and(|views| !views.out);
-    let most = if may_adopt && random.chance(1, 2) { 4 } else { 8 };
-    match random.below(most) {
+fn controller(random: &mut Random, n: usize) -> u32 {
+    match random.below(8) {
         0..=2 => full(n),
         3 => full(n) & !(1 << random.below(n)),
         4 => random.word() & full(n),
@@ -84,6 +86,24 @@ fn view_words(random: &mut Random, n: usize, state: &State) -> Vec<u32> {
         (0..count).for_each(|at| words[(from + at) % n] = 10 << 28 | other);
     }
     words
+}
+
+/// Lets more than half carry the same view, together with the words that are taken from the read before. The others stay as they are.
+fn agree(random: &mut Random, setup: &Setup, views: &Views, words: &mut [u32], controller: &mut u32) {
+    let (n, u) = (setup.n, setup.u());
+    let common = match (views.words[random.below(n)], words[random.below(n)]) {
+        (before, _) if before != 0 && u == 1 && random.chance(9, 10) => before,
+        (_, word) if is_view_word(n, word) => word,
+        _ => 10 << 28 | full(n),
+    };
+    // Where two reads count, each has half as many others.
+    let others = (n - 1) / (2 + 2 * u);
+    let from = random.below(n);
+    for at in others..n {
+        let j = (from + at) % n;
+        words[j] = common;
+        *controller |= 1 << j;
+    }
 }
 
 /// A controller word with a bit at N or above.
