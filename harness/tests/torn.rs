@@ -732,7 +732,7 @@ fn sessions(seed: u64, count: usize, one_face: bool, mut seen: impl FnMut(&Sessi
 #[test]
 fn one_faced_no_two_adopt_different_views() {
     let (mut pairs, mut other_than_full, mut some_out, mut views_differ) = (0, 0, 0, 0);
-    sessions(118, 6_000, true, |session| {
+    sessions(118, 3_000, true, |session| {
         let adopters = session.adopters();
         assert!(adopters.iter().all(|(view, _)| *view == adopters[0].0));
         if adopters.len() > 1 {
@@ -745,7 +745,7 @@ fn one_faced_no_two_adopt_different_views() {
             views_differ += u32::from(followers.iter().any(|j| local(j) != local(&followers[0])));
         }
     });
-    assert!(pairs > 5_000 && other_than_full > 500 && some_out > 1_000 && views_differ > 1_000, "{pairs} {other_than_full} {some_out} {views_differ}");
+    assert!(pairs > 3_000 && other_than_full > 300 && some_out > 1_000 && views_differ > 1_000, "{pairs} {other_than_full} {some_out} {views_differ}");
 }
 
 /// Whatever the rule-breakers send: two faces do not help either.
@@ -753,7 +753,7 @@ fn one_faced_no_two_adopt_different_views() {
 fn who_hears_no_common_sender_does_not_adopt_too() {
     for (one_face, seed) in [(true, 119), (false, 120)] {
         let (mut apart, mut common_ones) = (0, 0);
-        sessions(seed, 3_000, one_face, |session| {
+        sessions(seed, 1_500, one_face, |session| {
             let adopters = session.adopters();
             for (at, (_, heard)) in adopters.iter().enumerate() {
                 assert!(adopters[..at].iter().all(|(_, other)| heard & other != 0));
@@ -763,7 +763,7 @@ fn who_hears_no_common_sender_does_not_adopt_too() {
             let heard: Vec<u32> = session.followers().iter().map(|&j| session.heard[voted][j - 1]).collect();
             apart += pairs_apart(&heard);
         });
-        assert!(apart > 1_000 && common_ones > 5_000, "{apart} {common_ones}");
+        assert!(apart > 500 && common_ones > 3_000, "{apart} {common_ones}");
     }
 }
 
@@ -779,11 +779,11 @@ fn pairs_apart(heard: &[u32]) -> u32 {
 #[test]
 fn a_two_faced_view_word() {
     let mut differ = 0;
-    sessions(121, 2_000, false, |session| {
+    sessions(121, 1_000, false, |session| {
         let adopters = session.adopters();
         differ += u32::from(adopters.iter().any(|(view, _)| *view != adopters[0].0));
     });
-    assert!(differ > 50, "{differ}");
+    assert!(differ > 20, "{differ}");
     // The least one: 1 and 2 do not hear each other, and 3 tells each what it sends itself.
     let three = Setup { partitionable: true, ..setup(&common::SHEET_OF_THREE) };
     let mut backplane = Backplane::new(&three, 0b100);

@@ -48,7 +48,7 @@ pub fn read_views(n: usize, controller: u32, read: &[u32]) -> [u32; MAX] {
     words
 }
 
-/// For each module the value that more than half of all N carry, those included that are outside the view. `None` if some module has none.
+/// For each module the value that more than half of all N carry; who is outside the local view counts as the others do. `None` if some module has none.
 pub fn majority(n: usize, words: &[u32; MAX]) -> Option<u32> {
     let mut view = 0;
     for j in 1..=n {
@@ -63,7 +63,7 @@ pub fn majority(n: usize, words: &[u32; MAX]) -> Option<u32> {
 }
 
 impl Views {
-    /// A step that read these view words and found the local view `local`. The words that it goes by are aligned as syndromes are.
+    /// A step that read these view words; `local` is the local view before it. The words that it goes by are aligned as syndromes are.
     pub fn step(&mut self, setup: &Setup, place: usize, this: &[u32; MAX], local: u32) {
         let aligned = align(setup.n, setup.u(), place, &self.words, this);
         match majority(setup.n, &aligned) {

@@ -184,15 +184,15 @@ impl Reached {
 
     fn count_told_views(&mut self, script: &Script) {
         let n = script.setup.n;
-        let told: BTreeSet<(bool, bool)> = script.items.iter().filter_map(|item| match *item {
+        let heard = |item: &Item| match *item {
             Item::Lie { told, told_view: Some(view), .. } => Some((heard_word(n, told).is_some(), is_view_word(n, view))),
             _ => None,
-        }).collect();
-        for (word, view) in told {
-            self.count("told views", if view { "heard" } else { "not heard" });
-            self.count_if(view && !word, "told views", "heard without the word");
-            self.count_if(word && !view, "told views", "not heard with the word");
-        }
+        };
+        let told: BTreeSet<(bool, bool)> = script.items.iter().filter_map(heard).collect();
+        self.count_if(told.iter().any(|(_, view)| *view), "told views", "heard");
+        self.count_if(told.iter().any(|(_, view)| !view), "told views", "not heard");
+        self.count_if(told.contains(&(false, true)), "told views", "heard without the word");
+        self.count_if(told.contains(&(true, false)), "told views", "not heard with the word");
     }
 
     fn count_fading(&mut self, factor: f64, limit: f64) {
