@@ -173,6 +173,12 @@ module _ (n : ℕ) (v : Views) (voted this : List ℕ) (local : ℕ) where
   unfolding viewsAfter
   out-stays t = (or-l (v .out) _ t, cond-true _ _ (or-l (v .out) _ t))
 
+  -- what decides nothing leaves the adopted view as it was, and takes the module out
+  pub undecided-stays : adoptable n voted ≡ false
+      → (viewsAfter n v voted this local .out ≡ true) × (viewsAfter n v voted this local .adopted ≡ v .adopted)
+  unfolding viewsAfter
+  undecided-stays f = (or-r (v .out) _ (ap not f), cond-true _ _ (or-r (v .out) _ (ap not f)))
+
   -- in after the step: in before it, and what was adopted is what the view words decide
   pub in-adopts : viewsAfter n v voted this local .out ≡ false
       → (v .out ≡ false) × (adoptable n voted ≡ true) × (viewsAfter n v voted this local .adopted ≡ adoptedFrom n voted)

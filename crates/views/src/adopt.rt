@@ -35,7 +35,7 @@ fn ones(n: usize, views: &[u32; 16], j: usize) -> u32
 }
 
 // What n view words decide. Those that are there and do not carry 1 carry 0.
-pub fn adoption(n: usize, views: &[u32; 16]) -> Adoption
+pub(crate) fn adoption(n: usize, views: &[u32; 16]) -> Adoption
     requires { ⌜ n ≤ 16 ⌝ }
     ensures { λ r. ⌜ (r .decided ≡ adoptable n (now (views .entry))) × (r .view ≡ adoptedFrom n (now (views .entry))) ⌝ }
 {

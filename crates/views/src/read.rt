@@ -24,7 +24,7 @@ pub fn read_views(n: usize, read: &[u8], controller: u32, this: &mut [u32; 16])
 
 // The view words of the round that is voted on, in `views`, which holds those of the previous read: below `split` they stay, the others are of this
 // read.
-pub fn align_views(n: usize, split: u32, views: &mut [u32; 16], this: &[u32; 16])
+pub(crate) fn align_views(n: usize, split: u32, views: &mut [u32; 16], this: &[u32; 16])
     requires { ⌜ (n ≤ 16) × Filled n (now views) ⌝ }
     ensures { λ _. ⌜ now (views .exit) ≡ array n (λ j. cond (ltb j split) (getD (now (views .entry)) j 0) (getD (now (this .entry)) j 0)) ⌝ }
 {
