@@ -92,14 +92,14 @@ ok-small n w t =
 below : (v n : ℕ) → v < 2 ^ n → n ≤ 16 → v < 2 ^ 16
 below v n h l = omega (arith, pow-mono {i = n} {j = 16} l)
 
-pub fits-small : (b : Bool) (n : ℕ) (v : Views) → n ≤ 16 → ViewsFit b n v → ViewsSmall b n v
-fits-small true n v small f = record {
+pub small-views : (b : Bool) (n : ℕ) (v : Views) → n ≤ 16 → ViewsFit b n v → ViewsSmall b n v
+small-views true n v small f = record {
   word = λ j h. ok-small n (getD (v .words) j 0) (f .words j h);
   earlier = below (v .earlier) n (f .earlier) small;
   adopted = below (v .adopted) n (f .adopted) small;
   clear = f .clear;
 }
-fits-small false n v small f = f
+small-views false n v small f = f
 
 -- ---- at opening
 
