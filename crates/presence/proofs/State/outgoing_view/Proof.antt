@@ -1,30 +1,28 @@
+-- 0, or the word of one of the two local views.
+use borrow.Author.Needs.{needs}
+use borrow.Author.Tests.{not-true, not-false}
+use Rattle.presence.proofs.StateRoundLaws.{handed-none, handed-made, handed-small}
 use Rattle.presence.proofs.State.outgoing_view.Statement.{statement}
 use Rattle.presence.proofs.State.outgoing_view.Tie as tie
-use Rattle.presence.proofs.State.outgoing_view.Reads as reads
-use Rattle.presence.proofs.State.outgoing_view.Lts as lts
-use Rattle.presence.proofs.State.marked.Reads as marked-reads
-use Rattle.views.proofs.word.view_word.Reads as view-word-reads
-use Rattle.words.proofs.bits.pick.Reads as pick-reads
 
--- src/step.rt:108:13
 returns : tie.Need-returns
-returns c = ?
+returns c = handed-none _ _ (not-true _ (c .if1 .taken))
 
--- src/step.rt:111:24
 marked-requires : tie.Need-marked-requires
-marked-requires c κs = ?
+marked-requires c κs = search needs
 
--- src/step.rt:111:19
 pick-requires : tie.Need-pick-requires
-pick-requires c κs = ?
+pick-requires c κs = search needs
 
--- src/step.rt:111:9
 view-word-requires : tie.Need-view-word-requires
-view-word-requires c κs = ?
+view-word-requires c κs =
+    let a = c .before .before .before .before .before .before in
+    handed-small _ _ _ (a .pre .0) (a .pre .1) (c .pick .ensures)
 
--- src/step.rt:102:5
 returns-2 : tie.Need-returns-2
-returns-2 c = ?
+returns-2 c =
+    handed-made _ _ (c .before .before .marked .ensures) (c .before .pick .ensures) (c .view-word .ensures)
+    (not-false _ (c .before .before .before .before .if1 .left))
 
 pub outgoing-view-spec : {M : Type 1} → statement M
 outgoing-view-spec =
