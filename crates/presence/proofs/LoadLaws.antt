@@ -53,13 +53,13 @@ module _ {setup : Setup} (s : List ℕ) (e : setup ≡ setupOf s) where
   unfolding setupOf
   parted = ap (λ (x : Setup). x .partitionable) e
 
-  module _ {front at left : ℕ} (n : ℕ) (a : at ≡ leftAt front n) (l : left ≡ wordAt s at) where
+  module _ (front : ℕ) {at left : ℕ} (n : ℕ) (a : at ≡ leftAt front n) (l : left ≡ wordAt s at) where
     left-there : left ≡ wordAt s (leftAt front n)
     left-there = l ∙ ap (wordAt s) a
 
-    pub views-asked : {b : Bool} {k : ℕ} → front ≡ frontWords b
+    pub views-asked : (b : Bool) {k : ℕ} → front ≡ frontWords b
         → k ≡ imageLength (frontWords b) n (wordAt s (leftAt (frontWords b) n)) (partitionableIn (wordAt s 0)) → k ≡ imageLength front n left (setup .partitionable)
-    views-asked f h =
+    views-asked b f h =
         let x = sym (left-there ∙ ap (λ (i : ℕ). wordAt s (leftAt i n)) f) in
         h ∙ (λ i. imageLength (sym f i) n (x i) (sym parted i))
 
@@ -68,9 +68,9 @@ module _ {setup : Setup} (s : List ℕ) (e : setup ≡ setupOf s) where
         → good ≡ allRight (viewTests (partitionableIn (wordAt s headAt)) (wordAt s) n (viewIn (wordAt s (ownAt front n))) (viewsAt front n (wordAt s (leftAt front n))))
     views-agree v g = g ∙ (λ i. allRight (viewTests (parted i) (wordAt s) n (v i) (viewsAt front n (left-there i))))
 
-    pub views-read : {b : Bool} {views : Views} → front ≡ frontWords b → views ≡ viewsIn (setup .partitionable) s n (viewsAt front n left)
+    pub views-read : (b : Bool) {views : Views} → front ≡ frontWords b → views ≡ viewsIn (setup .partitionable) s n (viewsAt front n left)
         → views ≡ viewsIn (partitionableIn (wordAt s 0)) s n (viewsAt (frontWords b) n (wordAt s (leftAt (frontWords b) n)))
-    views-read f g =
+    views-read b f g =
         let x = left-there ∙ ap (λ (i : ℕ). wordAt s (leftAt i n)) f in
         g ∙ (λ i. viewsIn (parted i) s n (viewsAt (f i) n (x i)))
 

@@ -17,7 +17,7 @@ pick-requires c κs = search needs
 view-word-requires : tie.Need-view-word-requires
 view-word-requires c κs =
     let a = c .before .before .before .before .before .before in
-    handed-small _ _ _ (a .pre .0) (a .pre .1) (c .pick .ensures)
+    handed-small _ _ (c .before .marked .result) (a .pre .0) (a .pre .1) (c .pick .ensures)
 
 returns-2 : tie.Need-returns-2
 returns-2 c =

@@ -104,14 +104,14 @@ views-good-requires c κs =
     let s = c .before .before .before .before .before .before .before .before .before .before .before .before .before .before .before .before .before .before .before .before in
     let f = c .before .before .before .before .before .before .before .before .before .before .before .before .before .front-words .ensures in
     let g = c .before .before .before .before .before .before .before .before .before .before .before .before .before .before .before .before .before .before .load-setup .ensures in
-    (f .2, s .pre .0, views-asked _ (g .1) (s .args .n) (c .before .before .before .left-at .ensures) (c .word-at .ensures) (f .0) (s .pre .1))
+    (f .2, s .pre .0, views-asked _ (g .1) _ (s .args .n) (c .before .before .before .left-at .ensures) (c .word-at .ensures) (s .args .fades) (f .0) (s .pre .1))
 
 views-of-requires : tie.Need-views-of-requires
 views-of-requires c κs =
     let s = c .before .before .before .before .before .before .before .before .before .before .before .before .before .before .before .before .before .before .before .before .before in
     let f = c .before .before .before .before .before .before .before .before .before .before .before .before .before .before .front-words .ensures in
     let g = c .before .before .before .before .before .before .before .before .before .before .before .before .before .before .before .before .before .before .before .load-setup .ensures in
-    (f .2, s .pre .0, views-asked _ (g .1) (s .args .n) (c .before .before .before .before .left-at .ensures) (c .before .word-at .ensures) (f .0) (s .pre .1))
+    (f .2, s .pre .0, views-asked _ (g .1) _ (s .args .n) (c .before .before .before .before .left-at .ensures) (c .before .word-at .ensures) (s .args .fades) (f .0) (s .pre .1))
 
 returns-2 : tie.Need-returns-2
 returns-2 d =
@@ -126,14 +126,14 @@ returns-2 d =
     let x = given-by _ _ _ (limits-of _ (g .1) (a .3) (a .2)) (counted .ensures) in (
       setup-right _ _ (a .3) at (g .0) (not-false _ (c .before .before .before .before .before .before .before .before .before .before .before .before .before .before .before .before .before .before .if1 .left)) (alone .ensures .0) (read .ensures .0) (x .0)
           (change-good (s .args .fades) (wordAt (s .args .s .now)) _ (s .args .n) (c .before .before .before .before .before .left-at .ensures) (c .before .before .before .before .check-change .ensures))
-          (views-agree _ (g .1) (s .args .n) (c .before .before .before .before .before .left-at .ensures) (c .before .before .word-at .ensures) (alone .ensures .2) (c .before .views-good .ensures)),
+          (views-agree _ (g .1) _ (s .args .n) (c .before .before .before .before .before .left-at .ensures) (c .before .before .word-at .ensures) (alone .ensures .2) (c .before .views-good .ensures)),
       λ t.
           let arrays = x .1 (and-l (counted .result) _ (and-r (read .result .good) _ (and-r (alone .result .good) _ t))) in
           let counters = c .before .before .before .before .before .before .lent-counters .ensures ∙ lent-read _ _ _ (a .0) (rw at at (alone .ensures .2)) (arrays .0) (arrays .1) (arrays .2) in
           let previous = reading-read _ _ _ (read .ensures .1) (read .ensures .2) in
           let pending = c .before .before .before .load-change .ensures ∙ ap (pendingIn (s .args .s .now) (s .args .n)) (c .before .before .before .before .before .left-at .ensures ∙ ap (λ (k : ℕ). leftAt k (s .args .n)) at) in
           state-by _ (a .2) (a .3) (g .1) (rw at at (alone .ensures .1)) counters (rw at at previous) (rw at at (alone .ensures .3)) (rw at at (alone .ensures .4)) pending
-          (views-read _ (g .1) (s .args .n) (c .before .before .before .before .before .left-at .ensures) (c .before .before .word-at .ensures) at (c .views-of .ensures)),
+          (views-read _ (g .1) _ (s .args .n) (c .before .before .before .before .before .left-at .ensures) (c .before .before .word-at .ensures) (s .args .fades) at (c .views-of .ensures)),
     )
 
 pub load-spec : {M : Type 1} → statement M
