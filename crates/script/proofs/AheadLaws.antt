@@ -11,7 +11,6 @@ use borrow.Author.Tests.{eqb-true, eqb-false, ne-eqb, ltb-true}
 use Rattle.words.specs.Word.{wordAt}
 use Rattle.words.specs.Bits.{bit}
 use Rattle.words.proofs.Truth.{and-l, and-r, cond-true, cond-false}
-use Rattle.words.specs.declared.Verdict.{Verdict}
 use Rattle.words.specs.Verdict.{verdict, between}
 use Rattle.words.proofs.VerdictLaws.{between-is, and-then-pass, single-pass}
 use Rattle.script.specs.declared.Scan.{Scan}
