@@ -59,7 +59,7 @@ module _ (S : Session) (ok : Accepted S) where
   module _ (i : ℕ) (below : i < size S) where
     -- ---- this read, and the one before: each entry is of the round that rule 3 gives
 
-    read-zero : (j : ℕ) → readRound S i 0 j ≡ 0
+    pub read-zero : (j : ℕ) → readRound S i 0 j ≡ 0
     unfolding readRound
     read-zero j = ⊎-elim (λ (t : ltb j (getD (S .setup .places) i 0) ≡ true). rw t) (λ (f : ltb j (getD (S .setup .places) i 0) ≡ false). rw f) (which _)
 
@@ -88,7 +88,7 @@ module _ (S : Session) (ok : Accepted S) where
 
     -- ---- rule 3: after alignment every entry is of the deciding round
 
-    own-place : (k : ℕ) → placeOf (state S i k) ≡ getD (S .setup .places) i 0
+    pub own-place : (k : ℕ) → placeOf (state S i k) ≡ getD (S .setup .places) i 0
     unfolding placeOf
     own-place k =
         let h = held S ok i below k in
@@ -101,7 +101,7 @@ module _ (S : Session) (ok : Accepted S) where
     pub own-size : (k : ℕ) → state S i k .setup .n ≡ size S
     own-size k = held S ok i below k .size-is
 
-    one-round : {A : Type 0} (k j : ℕ) → j < size S → (f : ℕ → A) (old new : A) → old ≡ f (readRound S i k j) → new ≡ f (readRound S i (suc k) j)
+    pub one-round : {A : Type 0} (k j : ℕ) → j < size S → (f : ℕ → A) (old new : A) → old ≡ f (readRound S i k j) → new ≡ f (readRound S i (suc k) j)
         → cond (fromPrevious (skewed (size S) (S .setup .places)) (getD (S .setup .places) i 0) j) old new ≡ f (suc k - u S)
     unfolding readRound
     one-round k j hj f old new p q =
