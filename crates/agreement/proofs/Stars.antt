@@ -30,6 +30,8 @@ use Rattle.image.specs.Check.{checkTail}
 use Rattle.changes.specs.Pending.{nothing, countedDown, pendingRoomy}
 use Rattle.changes.specs.Words.{leftOk, newTest, newWord}
 use Rattle.changes.specs.Books.{turned, counted, booksAfter}
+use Rattle.views.specs.Views.{noViews, freshViews}
+use Rattle.views.specs.Section.{viewsRoomy}
 use Rattle.presence.specs.Valid.{roomy, stateVerdict}
 use Rattle.rules.specs.Lag.{skewed}
 use Rattle.rules.specs.Hearing.{busWord, receptionOf, isHeard, heardRow, causeIn, entryOf, readingOf, causesOf}
@@ -40,25 +42,25 @@ use Rattle.rules.specs.Syndrome.{syndromeOf, votersOf, judgementOf, outgoingOf}
 use Rattle.accounts.specs.Account.{charged, rewarded, awaited, accounted}
 use Rattle.accounts.specs.Round.{accountedBy, accountAt, accountedAt, countersOf}
 use Rattle.presence.specs.Opening.{fresh, blank, checkOpening, openOf}
-use Rattle.presence.specs.Step.{placeOf, markOf, ownSyndrome, alignedFor, judgementFor, outgoingFor, afterRound, refusedStep, acceptedStep, readStep, stepOf}
+use Rattle.presence.specs.Step.{placeOf, markOf, ownSyndrome, alignedFor, judgementFor, outgoingFor, viewsFor, afterRound, refusedStep, acceptedStep, readStep, stepOf}
 use Rattle.agreement.specs.Fault.{differ, half, heard, halfIn, breakerIn, unheardIn, within, keptOver, limit}
 use Rattle.agreement.specs.Session.{made, Session, RuleFollower, Bound, size, u, follows, round, bitIn, wordIn, readRound, state, health, handed, sent, keptBy, kept}
 use Rattle.agreement.specs.Stars.{right, digits, bound, keptTo, TestsMean, starred, emptyCases, ownRowCases, boundCases, limitCases, struckCases, StarsRight}
 
 starred-right : right starred ≡ true
-unfolding wordAt bytesOf bit pack count any all lowest updated array bounded andThen outcome thenTests runWord runsOf fits toBits ofInt double doubles clearDoubles fadesIn limitsIn limitList setupBytes setupOf blankSetup moduleFits markFits whole headFits headOk limitOk moduleOk markOk moduleTest checkHead checkWords checkSetup setupRoomy roomVerdict setupVerdict skewed busWord receptionOf isHeard heardRow causeIn entryOf readingOf causesOf alignedOf decision tally voteOf healthOf differsAt accusationOf accusationsOf syndromeOf votersOf judgementOf outgoingOf charged rewarded awaited accounted accountedBy accountAt accountedAt countersOf rowFits ownNumberOk ownOk rowOk syndromeOk rowsRoomy counterOk countersRoomy checkTail roomy stateVerdict fresh blank checkOpening openOf placeOf markOf ownSyndrome alignedFor judgementFor outgoingFor afterRound refusedStep acceptedStep readStep stepOf differ half heard halfIn breakerIn unheardIn within keptOver limit bitIn wordIn readRound state health handed sent keptBy digits bound keptTo leftOk newTest pendingRoomy nothing newWord countedDown turned counted booksAfter made
+unfolding wordAt bytesOf bit pack count any all lowest updated array bounded andThen outcome thenTests runWord runsOf fits toBits ofInt double doubles clearDoubles fadesIn limitsIn limitList setupBytes setupOf blankSetup moduleFits markFits whole headFits headOk limitOk moduleOk markOk moduleTest checkHead checkWords checkSetup setupRoomy roomVerdict setupVerdict skewed busWord receptionOf isHeard heardRow causeIn entryOf readingOf causesOf alignedOf decision tally voteOf healthOf differsAt accusationOf accusationsOf syndromeOf votersOf judgementOf outgoingOf charged rewarded awaited accounted accountedBy accountAt accountedAt countersOf rowFits ownNumberOk ownOk rowOk syndromeOk rowsRoomy counterOk countersRoomy checkTail roomy stateVerdict freshViews noViews viewsRoomy fresh blank checkOpening openOf placeOf markOf ownSyndrome alignedFor judgementFor outgoingFor viewsFor afterRound refusedStep acceptedStep readStep stepOf differ half heard halfIn breakerIn unheardIn within keptOver limit bitIn wordIn readRound state health handed sent keptBy digits bound keptTo leftOk newTest pendingRoomy nothing newWord countedDown turned counted booksAfter made
 starred-right = refl
 
 others-right : right (emptyCases ++ (ownRowCases ++ boundCases)) ≡ true
-unfolding wordAt bytesOf bit pack count any all lowest updated array bounded andThen outcome thenTests runWord runsOf fits toBits ofInt double doubles clearDoubles fadesIn limitsIn limitList setupBytes setupOf blankSetup moduleFits markFits whole headFits headOk limitOk moduleOk markOk moduleTest checkHead checkWords checkSetup setupRoomy roomVerdict setupVerdict skewed busWord receptionOf isHeard heardRow causeIn entryOf readingOf causesOf alignedOf decision tally voteOf healthOf differsAt accusationOf accusationsOf syndromeOf votersOf judgementOf outgoingOf charged rewarded awaited accounted accountedBy accountAt accountedAt countersOf rowFits ownNumberOk ownOk rowOk syndromeOk rowsRoomy counterOk countersRoomy checkTail roomy stateVerdict fresh blank checkOpening openOf placeOf markOf ownSyndrome alignedFor judgementFor outgoingFor afterRound refusedStep acceptedStep readStep stepOf differ half heard halfIn breakerIn unheardIn within keptOver limit bitIn wordIn readRound state health handed sent keptBy digits bound keptTo leftOk newTest pendingRoomy nothing newWord countedDown turned counted booksAfter made
+unfolding wordAt bytesOf bit pack count any all lowest updated array bounded andThen outcome thenTests runWord runsOf fits toBits ofInt double doubles clearDoubles fadesIn limitsIn limitList setupBytes setupOf blankSetup moduleFits markFits whole headFits headOk limitOk moduleOk markOk moduleTest checkHead checkWords checkSetup setupRoomy roomVerdict setupVerdict skewed busWord receptionOf isHeard heardRow causeIn entryOf readingOf causesOf alignedOf decision tally voteOf healthOf differsAt accusationOf accusationsOf syndromeOf votersOf judgementOf outgoingOf charged rewarded awaited accounted accountedBy accountAt accountedAt countersOf rowFits ownNumberOk ownOk rowOk syndromeOk rowsRoomy counterOk countersRoomy checkTail roomy stateVerdict freshViews noViews viewsRoomy fresh blank checkOpening openOf placeOf markOf ownSyndrome alignedFor judgementFor outgoingFor viewsFor afterRound refusedStep acceptedStep readStep stepOf differ half heard halfIn breakerIn unheardIn within keptOver limit bitIn wordIn readRound state health handed sent keptBy digits bound keptTo leftOk newTest pendingRoomy nothing newWord countedDown turned counted booksAfter made
 others-right = refl
 
 limits-right : right limitCases ≡ true
-unfolding wordAt bytesOf bit pack count any all lowest updated array bounded andThen outcome thenTests runWord runsOf fits toBits ofInt double doubles clearDoubles fadesIn limitsIn limitList setupBytes setupOf blankSetup moduleFits markFits whole headFits headOk limitOk moduleOk markOk moduleTest checkHead checkWords checkSetup setupRoomy roomVerdict setupVerdict skewed busWord receptionOf isHeard heardRow causeIn entryOf readingOf causesOf alignedOf decision tally voteOf healthOf differsAt accusationOf accusationsOf syndromeOf votersOf judgementOf outgoingOf charged rewarded awaited accounted accountedBy accountAt accountedAt countersOf rowFits ownNumberOk ownOk rowOk syndromeOk rowsRoomy counterOk countersRoomy checkTail roomy stateVerdict fresh blank checkOpening openOf placeOf markOf ownSyndrome alignedFor judgementFor outgoingFor afterRound refusedStep acceptedStep readStep stepOf differ half heard halfIn breakerIn unheardIn within keptOver limit bitIn wordIn readRound state health handed sent keptBy digits bound keptTo leftOk newTest pendingRoomy nothing newWord countedDown turned counted booksAfter made
+unfolding wordAt bytesOf bit pack count any all lowest updated array bounded andThen outcome thenTests runWord runsOf fits toBits ofInt double doubles clearDoubles fadesIn limitsIn limitList setupBytes setupOf blankSetup moduleFits markFits whole headFits headOk limitOk moduleOk markOk moduleTest checkHead checkWords checkSetup setupRoomy roomVerdict setupVerdict skewed busWord receptionOf isHeard heardRow causeIn entryOf readingOf causesOf alignedOf decision tally voteOf healthOf differsAt accusationOf accusationsOf syndromeOf votersOf judgementOf outgoingOf charged rewarded awaited accounted accountedBy accountAt accountedAt countersOf rowFits ownNumberOk ownOk rowOk syndromeOk rowsRoomy counterOk countersRoomy checkTail roomy stateVerdict freshViews noViews viewsRoomy fresh blank checkOpening openOf placeOf markOf ownSyndrome alignedFor judgementFor outgoingFor viewsFor afterRound refusedStep acceptedStep readStep stepOf differ half heard halfIn breakerIn unheardIn within keptOver limit bitIn wordIn readRound state health handed sent keptBy digits bound keptTo leftOk newTest pendingRoomy nothing newWord countedDown turned counted booksAfter made
 limits-right = refl
 
 struck-right : right struckCases ≡ true
-unfolding wordAt bytesOf bit pack count any all lowest updated array bounded andThen outcome thenTests runWord runsOf fits toBits ofInt double doubles clearDoubles fadesIn limitsIn limitList setupBytes setupOf blankSetup moduleFits markFits whole headFits headOk limitOk moduleOk markOk moduleTest checkHead checkWords checkSetup setupRoomy roomVerdict setupVerdict skewed busWord receptionOf isHeard heardRow causeIn entryOf readingOf causesOf alignedOf decision tally voteOf healthOf differsAt accusationOf accusationsOf syndromeOf votersOf judgementOf outgoingOf charged rewarded awaited accounted accountedBy accountAt accountedAt countersOf rowFits ownNumberOk ownOk rowOk syndromeOk rowsRoomy counterOk countersRoomy checkTail roomy stateVerdict fresh blank checkOpening openOf placeOf markOf ownSyndrome alignedFor judgementFor outgoingFor afterRound refusedStep acceptedStep readStep stepOf differ half heard halfIn breakerIn unheardIn within keptOver limit bitIn wordIn readRound state health handed sent keptBy digits bound keptTo leftOk newTest pendingRoomy nothing newWord countedDown turned counted booksAfter made
+unfolding wordAt bytesOf bit pack count any all lowest updated array bounded andThen outcome thenTests runWord runsOf fits toBits ofInt double doubles clearDoubles fadesIn limitsIn limitList setupBytes setupOf blankSetup moduleFits markFits whole headFits headOk limitOk moduleOk markOk moduleTest checkHead checkWords checkSetup setupRoomy roomVerdict setupVerdict skewed busWord receptionOf isHeard heardRow causeIn entryOf readingOf causesOf alignedOf decision tally voteOf healthOf differsAt accusationOf accusationsOf syndromeOf votersOf judgementOf outgoingOf charged rewarded awaited accounted accountedBy accountAt accountedAt countersOf rowFits ownNumberOk ownOk rowOk syndromeOk rowsRoomy counterOk countersRoomy checkTail roomy stateVerdict freshViews noViews viewsRoomy fresh blank checkOpening openOf placeOf markOf ownSyndrome alignedFor judgementFor outgoingFor viewsFor afterRound refusedStep acceptedStep readStep stepOf differ half heard halfIn breakerIn unheardIn within keptOver limit bitIn wordIn readRound state health handed sent keptBy digits bound keptTo leftOk newTest pendingRoomy nothing newWord countedDown turned counted booksAfter made
 struck-right = refl
 
 pub stars-right : StarsRight

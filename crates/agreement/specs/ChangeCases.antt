@@ -36,6 +36,7 @@ offeringRun s offers hears rows = record {
   cast = 0;
   controller = λ k i j. not (leb k 2 && eqb j 1) && hears k i j;
   word = λ k i j. busWord (cond (leb k 3) (getD (15 ∷ 15 ∷ 13 ∷ 13 ∷ []) k 15) (rows k j));
+  view = λ k i j. 0;
   offers = offers;
 }
 

@@ -59,7 +59,7 @@ pub record SetUp (S : Session) (setup : List ℕ) : Type 0 where
 
 -- how long an image of the session is, with so many rounds left until a pending change takes effect
 abbrev pub lengthWith : Session → ℕ → ℕ
-lengthWith S left = imageLength (frontOf (S .setup)) (size S) left
+lengthWith S left = imageLength (frontOf (S .setup)) (size S) left (S .setup .partitionable)
 
 -- An opening into an output of the right length is accepted, without a page and with one.
 pub record Opens (S : Session) (setup : List ℕ) (i : ℕ) : Type 0 where

@@ -69,7 +69,8 @@ like n marks places =
 
 -- the rule-breakers, as a vector; who hears whom by round, receiver and sender; and the row sent by round and sender; no change is offered
 abbrev pub castSession : ℕ → Setup → (ℕ → ℕ → ℕ → Bool) → (ℕ → ℕ → ℕ) → Session
-castSession cast s hears rows = record { setup = s; cast = cast; controller = hears; word = λ k i j. busWord (rows k j); offers = λ k i. [] }
+castSession cast s hears rows =
+    record { setup = s; cast = cast; controller = hears; word = λ k i j. busWord (rows k j); view = λ k i j. 0; offers = λ k i. [] }
 
 -- the same where all follow the rules
 abbrev pub session : Setup → (ℕ → ℕ → ℕ → Bool) → (ℕ → ℕ → ℕ) → Session
@@ -284,6 +285,7 @@ twoWords = record {
   cast = 3;
   controller = allHeard;
   word = λ k i j. busWord (cond (eqb k 2 && (eqb i 2 && leb j 1)) 0 (full 16));
+  view = λ k i j. 0;
   offers = λ k i. [];
 }
 

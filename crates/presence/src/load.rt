@@ -19,7 +19,6 @@ use setup::read::load_setup;
 use views::Views;
 use views::after::no_views;
 use views::section::load_views;
-use words::bits::bit_at;
 use words::word::word_at;
 ghost use mathlib.Core.Path.{_≡_};
 ghost use mathlib.Core.Bool.{true};
@@ -42,12 +41,12 @@ struct Loaded {
     state: State,
 }
 
-// The views of an image, where its setup is partitionable.
-fn views_of(s: &[u8], front: usize, n: usize, left: u32) -> Views
-    requires { ⌜ (front ≤ 6) × (n ≤ 16) × (length (now s) ≡ imageLength front n left (partitionableIn (wordAt (now s) 0))) ⌝ }
-    ensures { λ r. ⌜ r ≡ viewsIn (partitionableIn (wordAt (now (s .entry)) 0)) (now (s .entry)) n (viewsAt front n left) ⌝ }
+// The views of an image, by head bit 5.
+fn views_of(s: &[u8], partitionable: bool, front: usize, n: usize, left: u32) -> Views
+    requires { ⌜ (front ≤ 6) × (n ≤ 16) × (length (now s) ≡ imageLength front n left partitionable) ⌝ }
+    ensures { λ r. ⌜ r ≡ viewsIn partitionable (now (s .entry)) n (viewsAt front n left) ⌝ }
 {
-    if bit_at(word_at(s, 0), 5) {
+    if partitionable {
         return load_views(s, n, views_at(front, n, left));
     }
     no_views()
@@ -90,8 +89,8 @@ fn load(s: &[u8], fades: bool, n: usize) -> Loaded
     let change = check_change(s, fades, n, at);
     let pending = load_change(s, n, at);
     let left = word_at(s, at);
-    let agreed = views_good(s, front, n, alone.view, left);
-    let views = views_of(s, front, n, left);
+    let agreed = views_good(s, setup.partitionable, front, n, alone.view, left);
+    let views = views_of(s, setup.partitionable, front, n, left);
     Loaded {
         good: alone.good & (read.good & (right & ((change.number == 0) & agreed))),
         state: State {

@@ -1,20 +1,24 @@
 -- Two sets of more than half of all n share a sender; so at most one value of a module, and one view, is carried by more than half.
-use mathlib.Core.Path.{_≡_, refl, sym, ap, ap₂, _∙_}
+use mathlib.Core.Path.{_≡_, refl, sym, ap, ap₂, _∙_, subst}
 use mathlib.Core.Bool.{Bool, true, false, cond, not, _&&_, _||_, Bool·beq}
 use mathlib.Core.Logic.{⊎-elim}
 use mathlib.Core.List.{List}
-use Prim.Native.Nat.{ℕ, _+_, _*_, _^_, _<_, _≤_}
+use Prim.Native.Nat.{ℕ, _+_, _*_, _%_, _^_, _<_, _≤_}
 use native.Mathlib.Omega.{arith}
+use native.Mathlib.Nat.{mod-lt}
 use lib.ListN.{getD}
-use lib.Dec.{eqb}
-use borrow.Author.Tests.{eqb-true, ltb-true, lt-ltb, le-ltb}
+use lib.Dec.{eqb, ltb}
+use lib.Pow.{pow-pos}
+use borrow.Author.Tests.{eqb-true, ne-eqb, ltb-true, lt-ltb, le-ltb}
 use Rattle.words.specs.Bits.{bit, pack}
 use Rattle.words.specs.Count.{count, any, all}
-use Rattle.words.proofs.Truth.{which, and-true, or-cases, or-l, or-r, clash}
-use Rattle.words.proofs.BitLaws.{bit-pack, bit-ext, bit-high, pack-lt}
+use Rattle.words.proofs.Truth.{which, and-true, or-cases, or-l, or-r, clash, beq-refl, cond-true, cond-false}
+use Rattle.words.proofs.BitLaws.{bit-pack, bit-ext, bit-high, bit-mod, pack-lt}
 use Rattle.words.proofs.CountLaws.{any-witness, any-none, count-mono, count-ext, count-le, count-split, all-at, all-intro}
+use Rattle.views.specs.ViewWord.{viewWordHeard, viewEntry}
 use Rattle.views.specs.Adoption.{isThere, carriers, mostOf, adoptable, adoptedFrom}
 use Rattle.views.specs.AdoptionMeans.{Carried, AdoptionMeans}
+use Rattle.views.proofs.ViewWordLaws.{entry-says}
 
 -- ---- counting
 
@@ -85,6 +89,14 @@ module _ (n : ℕ) (views : List ℕ) (j : ℕ) where
   one-value : carriers n views j true + carriers n views j false ≤ n
   one-value = omega (arith, carriers-both, count-le n (λ l. isThere (getD views l 0)))
 
+-- by the words that were sent and the controller bits with which they were read
+pub carriers-heard : (n : ℕ) (views : List ℕ) (on : ℕ → Bool) (sent : ℕ → ℕ) → ((l : ℕ) → l < n → getD views l 0 ≡ viewEntry n (on l) (sent l))
+    → (j : ℕ) (value : Bool) → carriers n views j value ≡ count n (λ l. (on l && viewWordHeard n (sent l)) && Bool·beq (bit (sent l) j) value)
+unfolding carriers
+carriers-heard n views on sent e j value =
+    count-ext n _ _
+    (λ l h. ap (λ (w : ℕ). isThere w && Bool·beq (bit w j) value) (e l h) ∙ entry-says n (on l) (sent l) (λ w. Bool·beq (bit w j) value))
+
 -- ---- what is adopted
 
 pub carried : (n : ℕ) (views : List ℕ) → adoptable n views ≡ true → Carried n views (adoptedFrom n views)
@@ -121,6 +133,20 @@ adopted-lt n views = pack-lt n _
 pub adoption-means : AdoptionMeans
 adoption-means = record { carried = carried; adopted = adopted; common = common }
 
+-- what more than half of all n senders send is adopted
+module _ (n : ℕ) (views : List ℕ) (w : ℕ) (some : w ≡ 0 → ⊥) (most : n < 2 * count n (λ l. eqb (getD views l 0) w)) where
+  same-carry : (j : ℕ) → count n (λ l. eqb (getD views l 0) w) ≤ carriers n views j (bit w j)
+  unfolding carriers
+  same-carry j =
+      count-mono n _ _
+      (λ l h t. subst (λ (x : ℕ). isThere x && Bool·beq (bit x j) (bit w j) ≡ true) (sym (eqb-true (getD views l 0) w t))
+      (and-true (isThere w) _ (ap not (ne-eqb w 0 some)) (beq-refl (bit w j))))
+
+  pub same-adopted : (adoptable n views ≡ true) × (adoptedFrom n views ≡ w % 2 ^ n)
+  same-adopted =
+      adopted n views (w % 2 ^ n) (mod-lt w (pow-pos n))
+      (λ j h. subst (λ (b : Bool). n < 2 * carriers n views j b) (sym (bit-mod n w j h)) (omega (arith, same-carry j)))
+
 -- ---- as the code counts
 
 pub count-end : {c j n : ℕ} (p : ℕ → Bool) → j ≡ n → c ≡ count j p → c ≡ count n p
@@ -133,3 +159,21 @@ zeros-by n views j t o z = omega (arith, carriers-both n views j)
 
 pub ones-le : {there one : ℕ} (n : ℕ) (views : List ℕ) (j : ℕ) → there ≡ count n (λ l. isThere (getD views l 0)) → one ≡ carriers n views j true → one ≤ there
 ones-le n views j t o = omega (arith, carriers-both n views j)
+
+-- the word that was found, if any
+pub common-by : {r votes l : ℕ} (n : ℕ) (views : List ℕ) (word : ℕ) → l ≡ n → votes ≡ count l (λ m. eqb (getD views m 0) word) → r ≡ cond (ltb n (2 * votes)) word 0
+    → (r ≡ 0 → ⊥) → n < 2 * count n (λ m. eqb (getD views m 0) r)
+common-by {votes = votes} n views word e c p f =
+    ⊎-elim
+    (λ (t : ltb n (2 * votes) ≡ true).
+    subst (λ (w : ℕ). n < 2 * count n (λ m. eqb (getD views m 0) w)) (sym (p ∙ cond-true word 0 t))
+    (omega (arith, ltb-true n (2 * votes) t, count-end (λ m. eqb (getD views m 0) word) e c)))
+    (λ (t : ltb n (2 * votes) ≡ false). absurd (f (p ∙ cond-false word 0 t)))
+    (which (ltb n (2 * votes)))
+
+-- and what it decides
+pub same-by : {size : ℕ} (n : ℕ) (views : List ℕ) (word : ℕ) → ((word ≡ 0 → ⊥) → n < 2 * count n (λ m. eqb (getD views m 0) word)) → (word ≡ 0 → ⊥) → size ≡ 2 ^ n
+    → (true ≡ adoptable n views) × (word % size ≡ adoptedFrom n views)
+same-by n views word c some e =
+    let (d, v) = same-adopted n views word some (c some) in
+    (sym d, ap (λ (s : ℕ). word % s) e ∙ sym v)

@@ -11,10 +11,11 @@ use Rattle.words.specs.Word.{wordAt}
 use Rattle.words.specs.Bits.{bit}
 use Rattle.words.specs.Array.{array, replaced, Filled}
 use Rattle.words.proofs.Truth.{and-l, and-r, and-true, cond-false}
+use Rattle.words.proofs.BitLaws.{bit-low}
 use Rattle.words.proofs.ArrayLaws.{clearFrom, array-at, array-ext, array-length, array-clear, array-filled, replaced-ahead, replaced-array}
 use Rattle.rules.specs.Alignment.{fromPrevious}
 use Rattle.rules.proofs.ReceptionLaws.{below-kind}
-use Rattle.views.specs.ViewWord.{viewWord, viewWordHeard, viewEntry, viewsRead, alignedViews}
+use Rattle.views.specs.ViewWord.{viewWord, viewWordHeard, viewEntry, readWords, viewsRead, alignedViews}
 use Rattle.views.specs.Adoption.{isThere}
 
 -- ---- which are heard
@@ -40,6 +41,22 @@ pub heard-some : (n w : ℕ) → viewWordHeard n w ≡ true → eqb w 0 ≡ fals
 heard-some n w t =
     let e = heard-view n w t .0 in
     ne-eqb w 0 (λ z. omega arith)
+
+-- its bits are those of the view
+pub view-bit : (v j : ℕ) → j < 28 → bit (viewWord v) j ≡ bit v j
+view-bit v j h =
+    let e : 10 * 2 ^ 28 + v ≡ v + 10 * 2 ^ 28 = omega arith in
+    ap (λ (w : ℕ). bit w j) e ∙ bit-low 10 v 28 j h
+
+-- ---- how many words a read has
+
+pub words-least : (b : Bool) (n : ℕ) → n ≤ readWords b n
+words-least true n = omega arith
+words-least false n = omega arith
+
+pub words-most : (b : Bool) (n : ℕ) → readWords b n ≤ n + n
+words-most true n = omega arith
+words-most false n = omega arith
 
 -- ---- what a read keeps
 
@@ -87,11 +104,11 @@ module _ (n : ℕ) (previous this : List ℕ) where
   aligned-at skew place j h small = array-at n _ j h small
 
   -- one number is enough: the read place, or 0 where reads are not skewed
-  pub aligned-by : (skew : Bool) (place : ℕ) {split : ℕ} → split ≡ cond skew place 0
+  pub split-aligned : (skew : Bool) (place : ℕ) {split : ℕ} → split ≡ cond skew place 0
       → array n (λ j. cond (ltb j split) (getD previous j 0) (getD this j 0)) ≡ alignedViews n skew place previous this
   unfolding alignedViews
-  aligned-by true place e = ap (λ (s : ℕ). array n (λ j. cond (ltb j s) (getD previous j 0) (getD this j 0))) e
-  aligned-by false place e =
+  split-aligned true place e = ap (λ (s : ℕ). array n (λ j. cond (ltb j s) (getD previous j 0) (getD this j 0))) e
+  split-aligned false place e =
       ap (λ (s : ℕ). array n (λ j. cond (ltb j s) (getD previous j 0) (getD this j 0))) e
       ∙ array-ext n (λ j. cond (ltb j 0) (getD previous j 0) (getD this j 0)) (λ j. getD this j 0) (λ j h. cond-false _ _ (le-ltb j 0 zero-le))
 

@@ -92,14 +92,14 @@ ok-small n w t =
 below : (v n : ℕ) → v < 2 ^ n → n ≤ 16 → v < 2 ^ 16
 below v n h l = omega (arith, pow-mono {i = n} {j = 16} l)
 
-pub fits-small : (b : Bool) (n : ℕ) (v : Views) → n ≤ 16 → ViewsFit b n v → ViewsSmall b n v
-fits-small true n v small f = record {
+pub small-views : (b : Bool) (n : ℕ) (v : Views) → n ≤ 16 → ViewsFit b n v → ViewsSmall b n v
+small-views true n v small f = record {
   word = λ j h. ok-small n (getD (v .words) j 0) (f .words j h);
   earlier = below (v .earlier) n (f .earlier) small;
   adopted = below (v .adopted) n (f .adopted) small;
   clear = f .clear;
 }
-fits-small false n v small f = f
+small-views false n v small f = f
 
 -- ---- at opening
 
@@ -173,6 +173,12 @@ module _ (n : ℕ) (v : Views) (voted this : List ℕ) (local : ℕ) where
   pub out-stays : v .out ≡ true → (viewsAfter n v voted this local .out ≡ true) × (viewsAfter n v voted this local .adopted ≡ v .adopted)
   unfolding viewsAfter
   out-stays t = (or-l (v .out) _ t, cond-true _ _ (or-l (v .out) _ t))
+
+  -- what decides nothing leaves the adopted view as it was, and takes the module out
+  pub undecided-stays : adoptable n voted ≡ false
+      → (viewsAfter n v voted this local .out ≡ true) × (viewsAfter n v voted this local .adopted ≡ v .adopted)
+  unfolding viewsAfter
+  undecided-stays f = (or-r (v .out) _ (ap not f), cond-true _ _ (or-r (v .out) _ (ap not f)))
 
   -- in after the step: in before it, and what was adopted is what the view words decide
   pub in-adopts : viewsAfter n v voted this local .out ≡ false

@@ -22,7 +22,7 @@ ghost use Rattle.views.specs.Views.{fullViews, viewsAfter};
 ghost use Rattle.views.specs.Section.{viewsIn, viewRuns};
 
 // The view words of a saved state, in an array that is lent as zeros.
-pub fn load_view_words(s: &[u8], n: usize, at: usize, words: &mut [u32; 16])
+pub(crate) fn load_view_words(s: &[u8], n: usize, at: usize, words: &mut [u32; 16])
     requires { ⌜ (n ≤ 16) × (at < 2 ^ 16) × ((at + n) * 4 ≤ length (now s)) × (now words ≡ array 0 (λ _. 0)) ⌝ }
     ensures { λ _. ⌜ now (words .exit) ≡ array n (λ j. wordAt (now (s .entry)) (at + j)) ⌝ }
 {

@@ -2,7 +2,7 @@
 // state.
 //
 // This file has what a module holds of views. Entries and bits of module j + 1 stand at j; those from n on are 0.
-pub mod adopt;
+mod adopt;
 pub mod after;
 pub mod lent;
 pub mod read;

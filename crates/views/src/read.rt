@@ -48,7 +48,7 @@ pub fn views_seen(partitionable: bool, n: usize, read: &[u8], controller: u32) -
 
 // The view words of the round that is voted on, in `views`, which holds those of the previous read: below `split` they stay, the others are of this
 // read.
-pub fn align_views(n: usize, split: u32, views: &mut [u32; 16], this: &[u32; 16])
+pub(crate) fn align_views(n: usize, split: u32, views: &mut [u32; 16], this: &[u32; 16])
     requires { ⌜ (n ≤ 16) × Filled n (now views) ⌝ }
     ensures { λ _. ⌜ now (views .exit) ≡ array n (λ j. cond (ltb j split) (getD (now (views .entry)) j 0) (getD (now (this .entry)) j 0)) ⌝ }
 {

@@ -14,7 +14,7 @@ pub fn view_word(v: u32) -> u32
 }
 
 // Whether a word is of kind 10, without bits at n or above.
-pub fn view_heard(n: usize, w: u32) -> bool
+pub(crate) fn view_heard(n: usize, w: u32) -> bool
     requires { ⌜ n ≤ 16 ⌝ }
     ensures { λ r. ⌜ r ≡ viewWordHeard n w ⌝ }
 {

@@ -1,5 +1,5 @@
--- Full views are written: the words of the definition's array.
-use mathlib.Core.Path.{_≡_, sym, subst, ap, _∙_}
+-- The words of full views, written as any views are.
+use mathlib.Core.Path.{_≡_, sym, ap, subst, _∙_}
 use mathlib.Core.Bool.{true}
 use Prim.Native.Nat.{ℕ, _^_, _<_}
 use Rattle.words.specs.Runs.{putRuns}
@@ -14,7 +14,8 @@ use Rattle.views.proofs.lent.save_full.Tie as tie
 
 view-word-requires : tie.Need-view-word-requires
 view-word-requires c κs =
-    subst (λ (v : ℕ). v < 2 ^ 28) (sym (c .before .pre .1)) (below-kind _ _ (c .before .pre .0) (full-lt _))
+    let a = c .before in
+    subst (λ (v : ℕ). v < 2 ^ 28) (sym (a .pre .1)) (below-kind _ _ (a .pre .0) (full-lt _))
 
 filled-requires : tie.Need-filled-requires
 filled-requires c κs = search needs
@@ -27,10 +28,13 @@ same-length c = search needs
 
 returns : tie.Need-returns
 returns c =
-    let s = c .before .before .before .before .before .before .before .before in
+    let d = c .before .before .before .before .before in
+    let a = d .before .before .before in
     c .before .before .save-view-words .ensures
-    ∙ ap (λ (v : Views). putRuns (s .args .out .now) (s .args .at) (viewRuns true (s .args .n) (s .args .full) v))
-    (full-by (s .args .n) (s .pre .1) (c .before .before .before .before .before .before .view-word .ensures) (c .before .before .before .before .before .filled .ensures))
+    ∙ ap (λ (v : Views). putRuns (a .args .out .now) (a .args .at) (viewRuns true (a .args .n) (a .args .full) v))
+    (full-by (a .args .n) (a .pre .1) (d .before .view-word .ensures) (d .filled .ensures))
 
 pub save-full-spec : {M : Type 1} → statement M
-save-full-spec = tie.close (tie.spec view-word-requires filled-requires save-view-words-requires same-length returns)
+save-full-spec =
+    tie.close
+    (tie.spec view-word-requires filled-requires save-view-words-requires same-length returns)

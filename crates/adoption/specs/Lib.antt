@@ -1,0 +1,3 @@
+pub mod Adopts
+pub mod Adoption
+pub mod AdoptedViews
