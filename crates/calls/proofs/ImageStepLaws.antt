@@ -10,7 +10,7 @@ use Rattle.words.specs.Word.{wordAt}
 use Rattle.words.specs.Array.{array, Filled}
 use Rattle.words.specs.Runs.{one, putRuns}
 use borrow.Author.Tests.{eqb-true, eqb-false}
-use Rattle.words.proofs.Truth.{cond-true, not-both, not-neither, or-false-l, or-false-r}
+use Rattle.words.proofs.Truth.{not-both, not-neither, or-false-l, or-false-r}
 use Rattle.words.proofs.ArrayLaws.{array-at, array-filled}
 use Rattle.words.proofs.CountLaws.{any-ext}
 use Rattle.words.proofs.WordLaws.{word-lt}
@@ -32,11 +32,10 @@ use Rattle.changes.specs.Books.{turned, counted, booksAfter}
 use Rattle.changes.specs.Words.{changeRuns}
 use Rattle.changes.specs.declared.Books.{Books}
 use Rattle.changes.proofs.TurnLaws.{turned-both, turned-left, turned-size, turned-partitionable, turned-fades, turned-setup-fits, turned-kept}
-use Rattle.views.specs.ViewWord.{readWords, viewsRead, viewsSeen, alignedViews}
+use Rattle.views.specs.ViewWord.{readWords, viewsRead, viewsSeen}
 use Rattle.views.specs.Views.{viewsAfter}
 use Rattle.views.specs.Section.{viewsIn, viewRuns}
 use Rattle.views.specs.declared.Views.{Views}
-use Rattle.views.proofs.ViewWordLaws.{aligned-by}
 use Rattle.image.specs.Layout.{ownAt, leftAt, viewsAt, imageLength}
 use Rattle.image.specs.Words.{ownWord, syndromeWord}
 use Rattle.image.specs.Rows.{rowRun, readingIn}
@@ -49,14 +48,14 @@ use Rattle.image.specs.declared.ImagePart.{ImagePart}
 use Rattle.image.proofs.CounterLaws.{within-kept}
 use Rattle.image.proofs.LentLaws.{lent-small, lent-first, lent-second, filled-lent}
 use Rattle.image.proofs.TailLaws.{image-pass}
-use Rattle.presence.specs.Step.{skewOf, placeOf, ownSyndrome, readLength, seenBy, alignedFor, judgementFor, booksOf, votedViews, viewsFor, afterRound, refusedStep, acceptedStep, readStep, stepOf}
+use Rattle.presence.specs.Step.{skewOf, placeOf, ownSyndrome, readLength, seenBy, alignedFor, judgementFor, booksOf, afterRound, refusedStep, acceptedStep, readStep, stepOf}
 use Rattle.presence.specs.Image.{stateRuns, imageOf, stateOf, stateLength}
 use Rattle.presence.specs.declared.State.{State}
 use Rattle.presence.specs.declared.Stepped.{Stepped}
 use Rattle.presence.proofs.ImageState.{view-in, image-state}
 use Rattle.presence.proofs.ValidLaws.{StateFits, fits-valid, after-fits}
 use Rattle.presence.proofs.SmallLaws.{Small, valid-small}
-use Rattle.presence.proofs.StateRoundLaws.{in-range, read-length as read-nine, read-controller, read-taken, step-of}
+use Rattle.presence.proofs.StateRoundLaws.{in-range, views-made, read-length as read-nine, read-controller, read-taken, step-of}
 use Rattle.presence.proofs.StateWords.{viewsOf}
 use Rattle.presence.proofs.SaveLaws.{lent-state, image-written}
 use Rattle.calls.specs.Held.{HeldBy, CountedBy, LentRange, keptView, keptFirst, keptSecond, keptReturns}
@@ -267,7 +266,7 @@ module _ (s : List ℕ) (ok : checkImage s .number ≡ 0) where
           judged-is en (h .view) (h .skew) (place-is (ef ∙ ap frontWords eb) (h .own) ep) (h .heard) (h .rows)
           (eo ∙ ap₂ (λ (u v : ℕ). cond (part .skew) u v) (h .earlier) (h .latest))
 
-      -- the views that are held, those of this read and those that are voted on, of a setup that is partitionable
+      -- the views that are held and those of this read, of a setup that is partitionable
       held-views : {front : ℕ} → front ≡ frontWords b → st .setup .partitionable ≡ true → viewsIn true s n (viewsAt front n (part .left)) ≡ st .views
       unfolding stateOf setupOf
       held-views ef t =
@@ -276,14 +275,6 @@ module _ (s : List ℕ) (ok : checkImage s .number ≡ 0) where
       read-seen : st .setup .partitionable ≡ true → viewsRead n read controller ≡ seen
       unfolding viewsSeen
       read-seen t = ap (λ (m : ℕ). viewsRead m read controller) en ∙ ap (λ (d : Bool). viewsSeen d size read controller) (sym t)
-
-      voted-is : {place split : ℕ} {v : Views} {this : List ℕ} → v ≡ st .views → this ≡ seen → place ≡ placeOf st → split ≡ cond (part .skew) place 0
-          → array n (λ j. cond (ltb j split) (getD (v .words) j 0) (getD this j 0)) ≡ votedViews st seen
-      unfolding votedViews
-      voted-is {place} ev et ep es =
-          (λ i. array (en i) (λ j. cond (ltb j (es i)) (getD (ev i .words) j 0) (getD (et i) j 0)))
-          ∙ aligned-by size (st .views .words) seen (part .skew) place refl
-          ∙ ap₂ (λ (skew : Bool) (l : ℕ). alignedViews size skew l (st .views .words) seen) (h .skew) ep
 
       -- what writing them asks
       pub views-asked : {front long same : ℕ} {t : Bool} → front ≡ frontWords b → t ≡ st .setup .partitionable → t ≡ true → length read ≡ readWords t n * 4
@@ -371,15 +362,15 @@ module _ (s : List ℕ) (ok : checkImage s .number ≡ 0) where
             (array n (λ j. cond (ltb j split) (getD (viewsIn true s n (viewsAt front n (part .left)) .words) j 0) (getD (viewsRead n read controller) j 0)))
             (viewsRead n read controller) (part .view)))
             → q′ ≡ putRuns q (viewsAt (frontWords b) n (next .pending .left)) (viewsOf next)
-        unfolding afterRound booksAfter counted viewsFor
+        unfolding afterRound booksAfter counted
         some-put {front} {place} {split} {t} {q′} q et e ef ep es eq =
             let parted : st .setup .partitionable ≡ true = sym et ∙ e in
             let held : Views = viewsIn true s n (viewsAt front n (part .left)) in
             let in-state : held ≡ st .views = held-views ef parted in
             let seen-is : viewsRead n read controller ≡ seen = read-seen parted in
-            let voted = voted-is in-state seen-is (place-is (ef ∙ ap frontWords eb) (h .own) ep) es in
             let after : viewsAfter n held (array n (λ j. cond (ltb j split) (getD (held .words) j 0) (getD (viewsRead n read controller) j 0))) (viewsRead n read controller) (part .view) ≡ next .views =
-            (λ i. viewsAfter (en i) (in-state i) (voted i) (seen-is i) (h .view i)) ∙ sym (cond-true _ _ parted)
+            views-made st seen (h .skew) (place-is (ef ∙ ap frontWords eb) (h .own) ep) es
+            (λ i. viewsAfter (en i) (in-state i) (array (en i) (λ j. cond (ltb j split) (getD (in-state i .words) j 0) (getD (seen-is i) j 0))) (seen-is i) (h .view i)) parted
             in
             let left : part .left - 1 ≡ next .pending .left = ap (λ (x : ℕ). x - 1) (h .left) ∙ sym (turned-left (booksOf st)) in
             eq ∙ (λ i. putRuns q (viewsAt (ef i) n (left i)) (viewRuns ((sym parted ∙ sym same-parted) i) (here i) (view-next i) (after i)))

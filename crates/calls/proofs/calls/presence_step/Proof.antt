@@ -1,16 +1,16 @@
 -- An image that passes is read into lent arrays, a change that is due made on them, its round made, and the next image written.
 use native.Mathlib.Omega.{arith}
 use mathlib.Core.Path.{_≡_, refl, ap, _∙_, sym}
-use mathlib.Core.Bool.{Bool, true, false}
+use mathlib.Core.Bool.{Bool}
 use mathlib.Core.List.{List}
-use Prim.Native.Nat.{ℕ, _+_, _*_, _≤_}
+use Prim.Native.Nat.{ℕ, _*_}
 use lib.ListN.{length}
 use borrow.Author.Tests.{not-false}
 use Rattle.words.proofs.ArrayLaws.{array-none}
 use Rattle.words.specs.Word.{wordAt}
 use Rattle.setup.specs.Layout.{frontWords}
 use Rattle.setup.specs.Setup.{partitionableIn, fadesIn, frontIn}
-use Rattle.views.specs.ViewWord.{readWords}
+use Rattle.views.proofs.ViewWordLaws.{words-most}
 use Rattle.image.specs.Layout.{leftAt, imageLength}
 use Rattle.image.proofs.ImageAnswers.{size-refused, size-fits, size-return}
 use Rattle.image.proofs.TailLaws.{image-pass}
@@ -58,11 +58,6 @@ read-words-requires c κs = size-fits _ (c .before .before .before .before .befo
 image-length-requires : tie.Need-image-length-requires
 image-length-requires c κs =
     (c .before .front-words .ensures .2, size-fits _ (c .before .before .before .before .before .before .before .before .before .before .before .before .before .before .image-size .ensures) (c .before .before .before .before .before .before .before .before .before .before .before .before .before .if1 .left) .0)
-
--- a read has at most 2N words
-words-most : (t : Bool) (n : ℕ) → readWords t n ≤ n + n
-words-most true n = omega arith
-words-most false n = omega arith
 
 mul-if3 : tie.Need-mul-if3
 mul-if3 c = omega (arith, size-fits _ (c .before .before .before .before .before .before .before .before .before .before .before .before .before .before .before .before .image-size .ensures) (c .before .before .before .before .before .before .before .before .before .before .before .before .before .before .before .if1 .left) .0, words-most (c .before .before .before .before .bit-at .result) (c .before .before .before .before .before .before .before .before .before .before .before .before .before .before .before .before .image-size .result), c .read-words .ensures)

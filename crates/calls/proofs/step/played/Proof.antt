@@ -1,12 +1,11 @@
 -- What is lent holds the state and the books; the parts are its round, and what they write is the next image.
 use native.Mathlib.Omega.{arith}
-use Prim.Native.Nat.{ℕ, _*_, _≤_}
-use mathlib.Core.Path.{_≡_, ap, _∙_, sym}
-use mathlib.Core.Bool.{Bool, true, false}
+use Prim.Native.Nat.{ℕ}
+use mathlib.Core.Path.{ap, _∙_, sym}
 use Rattle.words.proofs.ArrayLaws.{array-none}
 use Rattle.setup.specs.Layout.{frontWords}
 use Rattle.rules.specs.Hearing.{readingOf}
-use Rattle.views.specs.ViewWord.{readWords}
+use Rattle.views.proofs.ViewWordLaws.{words-least}
 use Rattle.presence.specs.Step.{judgementFor}
 use Rattle.presence.specs.Image.{stateOf}
 use Rattle.rules.specs.declared.Judgement.{Judgement}
@@ -16,11 +15,6 @@ use Rattle.calls.proofs.ImageStepLaws.{fits, place-is, own-place, small
 use borrow.Author.Needs.{needs}
 use Rattle.calls.proofs.step.played.Statement.{statement}
 use Rattle.calls.proofs.step.played.Tie as tie
-
--- a read of 2N words has N
-wide : {k : ℕ} (t : Bool) (n : ℕ) → k ≡ readWords t n * 4 → n * 4 ≤ k
-wide true n e = omega arith
-wide false n e = omega arith
 
 sub-place-in : tie.Need-sub-place-in
 sub-place-in c =
@@ -40,7 +34,7 @@ judged-read-requires c κs =
       small-size _ (a .0) (a .3) (a .1) (a .2),
       small-view _ (a .0) (a .3) (a .1) (a .2),
       place-small _ (fits _ (a .0)) (place-is _ (a .0) (f ∙ ap frontWords (a .2)) (a .3 .own) (c .before .before .before .place-in .ensures)),
-      wide (s .args .partitionable) (s .args .n) (s .pre .1 .1),
+      omega (arith, s .pre .1 .1, words-least (s .args .partitionable) (s .args .n)),
       filled-rows _ (a .0) (a .3) (a .1) (a .2),
       array-none _,
     )
