@@ -159,6 +159,7 @@ pub extern "C" fn presence_step(
     let health = played(
         image,
         fades,
+        partitionable,
         n,
         part,
         limits,
