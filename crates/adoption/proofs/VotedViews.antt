@@ -1,24 +1,22 @@
 -- The view words that a step of a session votes on: after alignment each is of round k - u, as it is heard there.
-use Prim.Native.Nat.{ℕ, zero, suc, _+_, _-_, _*_, _<_}
-use mathlib.Core.Path.{_≡_, refl, sym, ap, ap₂, _∙_}
-use mathlib.Core.Bool.{Bool, true, cond, _&&_, Bool·beq}
+use Prim.Native.Nat.{ℕ, zero, suc, _-_, _<_}
+use mathlib.Core.Path.{_≡_, sym, ap, ap₂, _∙_}
+use mathlib.Core.Bool.{Bool, true, _&&_, Bool·beq}
 use mathlib.Core.List.{List}
-use native.Mathlib.Omega.{arith}
 use lib.ListN.{getD}
 use Rattle.words.specs.Bits.{bit, full}
-use Rattle.words.specs.Count.{count}
 use Rattle.words.proofs.Truth.{cond-true}
 use Rattle.words.proofs.BitLaws.{bit-pack, full-lt}
 use Rattle.words.proofs.CountLaws.{count-ext}
 use Rattle.words.proofs.ArrayLaws.{array-at}
 use Rattle.rules.specs.Lag.{skewed}
-use Rattle.views.specs.ViewWord.{viewWord, viewWordHeard, viewEntry, viewsRead, viewsSeen, alignedViews}
+use Rattle.views.specs.ViewWord.{viewWord, viewEntry, viewsRead, viewsSeen}
 use Rattle.views.specs.Adoption.{isThere, carriers}
 use Rattle.views.specs.Views.{fullViews, noViews, freshViews, viewsAfter}
 use Rattle.views.specs.declared.Views.{Views}
 use Rattle.views.proofs.ViewWordLaws.{view-heard, entry-says, views-at, aligned-at}
 use Rattle.presence.specs.Opening.{fresh}
-use Rattle.presence.specs.Step.{skewOf, placeOf, votedViews, viewsFor}
+use Rattle.presence.specs.Step.{votedViews, viewsFor}
 use Rattle.presence.specs.declared.State.{State}
 use Rattle.agreement.specs.Session.{Session, Accepted, Partitionable, size, u, bitIn, viewWordIn, hearsView, readRound, readBits, readBytes, state, viewOf}
 use Rattle.agreement.proofs.Steps.{seen, read-view, small, held, state-zero, views-suc}
