@@ -1,10 +1,9 @@
 -- Rules 1 to 8 and a change of limits see nothing of views: by computation, but for what is read and for head bit 5 in the setups.
-use Prim.Native.Nat.{ℕ, zero, suc, _+_, _-_, _≤_, _<_}
+use Prim.Native.Nat.{ℕ, zero, suc, _+_, _-_, _<_}
 use mathlib.Core.Path.{_≡_, refl, sym, ap, ap₂, _∙_, subst}
 use mathlib.Core.Bool.{Bool, true, false, cond, not, _&&_, Bool·beq}
 use mathlib.Core.List.{List, [], _∷_}
 use native.Mathlib.Omega.{arith}
-use lib.Dec.{eqb}
 use borrow.Author.Tests.{eq-eqb, eqb-true}
 use Rattle.words.specs.Bits.{bit, full}
 use Rattle.words.specs.Word.{wordAt}
@@ -37,7 +36,7 @@ use Rattle.presence.specs.Step.{placeOf, markOf, ownSyndrome, alignedFor, judge
 use Rattle.presence.specs.Change.{newVerdict, changeVerdict, withPending, changeOf}
 use Rattle.presence.specs.declared.State.{State}
 use Rattle.presence.proofs.ValidLaws.{StateFits, fits-valid}
-use Rattle.agreement.specs.Fault.{Round, firstFollower, limit}
+use Rattle.agreement.specs.Fault.{firstFollower, limit}
 use Rattle.agreement.specs.Session.{Offer, made, Session, Accepted, Partitionable, size, u, follows, bitIn, wordIn, round, readRound, readBits, readBytes, state, ready, health, handed, viewOf, keptBy, kept}
 use Rattle.agreement.proofs.Offers.{change-fits}
 use Rattle.agreement.proofs.Steps.{reading, seen, read-word, setup-fits, held, ready-held, ready-is, state-zero, state-suc, health-suc, handed-suc}

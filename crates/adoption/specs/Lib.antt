@@ -2,3 +2,4 @@ pub mod Adopts
 pub mod Adoption
 pub mod AdoptedViews
 pub mod SyndromesAlone
+pub mod Cases

@@ -1,6 +1,6 @@
 -- "The rules, and demand 3, go on with the local view", and "demand 3 and the fault limit go by the syndromes alone": but for its views a module holds what
 -- it would hold without head bit 5 and without view words. (document 02, E11) Proved in proofs/SyndromesAlone.antt.
-use Prim.Native.Nat.{ℕ, suc, _≤_, _<_}
+use Prim.Native.Nat.{ℕ, _<_}
 use mathlib.Core.Path.{_≡_}
 use mathlib.Core.Bool.{not}
 use mathlib.Core.List.{List, [], _∷_}
