@@ -1,10 +1,8 @@
--- The table of torn cables is right, entry by entry: computed. Its tests mean what they stand for.
-use Prim.Native.Nat.{ℕ, zero, suc}
+-- The table of torn cables is right, entry by entry: computed. Its test means what it stands for.
+use Prim.Native.Nat.{ℕ}
 use mathlib.Core.Path.{_≡_, refl}
 use mathlib.Core.Bool.{Bool, true, false, not, _&&_, _||_}
 use mathlib.Core.Logic.{⊎-elim}
-use native.Mathlib.Omega.{arith}
-use native.Mathlib.Nat.{zero-lt-suc, not-suc-le-zero}
 use lib.Dec.{eqb}
 use lib.Ieee.{fits, toBits, ofInt}
 use borrow.Author.Tests.{eqb-true, eq-eqb}
@@ -44,10 +42,10 @@ use Rattle.accounts.specs.Account.{charged, rewarded, awaited, accounted}
 use Rattle.accounts.specs.Round.{accountedBy, accountAt, accountedAt, countersOf}
 use Rattle.presence.specs.Opening.{fresh, blank, checkOpening, openOf}
 use Rattle.presence.specs.Step.{placeOf, markOf, ownSyndrome, alignedFor, judgementFor, outgoingFor, votedViews, viewsFor, outgoingView, afterRound, refusedStep, acceptedStep, readStep, stepOf}
-use Rattle.agreement.specs.Session.{made, Session, Partitionable, size, follows, RuleFollower, BoundViews, bitIn, wordIn, viewWordIn, hearsView, readRound, state, handed, sent, viewWordHanded, viewWordSent}
-use Rattle.agreement.specs.Stars.{right, digits, bound}
+use Rattle.agreement.specs.Session.{made, Session, size, follows, RuleFollower, bitIn, wordIn, viewWordIn, hearsView, readRound, state, handed, sent, viewWordHanded, viewWordSent}
+use Rattle.agreement.specs.Stars.{right, digits, bound, boundViews}
 use Rattle.adoption.specs.Adopts.{OneFaced}
-use Rattle.adoption.specs.Cases.{boundViews, oneFaced, TornTestsMean, tornCases, presentCases, toldCases, lateCases, fewCases, formCases, TornCablesRight}
+use Rattle.adoption.specs.Cases.{oneFaced, FacedMeans, tornCases, presentCases, toldCases, lateCases, fewCases, formCases, TornCablesRight}
 
 torn-right : right tornCases ≡ true
 unfolding wordAt bytesOf bit pack count any all lowest updated array bounded andThen outcome thenTests runWord runsOf fits toBits ofInt double doubles clearDoubles limitList setupBytes blankSetup moduleFits markFits headFits limitOk moduleOk markOk moduleTest checkWords setupRoomy roomVerdict setupVerdict skewed busWord receptionOf isHeard heardRow causeIn entryOf readingOf causesOf alignedOf decision tally voteOf healthOf differsAt accusationOf accusationsOf syndromeOf votersOf judgementOf outgoingOf charged rewarded awaited accounted accountedBy accountAt accountedAt countersOf rowFits ownNumberOk ownOk rowOk syndromeOk rowsRoomy counterOk countersRoomy checkTail roomy stateVerdict freshViews noViews viewsRoomy fresh blank checkOpening openOf placeOf markOf ownSyndrome alignedFor judgementFor outgoingFor viewsFor afterRound refusedStep acceptedStep readStep stepOf bitIn wordIn readRound state handed sent digits bound leftOk newTest pendingRoomy nothing newWord countedDown turned counted booksAfter made viewWordHeard viewEntry viewsRead viewsSeen alignedViews carriers adoptable adoptedFrom fullViews viewsAfter viewOk votedViews outgoingView viewWordIn hearsView viewWordHanded viewWordSent boundViews oneFaced fadesIn
@@ -83,43 +81,9 @@ torn-cables-right = record {
   forms = forms-right;
 }
 
--- ---- the tests
+-- ---- the test of view words with one face
 
 module _ (S : Session) where
-  -- a rule-follower's view word, heard by a rule-follower
-  abbrev asked : ℕ → ℕ → ℕ → Bool
-  asked k i l = follows S i && (follows S l && hearsView S (suc k) i l)
-
-  abbrev wordTest : ℕ → ℕ → ℕ → Bool
-  wordTest k i l = not (asked k i l) || eqb (viewWordIn S (suc k) i l) (viewWordSent S l (suc k))
-
-  word-bound : (k i l : ℕ) → RuleFollower S i → RuleFollower S l → hearsView S (suc k) i l ≡ true → wordTest k i l ≡ true
-      → viewWordIn S (suc k) i l ≡ viewWordSent S l (suc k)
-  word-bound k i l fi fl h t =
-      let a = fi .true-to in
-      let b = fl .true-to in
-      eqb-true (viewWordIn S (suc k) i l) (viewWordSent S l (suc k)) (rw (a, b, h) at t)
-
-  bound-true : (last : ℕ) → boundViews S last ≡ true → BoundViews S last
-  unfolding boundViews
-  bound-true last t set zero i l p le fi fl h = absurd (not-suc-le-zero p)
-  bound-true last t set (suc k) i l p le fi fl h =
-      word-bound k i l fi fl h
-      (all-at (size S) (wordTest k i) (all-at (size S) (λ i. all (size S) (wordTest k i))
-      (all-at last (λ k. all (size S) (λ i. all (size S) (wordTest k i))) t k (omega arith)) i (fi .below)) l (fl .below))
-
-  true-bound : Partitionable S → (last : ℕ) → BoundViews S last → boundViews S last ≡ true
-  unfolding boundViews
-  true-bound set last B =
-      all-intro last _ (λ k hk. all-intro (size S) _ (λ i hi. all-intro (size S) (wordTest k i) (λ l hl.
-      ⊎-elim
-      (λ (t : asked k i l ≡ true).
-      let fi : RuleFollower S i = record { below = hi; true-to = and-l (follows S i) _ t } in
-      let t′ = and-r (follows S i) _ t in
-      let fl : RuleFollower S l = record { below = hl; true-to = and-l (follows S l) _ t′ } in
-      or-r (not (asked k i l)) _ (eq-eqb _ _ (B set (suc k) i l (zero-lt-suc k) (omega arith) fi fl (and-r (follows S l) _ t′))))
-      (λ (f : asked k i l ≡ false). rw f) (which (asked k i l)))))
-
   -- two rule-followers that hear the view word of a sender
   abbrev both : ℕ → ℕ → ℕ → ℕ → Bool
   both ρ i l j = (follows S i && follows S l) && (hearsView S ρ i j && hearsView S ρ l j)
@@ -154,8 +118,5 @@ module _ (S : Session) where
       or-r (not (both ρ i l j)) _ (eq-eqb _ _ (one i l j fi fl hj (and-l (hearsView S ρ i j) _ h) (and-r (hearsView S ρ i j) _ h))))
       (λ (f : both ρ i l j ≡ false). rw f) (which (both ρ i l j)))))
 
-pub torn-tests-mean : TornTestsMean
-torn-tests-mean = record {
-  bound-means = λ S set k. (bound-true S k, true-bound S set k);
-  faced-means = λ S ρ. (faced-true S ρ, true-faced S ρ);
-}
+pub faced-means : FacedMeans
+faced-means S ρ = (faced-true S ρ, true-faced S ρ)

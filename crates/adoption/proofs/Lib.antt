@@ -1,4 +1,3 @@
-pub mod VotedViews
 pub mod Adoption
 pub mod AdoptedViews
 pub mod SyndromesAlone

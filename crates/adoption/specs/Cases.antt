@@ -18,8 +18,8 @@ use Rattle.views.specs.Adoption.{isThere, carriers, mostOf, adoptable, adoptedF
 use Rattle.presence.specs.Opening.{openOf}
 use Rattle.presence.specs.Step.{votedViews}
 use Rattle.presence.specs.declared.State.{State}
-use Rattle.agreement.specs.Session.{Session, Partitionable, size, follows, BoundViews, round, viewWordIn, hearsView, readBits, readBytes, answerAt, state, viewWordSent, viewOf}
-use Rattle.agreement.specs.Stars.{Case, case, test, right, digits, bound}
+use Rattle.agreement.specs.Session.{Session, size, follows, round, viewWordIn, hearsView, readBits, readBytes, answerAt, state, viewOf}
+use Rattle.agreement.specs.Stars.{Case, case, test, right, digits, bound, boundViews}
 use Rattle.adoption.specs.Adopts.{isOut, adoptedView, OneFaced}
 
 -- ---- setups, sessions and tests
@@ -34,14 +34,6 @@ abbrev pub tornSession : Setup → ℕ → (ℕ → ℕ → ℕ → Bool) → (�
 tornSession s cast hears rows views =
     record { setup = s; cast = cast; controller = hears; word = λ k i j. busWord (rows k j); view = λ k i j. viewWord (views k i j); offers = λ k i. [] }
 
--- every view word of a rule-follower that a rule-follower heard is the one that was sent, up to round `last`
-unfoldable pub boundViews : Session → ℕ → Bool
-boundViews S last =
-    all last
-    (λ k. all (size S)
-    (λ i. all (size S)
-    (λ l. not (follows S i && (follows S l && hearsView S (suc k) i l)) || eqb (viewWordIn S (suc k) i l) (viewWordSent S l (suc k)))))
-
 -- no sender gives two rule-followers different view words in round ρ
 unfoldable pub oneFaced : Session → ℕ → Bool
 oneFaced S ρ =
@@ -50,10 +42,9 @@ oneFaced S ρ =
     (λ l. all (size S)
     (λ j. not ((follows S i && follows S l) && (hearsView S ρ i j && hearsView S ρ l j)) || eqb (viewWordIn S ρ i j) (viewWordIn S ρ l j))))
 
--- What these two tests mean: each passes exactly if what it stands for holds.
-pub record TornTestsMean : Type 0 where
-  pub bound-means : (S : Session) → Partitionable S → (k : ℕ) → (boundViews S k ≡ true) ↔ BoundViews S k
-  pub faced-means : (S : Session) (ρ : ℕ) → (oneFaced S ρ ≡ true) ↔ OneFaced S ρ
+-- this test passes exactly if that holds
+abbrev pub FacedMeans : Type 0
+FacedMeans = (S : Session) (ρ : ℕ) → (oneFaced S ρ ≡ true) ↔ OneFaced S ρ
 
 -- a session is bound up to round k, its words and its view words
 abbrev pub boundTo : Session → ℕ → List Case
