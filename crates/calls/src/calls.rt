@@ -137,12 +137,7 @@ pub extern "C" fn presence_step(
         return refuse_image(image);
     }
     let partitionable = bit_at(word_at(image, 0), 5);
-    let long = image_length(
-        front_words(fades),
-        n,
-        left_after(part.left),
-        partitionable,
-    );
+    let long = image_length(front_words(fades), n, left_after(part.left), partitionable);
     if (out.len() != long) | (read.len() != read_words(partitionable, n) * 4) {
         return refuse(9, 0);
     }

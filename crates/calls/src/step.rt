@@ -243,7 +243,16 @@ pub fn played(
     if bit_at(word_at(image, 0), 5) {
         let split = pick(part.skew, place, 0);
         save_views(
-            image, front, n, part.left, split, read, controller, part.view, view, out,
+            image,
+            front,
+            n,
+            part.left,
+            split,
+            read,
+            controller,
+            part.view,
+            view,
+            out,
         );
         return j.health;
     }

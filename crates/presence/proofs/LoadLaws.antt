@@ -23,7 +23,7 @@ use Rattle.changes.specs.Words.{changeTests, pendingIn}
 use Rattle.changes.specs.declared.Pending.{Pending}
 use Rattle.views.specs.Section.{viewTests, viewsIn}
 use Rattle.views.specs.declared.Views.{Views}
-use Rattle.image.specs.Layout.{ownAt, latestAt, earlierAt, leftAt, viewsAt, beforeLeft}
+use Rattle.image.specs.Layout.{ownAt, latestAt, earlierAt, leftAt, viewsAt, beforeLeft, imageLength}
 use Rattle.image.specs.Words.{ownIn, viewIn, syndromeIn}
 use Rattle.image.specs.Rows.{rowTest, readingIn}
 use Rattle.image.specs.Counters.{counterTests, countersIn}
@@ -45,6 +45,34 @@ pub state-by : (s : List ℕ) {n : ℕ} → n ≡ sizeIn (wordAt s 0)
 unfolding stateOf
 state-by s {n} e f e₀ e₁ e₂ e₃ e₄ e₅ e₆ e₇ =
     rw (← e, ← f) (λ i. record { setup = e₀ i; own = e₁ i; counters = e₂ i; previous = e₃ i; latest = e₄ i; earlier = e₅ i; pending = e₆ i; views = e₇ i })
+
+-- ---- the views, by the setup, the view and the rounds left that were read
+
+module _ {setup : Setup} (s : List ℕ) (e : setup ≡ setupOf s) where
+  parted : setup .partitionable ≡ partitionableIn (wordAt s 0)
+  unfolding setupOf
+  parted = ap (λ (x : Setup). x .partitionable) e
+
+  module _ (front : ℕ) {at left : ℕ} (n : ℕ) (a : at ≡ leftAt front n) (l : left ≡ wordAt s at) where
+    left-there : left ≡ wordAt s (leftAt front n)
+    left-there = l ∙ ap (wordAt s) a
+
+    pub views-asked : (b : Bool) {k : ℕ} → front ≡ frontWords b
+        → k ≡ imageLength (frontWords b) n (wordAt s (leftAt (frontWords b) n)) (partitionableIn (wordAt s 0)) → k ≡ imageLength front n left (setup .partitionable)
+    views-asked b f h =
+        let x = sym (left-there ∙ ap (λ (i : ℕ). wordAt s (leftAt i n)) f) in
+        h ∙ (λ i. imageLength (sym f i) n (x i) (sym parted i))
+
+    pub views-agree : {view : ℕ} {good : Bool} → view ≡ viewIn (wordAt s (ownAt front n))
+        → good ≡ allRight (viewTests (setup .partitionable) (wordAt s) n view (viewsAt front n left))
+        → good ≡ allRight (viewTests (partitionableIn (wordAt s headAt)) (wordAt s) n (viewIn (wordAt s (ownAt front n))) (viewsAt front n (wordAt s (leftAt front n))))
+    views-agree v g = g ∙ (λ i. allRight (viewTests (parted i) (wordAt s) n (v i) (viewsAt front n (left-there i))))
+
+    pub views-read : (b : Bool) {views : Views} → front ≡ frontWords b → views ≡ viewsIn (setup .partitionable) s n (viewsAt front n left)
+        → views ≡ viewsIn (partitionableIn (wordAt s 0)) s n (viewsAt (frontWords b) n (wordAt s (leftAt (frontWords b) n)))
+    views-read b f g =
+        let x = left-there ∙ ap (λ (i : ℕ). wordAt s (leftAt i n)) f in
+        g ∙ (λ i. viewsIn (parted i) s n (viewsAt (f i) n (x i)))
 
 -- ---- whether all words are right, where those of the setup are found first
 

@@ -10,13 +10,15 @@ use lib.Dec.{leb, ltb}
 use borrow.Author.Tests.{eq-eqb, ne-eqb, lt-ltb, le-ltb, lt-leb, ltb-true, ltb-false}
 use Rattle.words.specs.Bits.{full}
 use Rattle.words.specs.Array.{array}
-use Rattle.words.proofs.Truth.{cond-true, cond-false, and-false-l, and-false-r, or-cases, or-false-l, or-false-r}
+use Rattle.words.proofs.BitLaws.{pack-lt}
+use Rattle.words.proofs.Truth.{cond-true, cond-false, cond-both, and-false-l, and-false-r, or-cases, or-false-l, or-false-r}
 use Rattle.words.specs.Verdict.{verdict, accepted, isAccepted, between}
 use Rattle.setup.specs.Check.{setupVerdict}
 use Rattle.words.specs.declared.Verdict.{Verdict}
 use Rattle.setup.specs.declared.Setup.{Setup}
 use Rattle.words.proofs.VerdictLaws.{between-of, and-then-stops, and-then-goes, single-ok, single-refused}
 use Rattle.rules.specs.Hearing.{readingOf, causesOf}
+use Rattle.rules.proofs.ReceptionLaws.{below-kind}
 use Rattle.rules.specs.Alignment.{alignedOf}
 use Rattle.rules.specs.Syndrome.{judgementOf}
 use Rattle.accounts.specs.Round.{accountAt, countersOf}
@@ -30,18 +32,20 @@ use Rattle.changes.specs.Books.{turned, counted, booksAfter}
 use Rattle.changes.specs.declared.Books.{Books}
 use Rattle.changes.specs.declared.Pending.{Pending}
 use Rattle.changes.proofs.TurnLaws.{turned-setup-fits}
-use Rattle.views.specs.Views.{freshViews}
+use Rattle.views.specs.ViewWord.{viewWord}
+use Rattle.views.specs.Views.{noViews, freshViews, viewsAfter}
+use Rattle.views.proofs.ViewWordLaws.{split-aligned}
 use Rattle.views.specs.declared.Views.{Views}
 use Rattle.image.specs.Counters.{zeroCounters}
 use Rattle.image.proofs.CounterLaws.{within-kept, within-waits}
 use Rattle.image.proofs.BooksLaws.{turned-accounts}
 use Rattle.presence.specs.Valid.{stateVerdict, Valid}
 use Rattle.presence.specs.Opening.{fresh, blank, checkOpening, openOf}
-use Rattle.presence.specs.Step.{skewOf, placeOf, ownSyndrome, alignedFor, judgementFor, outgoingFor, booksOf, viewsFor, outgoingView, readLength, seenBy, afterRound, refusedStep, acceptedStep, readStep, stepOf}
+use Rattle.presence.specs.Step.{skewOf, placeOf, markOf, ownSyndrome, alignedFor, judgementFor, outgoingFor, booksOf, votedViews, viewsFor, outgoingView, readLength, seenBy, afterRound, refusedStep, acceptedStep, readStep, stepOf}
 use Rattle.presence.specs.declared.State.{State}
 use Rattle.presence.specs.declared.Opened.{Opened}
 use Rattle.presence.specs.declared.Stepped.{Stepped}
-use Rattle.presence.proofs.ValidLaws.{StateFits}
+use Rattle.presence.proofs.ValidLaws.{StateFits, valid-fits}
 
 -- ---- rules 1 and 3 to 6
 
@@ -101,6 +105,38 @@ books-range st f e =
     × ((j : ℕ) → j < b .setup .n → AccountRange (b .setup .limits) (b .setup .q) (getD (b .setup .criticality) j 0) (accountAt (b .counters) j)))
     (sym e) (turned-setup-fits (booksOf st) (f .pending) (f .setup) .most, in-range st f)
 
+-- ---- the views
+
+pub views-none : (st : State) (seen : List ℕ) {v : Views} → v ≡ noViews → st .setup .partitionable ≡ false → v ≡ viewsFor st seen
+unfolding viewsFor
+views-none st seen e f = e ∙ sym (cond-false _ _ f)
+
+pub views-made : (st : State) (seen : List ℕ) {v : Views} {skew : Bool} {place split : ℕ} → skew ≡ skewOf st → place ≡ placeOf st → split ≡ cond skew place 0
+    → v ≡ viewsAfter (st .setup .n) (st .views) (array (st .setup .n) (λ j. cond (ltb j split) (getD (st .views .words) j 0) (getD seen j 0))) seen (st .counters .view)
+    → st .setup .partitionable ≡ true → v ≡ viewsFor st seen
+unfolding viewsFor votedViews
+views-made st seen {v} {skew} {place} s p e h t =
+    let k = e ∙ ap₂ (λ (b : Bool) (x : ℕ). cond b x 0) s p in
+    h
+    ∙ ap (λ (x : List ℕ). viewsAfter (st .setup .n) (st .views) x seen (st .counters .view)) (split-aligned (st .setup .n) (st .views .words) seen (skewOf st) (placeOf st) k)
+    ∙ sym (cond-true _ _ t)
+
+pub handed-none : (st : State) (view : ℕ) → st .setup .partitionable ≡ false → 0 ≡ outgoingView st view
+unfolding outgoingView
+handed-none st view f = sym (cond-false _ _ f)
+
+pub handed-made : (st : State) (view : ℕ) {r v : ℕ} {mark : Bool} → mark ≡ markOf st → v ≡ cond mark (st .counters .view) view → r ≡ viewWord v
+    → st .setup .partitionable ≡ true → r ≡ outgoingView st view
+unfolding outgoingView
+handed-made st view m h e t =
+    e ∙ ap viewWord (h ∙ ap (λ (b : Bool). cond b (st .counters .view) view) m) ∙ sym (cond-true _ _ t)
+
+pub handed-small : (st : State) (view : ℕ) {v : ℕ} (mark : Bool) → Valid st → view < 2 ^ 28 → v ≡ cond mark (st .counters .view) view → v < 2 ^ 28
+handed-small st view mark v h e =
+    let f = valid-fits st v in
+    subst (λ (x : ℕ). x < 2 ^ 28) (sym e)
+    (cond-both (λ (x : ℕ). x < 2 ^ 28) mark (st .counters .view) view (below-kind (st .setup .n) _ (f .setup .most) (f .view)) h)
+
 -- ---- the round
 
 pub round-made : (st : State) (this : Reading) (seen causes : List ℕ) {j : Judgement} {word view : ℕ} {next : State} → j ≡ judgementFor st this
@@ -115,6 +151,14 @@ round-made st this seen causes {j} {word} {view} {next} e w v n =
     ap (λ (k : Judgement). made k word view next) e
     ∙ ap₂ (λ (x y : ℕ). made (judgementFor st this) x y next) w v
     ∙ ap (λ (s : State). made (judgementFor st this) (outgoingFor st this) (outgoingView st (s .counters .view)) s) n
+
+-- the local view after it is that of n modules
+pub next-small : (st : State) (this : Reading) (seen : List ℕ) {next : State} → Valid st → next ≡ afterRound st this seen → next .counters .view < 2 ^ 28
+unfolding afterRound booksAfter counted countersOf
+next-small st this seen {next} v e =
+    let n = turned (booksOf st) .setup .n in
+    let most : n ≤ 16 = turned-setup-fits (booksOf st) (valid-fits st v .pending) (valid-fits st v .setup) .most in
+    subst (λ (x : State). x .counters .view < 2 ^ 28) (sym e) (below-kind n _ most (pack-lt n _))
 
 -- ---- 9 and 10
 

@@ -32,7 +32,7 @@ use Rattle.changes.proofs.TurnLaws.{turned-size, turned-partitionable, turned-s
 use Rattle.views.specs.ViewWord.{viewsSeen}
 use Rattle.views.specs.Views.{noViews, viewsAfter}
 use Rattle.views.specs.Section.{viewTests}
-use Rattle.views.proofs.ViewsLaws.{ViewsFit, fits-small as fits-views, none-fits, opened-fits, read-fits, after-fits as views-fit}
+use Rattle.views.proofs.ViewsLaws.{ViewsFit, small-views as fits-views, none-fits, opened-fits, read-fits, after-fits as views-fit}
 use Rattle.views.proofs.ViewWords.{views-ok, views-pass}
 use Rattle.image.specs.Layout.{ownAt, leftAt, viewsAt}
 use Rattle.image.specs.Words.{viewIn}

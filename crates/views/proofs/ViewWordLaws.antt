@@ -15,7 +15,7 @@ use Rattle.words.proofs.BitLaws.{bit-low}
 use Rattle.words.proofs.ArrayLaws.{clearFrom, array-at, array-ext, array-length, array-clear, array-filled, replaced-ahead, replaced-array}
 use Rattle.rules.specs.Alignment.{fromPrevious}
 use Rattle.rules.proofs.ReceptionLaws.{below-kind}
-use Rattle.views.specs.ViewWord.{viewWord, viewWordHeard, viewEntry, viewsRead, alignedViews}
+use Rattle.views.specs.ViewWord.{viewWord, viewWordHeard, viewEntry, readWords, viewsRead, alignedViews}
 use Rattle.views.specs.Adoption.{isThere}
 
 -- ---- which are heard
@@ -47,6 +47,16 @@ pub view-bit : (v j : ℕ) → j < 28 → bit (viewWord v) j ≡ bit v j
 view-bit v j h =
     let e : 10 * 2 ^ 28 + v ≡ v + 10 * 2 ^ 28 = omega arith in
     ap (λ (w : ℕ). bit w j) e ∙ bit-low 10 v 28 j h
+
+-- ---- how many words a read has
+
+pub words-least : (b : Bool) (n : ℕ) → n ≤ readWords b n
+words-least true n = omega arith
+words-least false n = omega arith
+
+pub words-most : (b : Bool) (n : ℕ) → readWords b n ≤ n + n
+words-most true n = omega arith
+words-most false n = omega arith
 
 -- ---- what a read keeps
 

@@ -1,8 +1,8 @@
 -- The code and the definition make the same two comparisons.
 use mathlib.Core.Path.{refl}
-use Rattle.script.specs.Cursor.{isPlay}
-use Rattle.script.proofs.play.is_play.Statement.{statement}
-use Rattle.script.proofs.play.is_play.Tie as tie
+use Rattle.script.specs.Words.{isPlay}
+use Rattle.script.proofs.told.is_play.Statement.{statement}
+use Rattle.script.proofs.told.is_play.Tie as tie
 
 returns : tie.Need-returns
 unfolding isPlay
