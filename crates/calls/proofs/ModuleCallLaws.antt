@@ -134,33 +134,35 @@ pub section-asked : {front n : ℕ} (s : List ℕ) → ImageFits s → front ≡
     → (front ≤ 6) × (n ≤ 16) × (beforeLeft front n ≤ length s)
 section-asked s f e most n = (most, omega (arith, f .front .most), omega (arith, f .size, e, n))
 
--- n is the size, own the own number; wm is the word of the module itself, we and wl are the two syndromes
-module _ (s : List ℕ) (f : ImageFits s) {n front own : ℕ} (en : n ≡ sizeIn (wordAt s 0)) (ef : front ≡ frontIn (wordAt s)) (eo : own ≡ ownIn (wordAt s (ownAt front n))) where
-  own-is : own ≡ ownIn (wordAt s (ownAt (frontIn (wordAt s)) (sizeIn (wordAt s 0))))
-  own-is = eo ∙ ap₂ (λ (k m : ℕ). ownIn (wordAt s (ownAt k m))) ef en
+-- n is the size
+module _ (s : List ℕ) (f : ImageFits s) {n front : ℕ} (en : n ≡ sizeIn (wordAt s 0)) (ef : front ≡ frontIn (wordAt s)) where
+  -- own is the own number, and wm the word of the module itself
+  module _ {own : ℕ} (eo : own ≡ ownIn (wordAt s (ownAt front n))) where
+    own-is : own ≡ ownIn (wordAt s (ownAt (frontIn (wordAt s)) (sizeIn (wordAt s 0))))
+    own-is = eo ∙ ap₂ (λ (k m : ℕ). ownIn (wordAt s (ownAt k m))) ef en
 
-  pub own-in-range : (1 ≤ own) × (own ≤ n)
-  unfolding stateOf setupOf
-  own-in-range =
-      let g = image-state s f in
-      (omega (arith, own-is, g .first), omega (arith, own-is, g .last, en))
+    pub own-in-range : (1 ≤ own) × (own ≤ n)
+    unfolding stateOf setupOf
+    own-in-range =
+        let g = image-state s f in
+        (omega (arith, own-is, g .first), omega (arith, own-is, g .last, en))
 
-  -- the mark of a module, as its own word in the image has it
-  mark-is : bit (wordAt s (front + own - 1)) 22 ≡ markOf (stateOf s)
-  unfolding markOf stateOf setupOf
-  mark-is =
-      let r = own-in-range in
-      let i : front + own - 1 ≡ frontIn (wordAt s) + (own - 1) = omega (arith, r .0, ef) in
-      let h : own - 1 < sizeIn (wordAt s 0) = omega (arith, r .0, r .1, en) in
-      ap (λ (k : ℕ). bit (wordAt s k) 22) i
-      ∙ sym (bit-pack (sizeIn (wordAt s 0)) (λ j. markIn (wordAt s (frontIn (wordAt s) + j))) (own - 1) h)
-      ∙ ap (λ (k : ℕ). bit (pack (sizeIn (wordAt s 0)) (λ j. markIn (wordAt s (frontIn (wordAt s) + j)))) (k - 1)) own-is
+    -- the mark of a module, as its own word in the image has it
+    pub mark-made : {wm : ℕ} {mark : Bool} → wm ≡ wordAt s (front + own - 1) → mark ≡ bit wm 22 → mark ≡ markOf (stateOf s)
+    unfolding markOf stateOf setupOf
+    mark-made em eb =
+        let r = own-in-range in
+        let i : front + own - 1 ≡ frontIn (wordAt s) + (own - 1) = omega (arith, r .0, ef) in
+        let h : own - 1 < sizeIn (wordAt s 0) = omega (arith, r .0, r .1, en) in
+        eb ∙ ap (λ (w : ℕ). bit w 22) (em ∙ ap (wordAt s) i)
+        ∙ sym (bit-pack (sizeIn (wordAt s 0)) (λ j. markIn (wordAt s (frontIn (wordAt s) + j))) (own - 1) h)
+        ∙ ap (λ (k : ℕ). bit (pack (sizeIn (wordAt s 0)) (λ j. markIn (wordAt s (frontIn (wordAt s) + j)))) (k - 1)) own-is
 
-  pub word-made : {wm we wl r : ℕ} {mark : Bool} → wm ≡ wordAt s (front + own - 1) → mark ≡ bit wm 22 → we ≡ syndromeIn (wordAt s (earlierAt front n))
+  -- we and wl are the two syndromes
+  pub word-made : {we wl r : ℕ} {mark : Bool} → mark ≡ markOf (stateOf s) → we ≡ syndromeIn (wordAt s (earlierAt front n))
       → wl ≡ syndromeIn (wordAt s (latestAt front n)) → r ≡ outgoingOf mark we wl → r ≡ handedOut (stateOf s)
   unfolding handedOut outgoingOf stateOf
-  word-made {mark = mark} em eb ee el h =
-      let b : mark ≡ markOf (stateOf s) = eb ∙ ap (λ (x : ℕ). bit x 22) em ∙ mark-is in
+  word-made {mark = mark} b ee el h =
       h
       ∙ ap₂ (λ (x y : ℕ). busWord (cond mark x y)) (ee ∙ ap₂ (λ (k m : ℕ). syndromeIn (wordAt s (earlierAt k m))) ef en)
       (el ∙ ap₂ (λ (k m : ℕ). syndromeIn (wordAt s (latestAt k m))) ef en)
@@ -203,11 +205,10 @@ module _ (s : List ℕ) (f : ImageFits s) {n front own : ℕ} (en : n ≡ sizeIn
         subst (λ (x : ℕ). x < 2 ^ 28) (sym h)
         (cond-both (λ (x : ℕ). x < 2 ^ 28) mark we wl (omega (arith, ee, r .earlier)) (omega (arith, el′)))
 
-    pub view-made : {wm we wl v r : ℕ} {mark : Bool} → wm ≡ wordAt s (front + own - 1) → mark ≡ bit wm 22 → we ≡ wordAt s (at + n + 1)
+    pub view-made : {we wl v r : ℕ} {mark : Bool} → mark ≡ markOf (stateOf s) → we ≡ wordAt s (at + n + 1)
         → wl ≡ wordAt s (at + n) → v ≡ cond mark we wl → r ≡ viewWord v → r ≡ viewHandedOut (stateOf s)
     unfolding viewHandedOut stateOf viewsIn
-    view-made {mark = mark} em eb ee el′ ev h =
-        let b : mark ≡ markOf (stateOf s) = eb ∙ ap (λ (x : ℕ). bit x 22) em ∙ mark-is in
+    view-made {mark = mark} b ee el′ ev h =
         let earlier : wordAt s (at + n + 1) ≡ stateOf s .views .earlier =
         ap₂ (λ (k m : ℕ). wordAt s (k + m + 1)) at-is en
         ∙ sym (ap (λ (b : Bool). viewsIn b s (sizeIn (wordAt s 0)) (viewsAt (frontIn (wordAt s)) (sizeIn (wordAt s 0)) (leftIn s)) .earlier) parted)
@@ -220,34 +221,39 @@ pub no-view-made : (s : List ℕ) → partitionableIn (wordAt s 0) ≡ false →
 unfolding viewHandedOut
 no-view-made s e = sym (cond-false _ _ (read-parted s ∙ e))
 
--- what a call answers by which a word is asked for, and which the verdict refuses or `handed` is given
-out-by : {a b : Verdict} {w : ℕ} (handed : ℕ) → a ≡ b → w ≡ cond (isAccepted a) handed 0
-    → _≡_ {A = WordAnswer} (record { number = a .number; index = a .index; word = w }) (record { number = b .number; index = b .index; word = cond (isAccepted b) handed 0 })
-out-by handed h g =
-    ap₂ (λ (x : Verdict) (y : ℕ). record { number = x .number; index = x .index; word = y }) h (g ∙ ap (λ (x : Verdict). cond (isAccepted x) handed 0) h)
+-- what a call answers that is asked for a word: by the verdict on the image, and the word that is handed out
+told : Verdict → ℕ → WordAnswer
+told v word = record { number = v .number; index = v .index; word = cond (isAccepted v) word 0 }
+
+module _ (image : List ℕ) {v : Verdict} (e : v ≡ checkImage image) (word : ℕ) where
+  told-refused : {r : WordAnswer} → (v .number ≡ 0 → ⊥) → (r .number ≡ v .number) × (r .index ≡ v .index) × (r .word ≡ 0) → r ≡ told (checkImage image) word
+  unfolding told
+  told-refused f (k, i, w) =
+      (λ j. record { number = k j; index = i j; word = (w ∙ sym (cond-false word 0 (ne-eqb (v .number) 0 f))) j })
+      ∙ ap (λ (x : Verdict). told x word) e
+
+  told-made : {w : ℕ} → v .number ≡ 0 → w ≡ word → _≡_ {A = WordAnswer} (record { number = 0; index = 0; word = w }) (told (checkImage image) word)
+  unfolding told
+  told-made z h =
+      ap (λ (x : ℕ). record { number = 0; index = 0; word = x }) h
+      ∙ ap (λ (x : Verdict). told x word) (sym (image-zero image (ap (λ (x : Verdict). x .number) (sym e) ∙ z)))
 
 module _ (image : List ℕ) {v : Verdict} (e : v ≡ checkImage image) where
-  -- number 0 carries index 0
-  zero-is : v .number ≡ 0 → accepted ≡ checkImage image
-  zero-is z = sym (image-zero image (ap (λ (x : Verdict). x .number) (sym e) ∙ z))
+  pub outgoing-refused : {r : WordAnswer} → (v .number ≡ 0 → ⊥) → (r .number ≡ v .number) × (r .index ≡ v .index) × (r .word ≡ 0) → r ≡ outgoingCall image
+  unfolding outgoingCall told
+  outgoing-refused f h = told-refused image e (handedOut (stateOf image)) f h
 
-  pub outgoing-refused : (v .number ≡ 0 → ⊥) → _≡_ {A = WordAnswer} (record { number = v .number; index = v .index; word = 0 }) (outgoingCall image)
-  unfolding outgoingCall
-  outgoing-refused f = out-by {a = v} (handedOut (stateOf image)) e (sym (cond-false _ _ (ne-eqb (v .number) 0 f)))
+  pub outgoing-made : {w : ℕ} → v .number ≡ 0 → w ≡ handedOut (stateOf image) → _≡_ {A = WordAnswer} (record { number = 0; index = 0; word = w }) (outgoingCall image)
+  unfolding outgoingCall told
+  outgoing-made z h = told-made image e (handedOut (stateOf image)) z h
 
-  pub outgoing-made : {w : ℕ} → v .number ≡ 0 → w ≡ handedOut (stateOf image)
-      → _≡_ {A = WordAnswer} (record { number = 0; index = 0; word = w }) (outgoingCall image)
-  unfolding outgoingCall
-  outgoing-made z h = out-by {a = accepted} (handedOut (stateOf image)) (zero-is z) h
+  pub outgoing-view-refused : {r : WordAnswer} → (v .number ≡ 0 → ⊥) → (r .number ≡ v .number) × (r .index ≡ v .index) × (r .word ≡ 0) → r ≡ outgoingViewCall image
+  unfolding outgoingViewCall told
+  outgoing-view-refused f h = told-refused image e (viewHandedOut (stateOf image)) f h
 
-  pub outgoing-view-refused : (v .number ≡ 0 → ⊥) → _≡_ {A = WordAnswer} (record { number = v .number; index = v .index; word = 0 }) (outgoingViewCall image)
-  unfolding outgoingViewCall
-  outgoing-view-refused f = out-by {a = v} (viewHandedOut (stateOf image)) e (sym (cond-false _ _ (ne-eqb (v .number) 0 f)))
-
-  pub outgoing-view-made : {w : ℕ} → v .number ≡ 0 → w ≡ viewHandedOut (stateOf image)
-      → _≡_ {A = WordAnswer} (record { number = 0; index = 0; word = w }) (outgoingViewCall image)
-  unfolding outgoingViewCall
-  outgoing-view-made z h = out-by {a = accepted} (viewHandedOut (stateOf image)) (zero-is z) h
+  pub outgoing-view-made : {w : ℕ} → v .number ≡ 0 → w ≡ viewHandedOut (stateOf image) → _≡_ {A = WordAnswer} (record { number = 0; index = 0; word = w }) (outgoingViewCall image)
+  unfolding outgoingViewCall told
+  outgoing-view-made z h = told-made image e (viewHandedOut (stateOf image)) z h
 
 -- ---- opening
 

@@ -214,7 +214,7 @@ pub fn played(
         rows,
         &mut this,
     );
-    let view = kept(
+    let after = kept(
         limits,
         n,
         part.q,
@@ -229,7 +229,7 @@ pub fn played(
         fades,
         n,
         part.own,
-        view,
+        after,
         j.heard,
         &this,
         j.syndrome,
@@ -249,7 +249,7 @@ pub fn played(
             read,
             controller,
             part.view,
-            view,
+            after,
             out,
         );
         return j.health;

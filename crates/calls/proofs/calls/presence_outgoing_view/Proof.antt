@@ -7,7 +7,7 @@ use Rattle.calls.proofs.calls.presence_outgoing_view.Statement.{stateme
 use Rattle.calls.proofs.calls.presence_outgoing_view.Tie as tie
 
 returns : tie.Need-returns
-returns c = outgoing-view-refused _ (c .before .before .check-image .ensures) (c .if1 .taken)
+returns c = outgoing-view-refused _ (c .before .before .before .check-image .ensures) (c .before .if1 .taken) (c .refuse-word .ensures)
 
 view-word-in-requires : tie.Need-view-word-in-requires
 view-word-in-requires c κs = ap (λ (v : Verdict). v .number) (sym (c .before .before .check-image .ensures)) ∙ c .if1 .left
@@ -19,6 +19,7 @@ pub presence-outgoing-view-spec : {M : Type 1} → statement M
 presence-outgoing-view-spec =
     tie.close
     (tie.spec
+    (λ c κs. search needs)
     (λ c κs. search needs)
     returns
     view-word-in-requires
