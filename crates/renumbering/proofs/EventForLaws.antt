@@ -8,13 +8,12 @@ use mathlib.Core.Bool.{Bool, true, false, cond, not, _&&_}
 use mathlib.Core.List.{List}
 use native.Mathlib.Omega.{arith}
 use native.Mathlib.Nat.{eq-or-lt-of-le}
-use native.Mathlib.Numerals.{add-one}
 use lib.Dec.{eqb, leb}
 use lib.ListN.{length}
-use borrow.Author.Tests.{eqb-true, eq-eqb, leb-true, le-leb, leb-false, not-true}
+use borrow.Author.Tests.{eqb-true, leb-true, leb-false}
 use Rattle.words.specs.Word.{wordAt}
 use Rattle.words.specs.Bits.{bit}
-use Rattle.words.proofs.Truth.{which, clash, and-l, and-r, and-true}
+use Rattle.words.proofs.Truth.{which, clash, and-l, and-r}
 use Rattle.setup.specs.Setup.{sizeIn}
 use Rattle.script.specs.Words.{isPartitionable, kindOf, senderIn, receiversIn, roundsIn, toldWords, dueAfter, isPlay}
 use Rattle.script.specs.Check.{checkScript}

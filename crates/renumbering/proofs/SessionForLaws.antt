@@ -2,7 +2,6 @@
 use Prim.Native.Nat.{ℕ, zero, suc, _+_, _-_, _^_, _≤_, _<_}
 use mathlib.Core.Path.{_≡_, refl, sym, ap, ap₂, _∙_, subst}
 use mathlib.Core.Bool.{Bool, true, false, cond, _&&_}
-use mathlib.Core.List.{List}
 use native.Mathlib.Omega.{arith}
 use lib.ListN.{getD}
 use borrow.Author.Tests.{lt-ltb}
@@ -18,7 +17,6 @@ use Rattle.rules.specs.declared.Reading.{Reading}
 use Rattle.changes.specs.Pending.{nothing}
 use Rattle.changes.specs.declared.Pending.{Pending}
 use Rattle.views.specs.ViewWord.{viewWord, viewWordHeard, viewEntry, viewsRead, viewsSeen}
-use Rattle.views.specs.declared.Views.{Views}
 use Rattle.presence.specs.Opening.{fresh}
 use Rattle.presence.specs.Step.{judgementFor, afterRound}
 use Rattle.presence.specs.declared.State.{State}
