@@ -64,7 +64,7 @@ unfolding viewHandedOut fresh
 fresh-view s own = full-handed (s .partitionable) (markOf (fresh s own)) (s .n)
 
 module _ (S : Session) (setup : List ℕ) (set-up : SetUp S setup) where
-  ok : Accepted S
+  pub ok : Accepted S
   ok =
       ap (λ (s : Setup). setupVerdict s .number) (set-up .same)
       ∙ ap (λ (v : Verdict). v .number) (setups .read-accepted setup (set-up .accepted) .0)
