@@ -165,7 +165,7 @@ module _ (S : Session) (ok : Accepted S) where
 
     -- ---- rule 7: a word sent in a round holds the syndrome of the round before (lemma 3 of document 002)
 
-    pub own-mark : (k : ℕ) → markOf (state S i k) ≡ bit (S .setup .marks) i
+    own-mark : (k : ℕ) → markOf (state S i k) ≡ bit (S .setup .marks) i
     unfolding markOf
     own-mark k =
         let h = held S ok i below k in
@@ -199,7 +199,7 @@ module _ (S : Session) (ok : Accepted S) where
     abbrev heldWord : ℕ → ℕ
     heldWord k = cond (S .setup .partitionable) (viewWord (viewOf S i k)) 0
 
-    pub view-handed-is : (k : ℕ) → viewWordHanded S i (suc k) ≡ cond (bit (S .setup .marks) i) (heldWord k) (heldWord (suc k))
+    view-handed-is : (k : ℕ) → viewWordHanded S i (suc k) ≡ cond (bit (S .setup .marks) i) (heldWord k) (heldWord (suc k))
     unfolding outgoingView
     view-handed-is k =
         let m = own-mark k in

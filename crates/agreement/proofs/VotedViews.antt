@@ -1,11 +1,11 @@
 -- The view words that a step of a session votes on: after alignment each is of round k - u, as it is heard there.
 use Prim.Native.Nat.{ℕ, zero, suc, _-_, _<_}
-use mathlib.Core.Path.{_≡_, refl, sym, ap, ap₂, _∙_}
-use mathlib.Core.Bool.{Bool, true, false, cond, _&&_}
+use mathlib.Core.Path.{_≡_, sym, ap, ap₂, _∙_}
+use mathlib.Core.Bool.{Bool, true, _&&_}
 use mathlib.Core.List.{List}
 use lib.ListN.{getD}
-use Rattle.words.specs.Bits.{bit, full}
-use Rattle.words.proofs.Truth.{cond-true, cond-same}
+use Rattle.words.specs.Bits.{full}
+use Rattle.words.proofs.Truth.{cond-true}
 use Rattle.words.proofs.BitLaws.{bit-pack, full-lt}
 use Rattle.words.proofs.ArrayLaws.{array-at}
 use Rattle.rules.specs.Lag.{skewed}
@@ -15,11 +15,11 @@ use Rattle.views.specs.Views.{fullViews, noViews, freshViews, viewsAfter}
 use Rattle.views.specs.declared.Views.{Views}
 use Rattle.views.proofs.ViewWordLaws.{view-heard, entry-says, views-at, aligned-at}
 use Rattle.presence.specs.Opening.{fresh}
-use Rattle.presence.specs.Step.{markOf, votedViews, viewsFor}
+use Rattle.presence.specs.Step.{votedViews, viewsFor}
 use Rattle.presence.specs.declared.State.{State}
-use Rattle.agreement.specs.Session.{Session, Accepted, Partitionable, size, u, bitIn, viewWordIn, hearsView, readRound, readBits, readBytes, state, viewWordHanded, viewOf}
+use Rattle.agreement.specs.Session.{Session, Accepted, Partitionable, size, u, bitIn, viewWordIn, hearsView, readRound, readBits, readBytes, state, viewOf}
 use Rattle.agreement.proofs.Steps.{seen, read-view, small, held, state-zero, views-suc}
-use Rattle.agreement.proofs.Aligned.{read-zero, own-place, own-skew, own-size, one-round, own-mark, view-handed-is}
+use Rattle.agreement.proofs.Aligned.{read-zero, own-place, own-skew, own-size, one-round}
 
 module _ (S : Session) (ok : Accepted S) (set : Partitionable S) (i : ℕ) (below : i < size S) where
   -- the view word of sender j in round k, as receiver i keeps it
@@ -86,36 +86,3 @@ module _ (S : Session) (ok : Accepted S) (set : Partitionable S) (i : ℕ) (belo
   voted-says k j p h =
       ap (λ (w : ℕ). isThere w && p w) (voted-view k j h)
       ∙ entry-says (size S) (bitIn S (suc k - u S) i j) (viewWordIn S (suc k - u S) i j) p
-
--- What is handed out in a step, or before the first, can be read off the state that it left: with the send mark the local view before the latest.
-module _ (S : Session) (ok : Accepted S) (i : ℕ) (below : i < size S) where
-  abbrev heldOut : Bool → Bool → State → ℕ
-  heldOut partitionable mark st = cond partitionable (viewWord (cond mark (st .views .earlier) (st .counters .view))) 0
-
-  earlier-view : Partitionable S → (k : ℕ) → state S i (suc k) .views .earlier ≡ viewOf S i k
-  unfolding viewsAfter
-  earlier-view set k = ap (λ (v : Views). v .earlier) (views-after S ok set i below k)
-
-  fresh-out : (b m : Bool) → S .setup .partitionable ≡ b → heldOut b m (state S i 0) ≡ cond b (viewWord (full (size S))) 0
-  unfolding fresh fullViews
-  fresh-out true m set =
-      ap₂ (λ (v : Views) (st : State). viewWord (cond m (v .earlier) (st .counters .view))) (opened-views S ok set i below) (state-zero S ok i below)
-      ∙ ap viewWord (cond-same m (full (size S)))
-  fresh-out false m f = refl
-
-  step-out : (b m : Bool) → S .setup .partitionable ≡ b → (k : ℕ)
-      → heldOut b m (state S i (suc k)) ≡ cond m (cond b (viewWord (viewOf S i k)) 0) (cond b (viewWord (viewOf S i (suc k))) 0)
-  step-out true true set k = ap viewWord (earlier-view set k)
-  step-out true false set k = refl
-  step-out false true f k = refl
-  step-out false false f k = refl
-
-  pub view-handed-held : (k : ℕ) → heldOut (state S i k .setup .partitionable) (markOf (state S i k)) (state S i k) ≡ viewWordHanded S i k
-  unfolding viewWordHanded
-  view-handed-held zero =
-      ap₂ (λ (b m : Bool). heldOut b m (state S i 0)) (held S ok i below 0 .partitionable-is) (own-mark S ok i below 0)
-      ∙ fresh-out (S .setup .partitionable) (bit (S .setup .marks) i) refl
-  view-handed-held (suc k) =
-      ap₂ (λ (b m : Bool). heldOut b m (state S i (suc k))) (held S ok i below (suc k) .partitionable-is) (own-mark S ok i below (suc k))
-      ∙ step-out (S .setup .partitionable) (bit (S .setup .marks) i) refl k
-      ∙ sym (view-handed-is S ok i below k)
