@@ -1,7 +1,7 @@
 -- A life holds the views that its last step left; so what is promised of steps is promised of lives.
-use Prim.Native.Nat.{ℕ, suc, _-_, _^_, _≤_, _<_}
+use Prim.Native.Nat.{ℕ, suc, _-_, _^_, _<_}
 use mathlib.Core.Path.{_≡_, sym, ap, _∙_, subst}
-use mathlib.Core.Bool.{true, false, cond}
+use mathlib.Core.Bool.{true, false}
 use mathlib.Core.Logic.{⊎-elim}
 use mathlib.Core.List.{List}
 use Rattle.words.proofs.Truth.{which, cond-true}
@@ -9,11 +9,11 @@ use Rattle.views.specs.declared.Views.{Views}
 use Rattle.views.proofs.ViewsLaws.{ViewsFit}
 use Rattle.presence.specs.Shown.{shownView}
 use Rattle.presence.specs.declared.State.{State}
-use Rattle.agreement.specs.Session.{Offer, Session, Accepted, Partitionable, size, u, RuleFollower, state}
+use Rattle.agreement.specs.Session.{Offer, Session, Accepted, Partitionable, size, state}
 use Rattle.agreement.specs.Life.{Life}
 use Rattle.agreement.proofs.Steps.{held, life, life-held}
 use Rattle.agreement.proofs.Demand.{when-between}
-use Rattle.adoption.specs.Adopts.{isOut, adoptedView, OneFaced, NoneInCommon, TornInto}
+use Rattle.adoption.specs.Adopts.{isOut, adoptedView}
 use Rattle.adoption.specs.AdoptedViews.{AdoptedViews}
 use Rattle.adoption.proofs.Adoption.{adoption}
 

@@ -1,9 +1,8 @@
 -- Two sets of more than half of all N share a sender: nothing else is used, not the fault limit.
 use Prim.Native.Nat.{ℕ, zero, suc, _+_, _-_, _*_, _^_, _≤_, _<_}
-use mathlib.Core.Path.{_≡_, refl, sym, ap, ap₂, _∙_, subst}
-use mathlib.Core.Bool.{Bool, true, false, cond, not, _&&_, _||_, Bool·beq}
+use mathlib.Core.Path.{_≡_, sym, ap, _∙_, subst}
+use mathlib.Core.Bool.{Bool, true, false, _&&_, Bool·beq}
 use mathlib.Core.Logic.{⊎-elim, _≢_}
-use mathlib.Core.List.{List}
 use native.Mathlib.Omega.{arith}
 use native.Mathlib.Nat.{zero-lt-suc}
 use lib.Dec.{eqb}
@@ -12,9 +11,9 @@ use Rattle.words.specs.Bits.{bit, full}
 use Rattle.words.specs.Count.{count}
 use Rattle.words.proofs.Truth.{which, clash, and-l, and-r, and-true, beq-eq, cond-true}
 use Rattle.words.proofs.BitLaws.{bit-ext}
-use Rattle.words.proofs.CountLaws.{count-mono}
+use Rattle.words.proofs.CountLaws.{count-mono, count-ext}
 use Rattle.views.specs.ViewWord.{viewWord}
-use Rattle.views.specs.Adoption.{adoptable, adoptedFrom}
+use Rattle.views.specs.Adoption.{carriers, adoptable, adoptedFrom}
 use Rattle.views.specs.Views.{fullViews, viewsAfter}
 use Rattle.views.specs.AdoptionMeans.{Carried}
 use Rattle.views.specs.declared.Views.{Views}
@@ -23,9 +22,9 @@ use Rattle.views.proofs.ViewsLaws.{out-stays, undecided-stays, in-adopts, adopt
 use Rattle.agreement.specs.Session.{Session, Accepted, Partitionable, size, u, RuleFollower, viewWordIn, hearsView, state, viewWordSent, viewOf}
 use Rattle.agreement.proofs.Steps.{setup-fits, seen}
 use Rattle.agreement.proofs.Aligned.{view-sent-is}
+use Rattle.agreement.proofs.VotedViews.{opened-views, voted, views-after, voted-says}
 use Rattle.adoption.specs.Adopts.{isOut, adoptedView, carriersHeard, Adopts, OneFaced, NoneInCommon, TornInto}
 use Rattle.adoption.specs.Adoption.{Adoption}
-use Rattle.adoption.proofs.VotedViews.{opened-views, voted, views-after, carriers-are}
 
 -- ---- one module
 
@@ -55,12 +54,16 @@ module _ (S : Session) (ok : Accepted S) (set : Partitionable S) (i : ℕ) (belo
   adopted-is : (k : ℕ) → adoptedView S i (suc k) ≡ after k .adopted
   adopted-is k = ap (λ (v : Views). v .adopted) (views-after S ok set i below k)
 
-  -- what is carried is carried in the round adopted from
+  -- who carries a value in the view words voted on is who carries it in the round adopted from, of those heard
+  carriers-are : (k j : ℕ) (value : Bool) → carriers n (voted S ok set i below k) j value ≡ carriersHeard S (suc k - u S) i j value
+  unfolding carriers
+  carriers-are k j value = count-ext n _ _ (λ l h. voted-says S ok set i below k l (λ w. Bool·beq (bit w j) value) h)
+
   carried-is : (k v : ℕ) → Carried n (voted S ok set i below k) v → (j : ℕ) → j < n → n < 2 * carriersHeard S (suc k - u S) i j (bit v j)
-  carried-is k v c j h = subst (λ (m : ℕ). n < 2 * m) (carriers-are S ok set i below k j (bit v j)) (c j h)
+  carried-is k v c j h = subst (λ (m : ℕ). n < 2 * m) (carriers-are k j (bit v j)) (c j h)
 
   is-carried : (k v : ℕ) → ((j : ℕ) → j < n → n < 2 * carriersHeard S (suc k - u S) i j (bit v j)) → Carried n (voted S ok set i below k) v
-  is-carried k v c j h = subst (λ (m : ℕ). n < 2 * m) (sym (carriers-are S ok set i below k j (bit v j))) (c j h)
+  is-carried k v c j h = subst (λ (m : ℕ). n < 2 * m) (sym (carriers-are k j (bit v j))) (c j h)
 
   adopts : (k : ℕ) → isOut S i (suc k) ≡ false → Adopts S i (suc k) (adoptedView S i (suc k))
   adopts k f =

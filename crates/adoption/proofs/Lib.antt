@@ -1,3 +1,4 @@
-pub mod VotedViews
 pub mod Adoption
 pub mod AdoptedViews
+pub mod SyndromesAlone
+pub mod Cases

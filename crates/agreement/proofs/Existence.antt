@@ -10,7 +10,7 @@ use native.Mathlib.Nat.{eq-or-lt-of-le, le-refl, not-suc-le-zero}
 use borrow.Author.Tests.{not-true}
 use lib.Dec.{ltb}
 use lib.ListN.{getD}
-use Rattle.words.specs.Bits.{bit, full}
+use Rattle.words.specs.Bits.{bit}
 use Rattle.words.proofs.Truth.{clash, which, cond-true}
 use Rattle.words.proofs.ByteLaws.{bytes-ext}
 use Rattle.rules.specs.Hearing.{busWord}

@@ -15,7 +15,6 @@ use Rattle.rules.specs.Hearing.{readingOf, causesOf}
 use Rattle.changes.specs.Books.{counted, booksAfter}
 use Rattle.changes.proofs.TurnLaws.{turned-size, turned-q, turned-partitionable, turned-marks, turned-places, turned-fades}
 use Rattle.views.specs.ViewWord.{readWords, viewsSeen}
-use Rattle.views.specs.declared.Views.{Views}
 use Rattle.presence.specs.Valid.{Valid}
 use Rattle.presence.specs.Opening.{fresh, openOf}
 use Rattle.presence.specs.Step.{placeOf, markOf, ownSyndrome, readLength, alignedFor, judgementFor, outgoingFor, booksOf, votedViews, viewsFor, outgoingView, afterRound, acceptedStep}

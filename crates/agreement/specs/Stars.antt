@@ -22,7 +22,7 @@ use Rattle.accounts.specs.Round.{countersOf}
 use Rattle.presence.specs.Opening.{fresh}
 use Rattle.rules.specs.declared.Judgement.{Judgement}
 use Rattle.accounts.specs.declared.Counters.{Counters}
-use Rattle.agreement.specs.Session.{Session, size, u, follows, round, wordIn, state, health, sent, Bound, kept}
+use Rattle.agreement.specs.Session.{Session, Partitionable, size, u, follows, round, wordIn, viewWordIn, hearsView, state, health, sent, viewWordSent, Bound, BoundViews, kept}
 use Rattle.agreement.specs.Demand.{KeptTo}
 
 -- ---- the table: what the definitions give, and what document 01 says
@@ -84,6 +84,14 @@ bound S last =
     (λ i. all (size S)
     (λ l. not (follows S i && (follows S l && round S (suc k) .hears i l)) || eqb (wordIn S (suc k) i l) (sent S l (suc k)))))
 
+-- every view word of a rule-follower that a rule-follower heard is the one that was sent, up to round `last`
+unfoldable pub boundViews : Session → ℕ → Bool
+boundViews S last =
+    all last
+    (λ k. all (size S)
+    (λ i. all (size S)
+    (λ l. not (follows S i && (follows S l && hearsView S (suc k) i l)) || eqb (viewWordIn S (suc k) i l) (viewWordSent S l (suc k)))))
+
 -- the limit was kept in every round from 1 to k
 unfoldable pub keptTo : Session → ℕ → Bool
 keptTo S k = all k (λ ρ. kept S (suc ρ))
@@ -92,10 +100,11 @@ keptTo S k = all k (λ ρ. kept S (suc ρ))
 abbrev pub keptForStep : Session → ℕ → Bool
 keptForStep S k = keptTo S (k - u S)
 
--- What these three tests mean: each passes exactly if what it stands for holds.
+-- What these tests mean: each passes exactly if what it stands for holds.
 pub record TestsMean : Type 0 where
-  -- the session is bound up to round k
+  -- the session is bound up to round k, in its words and, where it is partitionable, in its view words
   pub bound-means : (S : Session) (k : ℕ) → (bound S k ≡ true) ↔ Bound S k
+  pub views-mean : (S : Session) → Partitionable S → (k : ℕ) → (boundViews S k ≡ true) ↔ BoundViews S k
   -- the limit is kept for every ρ from 1 to k
   pub kept-means : (S : Session) (k : ℕ) → (keptTo S k ≡ true) ↔ ((ρ : ℕ) → 0 < ρ → ρ ≤ k → kept S ρ ≡ true)
   -- it is kept for every ρ from 1 to k - u

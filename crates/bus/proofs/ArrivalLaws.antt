@@ -90,28 +90,37 @@ module _ (partitionable : Bool) (n place i : ℕ) (this before thisViews beforeV
   abbrev read : List ℕ
   read = wordsRead partitionable n place i this before thisViews beforeViews
 
+  abbrev words : List ℕ
+  words = bytesOf n (entryRead place i this before)
+
+  abbrev views : List ℕ
+  views = bytesOf n (entryRead place i thisViews beforeViews)
+
+  -- as a session has it (readBytes, agreement/specs/Session.antt)
+  pub read-is : read ≡ cond partitionable (words ++ views) words
+  unfolding wordsRead
+  read-is = go partitionable
+    where
+      go : (b : Bool) → words ++ cond b views [] ≡ cond b (words ++ views) words
+      go true = refl
+      go false = append-nil words
+
   pub read-length : length read ≡ readWords partitionable n * 4
   unfolding wordsRead
-  read-length = length-append (bytesOf n (entryRead place i this before)) _ ∙ go partitionable
+  read-length = length-append words _ ∙ go partitionable
     where
-      go : (b : Bool) → length (bytesOf n (entryRead place i this before)) + length (cond b (bytesOf n (entryRead place i thisViews beforeViews)) [])
-          ≡ readWords b n * 4
-      go true =
-          let x = bytes-length n (entryRead place i this before) in
-          let y = bytes-length n (entryRead place i thisViews beforeViews) in
-          omega arith
-      go false =
-          let x = bytes-length n (entryRead place i this before) in
-          omega arith
+      go : (b : Bool) → length words + length (cond b views []) ≡ readWords b n * 4
+      go true = omega (arith, bytes-length n (entryRead place i this before), bytes-length n (entryRead place i thisViews beforeViews))
+      go false = omega (arith, bytes-length n (entryRead place i this before))
 
   pub read-word : (j : ℕ) → j < n → wordAt read j ≡ entryRead place i this before j
   unfolding wordsRead
   read-word j h =
       let l = bytes-length n (entryRead place i this before) in
-      word-front (bytesOf n (entryRead place i this before)) _ j (omega arith) ∙ word-of n (entryRead place i this before) j h
+      word-front words _ j (omega arith) ∙ word-of n (entryRead place i this before) j h
 
   pub read-view : partitionable ≡ true → (j : ℕ) → j < n → wordAt read (n + j) ≡ entryRead place i thisViews beforeViews j
   unfolding wordsRead
   read-view t j h =
-      word-after (bytesOf n (entryRead place i this before)) _ n j (bytes-length n (entryRead place i this before))
+      word-after words _ n j (bytes-length n (entryRead place i this before))
       ∙ ap (λ (s : List ℕ). wordAt s j) (cond-true _ [] t) ∙ word-of n (entryRead place i thisViews beforeViews) j h

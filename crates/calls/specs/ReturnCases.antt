@@ -2,7 +2,7 @@
 -- limit: what the calls give, and what document 02 says. Computed in proofs/ReturnCases.antt.
 use Prim.Native.Nat.{ℕ, suc, _*_}
 use mathlib.Core.Path.{_≡_}
-use mathlib.Core.Bool.{Bool, true, _&&_}
+use mathlib.Core.Bool.{Bool, true, false, _&&_}
 use mathlib.Core.List.{List, [], _∷_, _++_}
 use lib.Dec.{eqb}
 use lib.ListN.{getD, replicate, take}
@@ -72,7 +72,7 @@ headCases =
 abbrev pub imageCases : List Case
 imageCases =
     holds (openedImage 0x1000_0204) 18 (0xE080_0000 ∷ 0xE100_0000 ∷ 0xE180_0000 ∷ 0xE200_0000 ∷ 0xF080_0000 ∷ 0xF100_0000 ∷ 0xF180_0000 ∷ 0xF200_0000 ∷ 0 ∷ [])
-    ++ (case (imageLength 3 4 0) (27 * 4) ∷ answers (openCall (setup 0x1000_0204) 1 (replicate 88 0) .answer) 9 0
+    ++ (case (imageLength 3 4 0 false) (27 * 4) ∷ answers (openCall (setup 0x1000_0204) 1 (replicate 88 0) .answer) 9 0
     ++ answers (saveCall (take 88 (openedImage 0x1000_0204)) out .answer) 3 0)
 
 -- ---- Q = 2: a module outside the view with health 1 for Q rounds running returns with penalty P and reward 0

@@ -37,7 +37,10 @@ use words::word::copy_words;
 use words::word::put_word;
 use words::word::word_at;
 ghost use mathlib.Core.Path.{_≡_};
+ghost use Rattle.words.specs.Word.{wordAt};
+ghost use Rattle.setup.specs.Setup.{sizeIn, frontIn};
 ghost use Rattle.image.specs.Check.{checkImage};
+ghost use Rattle.presence.specs.Step.{markOf};
 ghost use Rattle.presence.specs.Image.{stateOf};
 ghost use Rattle.calls.specs.Calls.{answer, called, checkCall, openCall, stepCall, changeCall, saveCall, handedOut, outgoingCall, viewHandedOut, outgoingViewCall, refusedCause, causeCall};
 
@@ -159,6 +162,7 @@ pub extern "C" fn presence_step(
     let health = played(
         image,
         fades,
+        partitionable,
         n,
         part,
         limits,
@@ -223,6 +227,15 @@ pub extern "C" fn presence_save(image: &[u8], out: &mut [u8]) -> Answer
     refuse(0, 0)
 }
 
+// The send mark of the module itself, in its own word.
+fn own_mark(image: &[u8], front: usize, n: usize) -> bool
+    requires { ⌜ (checkImage (now image) .number ≡ 0) × (front ≡ frontIn (wordAt (now image))) × (n ≡ sizeIn (wordAt (now image) 0)) ⌝ }
+    ensures { λ r. ⌜ r ≡ markOf (stateOf (now (image .entry))) ⌝ }
+{
+    let own = own_in(image, front, n);
+    bit_at(word_at(image, front + own - 1), 22)
+}
+
 // The word handed out by the step or opening that wrote this image.
 fn word_in(image: &[u8]) -> u32
     requires { ⌜ checkImage (now image) .number ≡ 0 ⌝ }
@@ -230,11 +243,21 @@ fn word_in(image: &[u8]) -> u32
 {
     let n = size_at(image);
     let front = front_words(fades_at(image));
-    let own = own_in(image, front, n);
-    let mark = bit_at(word_at(image, front + own - 1), 22);
+    let mark = own_mark(image, front, n);
     let earlier = earlier_in(image, front, n);
     let latest = latest_in(image, front, n);
     rules::judge::outgoing(mark, earlier, latest)
+}
+
+// An answer without a word, by a number and the place of a word in the image.
+fn refuse_word(number: u32, place: u32) -> WordAnswer
+    ensures { λ r. ⌜ (r .number ≡ number) × (r .index ≡ place) × (r .word ≡ 0) ⌝ }
+{
+    WordAnswer {
+        number,
+        index: place,
+        word: 0,
+    }
 }
 
 // The word to put on the bus, from an image: 1 to 8 and 22.
@@ -244,11 +267,7 @@ pub extern "C" fn presence_outgoing(image: &[u8]) -> WordAnswer
 {
     let v = check_image(image);
     if v.number != 0 {
-        return WordAnswer {
-            number: v.number,
-            index: v.index,
-            word: 0,
-        };
+        return refuse_word(v.number, v.index);
     }
     WordAnswer {
         number: 0,
@@ -267,8 +286,7 @@ fn view_word_in(image: &[u8]) -> u32
     }
     let n = size_at(image);
     let front = front_words(fades_at(image));
-    let own = own_in(image, front, n);
-    let mark = bit_at(word_at(image, front + own - 1), 22);
+    let mark = own_mark(image, front, n);
     let at = views_at(front, n, word_at(image, left_at(front, n)));
     view_word(pick(mark, word_at(image, at + n + 1), word_at(image, at + n)))
 }
@@ -278,13 +296,9 @@ fn view_word_in(image: &[u8]) -> u32
 pub extern "C" fn presence_outgoing_view(image: &[u8]) -> WordAnswer
     ensures { λ r. ⌜ r ≡ outgoingViewCall (now (image .entry)) ⌝ }
 {
-    let v = check_image(image);
-    if v.number != 0 {
-        return WordAnswer {
-            number: v.number,
-            index: v.index,
-            word: 0,
-        };
+    let found = check_image(image);
+    if found.number != 0 {
+        return refuse_word(found.number, found.index);
     }
     WordAnswer {
         number: 0,

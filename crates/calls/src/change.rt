@@ -19,7 +19,7 @@ ghost use Rattle.setup.specs.Setup.{partitionableIn, placeUnit, setupOf};
 ghost use Rattle.setup.specs.Check.{checkSetup};
 ghost use Rattle.changes.specs.Pending.{pendingOf};
 ghost use Rattle.changes.specs.Frame.{sameFrame};
-ghost use Rattle.image.specs.Layout.{imageLength};
+ghost use Rattle.image.specs.Layout.{leftAt, imageLength};
 ghost use Rattle.image.specs.Check.{checkImage};
 ghost use Rattle.presence.specs.Image.{imageOf, stateOf};
 ghost use Rattle.presence.specs.Change.{withPending};
@@ -55,7 +55,8 @@ pub fn same_frame(image: &[u8], bytes: &[u8]) -> bool
 // Writes the image with the new words of a setup pending, and the views behind them.
 pub fn save_changed(image: &[u8], bytes: &[u8], n: usize, lead: u32, out: &mut [u8])
     requires { ⌜ (checkImage (now image) .number ≡ 0) × (checkSetup (now bytes) .number ≡ 0) × (n ≡ stateOf (now image) .setup .n)
-        × (sameFrame (setupOf (now image)) (setupOf (now bytes)) ≡ true) × (0 < lead) × (length (now out) ≡ imageLength 3 n lead (partitionableIn (wordAt (now image) 0))) ⌝ }
+        × (sameFrame (setupOf (now image)) (setupOf (now bytes)) ≡ true) × (0 < lead) × (wordAt (now image) (leftAt 3 n) ≡ 0)
+        × (length (now out) ≡ imageLength 3 n lead (partitionableIn (wordAt (now image) 0))) ⌝ }
     requires { ⌜ ((i : ℕ) → getD (now image) i 0 < 256) × ((i : ℕ) → getD (now bytes) i 0 < 256) ⌝ }
     ensures { λ _. ⌜ now (out .exit) ≡ imageOf (withPending (stateOf (now (image .entry))) (pendingOf (setupOf (now (bytes .entry))) lead)) ⌝ }
 {

@@ -13,24 +13,21 @@ use setup::Limits;
 use setup::bounds::front_words;
 use setup::layout::setup_words;
 use views::lent::agree;
-use words::bits::bit_at;
 use words::bits::pick;
 use words::word::copy_run;
 use words::word::copy_words;
 use words::word::put_word;
-use words::word::word_at;
 ghost use mathlib.Core.Path.{_≡_};
 ghost use mathlib.Core.Bool.{true, cond};
 ghost use mathlib.Core.List.{List, _++_};
 ghost use Prim.Native.Nat.{ℕ, _+_, _-_, _*_, _^_, _≤_, _<_};
 ghost use lib.ListN.{length, getD, drop};
 ghost use lib.Dec.{ltb};
-ghost use Rattle.words.specs.Word.{wordAt};
 ghost use Rattle.words.specs.Array.{array, Filled};
 ghost use Rattle.words.specs.Runs.{putRuns};
 ghost use Rattle.setup.specs.Layout.{frontWords, setupLength};
 ghost use Rattle.setup.specs.Limits.{fades as fadesOf};
-ghost use Rattle.setup.specs.Setup.{partitionableIn, frontOf, setupBytes};
+ghost use Rattle.setup.specs.Setup.{frontOf, setupBytes};
 ghost use Rattle.rules.specs.Hearing.{readingOf};
 ghost use Rattle.changes.specs.Books.{turned as turnedOf};
 ghost use Rattle.changes.specs.Words.{changeRuns};
@@ -179,6 +176,7 @@ fn save_views(
 pub fn played(
     image: &[u8],
     fades: bool,
+    partitionable: bool,
     n: usize,
     part: ImagePart,
     limits: Limits,
@@ -194,11 +192,11 @@ pub fn played(
     requires { ⌜ (checkImage (now image) .number ≡ 0) × (n ≡ stateOf (now image) .setup .n) × (fades ≡ fadesOf (stateOf (now image) .setup .limits))
         × HeldBy (stateOf (now image)) part (now rows)
         × CountedBy (turnedOf (booksOf (stateOf (now image)))) limits (part .q) (now criticality) (now first) (now second) (now returns) ⌝ }
-    requires { ⌜ (length (now read) ≡ readWords (partitionableIn (wordAt (now image) 0)) n * 4) × (controller < 2 ^ n)
-        × (length (now out) ≡ imageLength (frontWords fades) n (part .left - 1) (partitionableIn (wordAt (now image) 0))) ⌝ }
+    requires { ⌜ (partitionable ≡ stateOf (now image) .setup .partitionable) × (length (now read) ≡ readWords partitionable n * 4) × (controller < 2 ^ n)
+        × (length (now out) ≡ imageLength (frontWords fades) n (part .left - 1) partitionable) ⌝ }
     ensures { λ r. ⌜ (r ≡ judgementFor (stateOf (now (image .entry))) (readingOf n (now (read .entry)) controller) .health)
         × (now (out .exit) ≡ imageOf (afterRound (stateOf (now (image .entry))) (readingOf n (now (read .entry)) controller)
-        (viewsSeen (partitionableIn (wordAt (now (image .entry)) 0)) n (now (read .entry)) controller))) ⌝ }
+        (viewsSeen partitionable n (now (read .entry)) controller))) ⌝ }
 {
     let front = front_words(fades);
     let place = place_in(image, front, part.own - 1);
@@ -216,7 +214,7 @@ pub fn played(
         rows,
         &mut this,
     );
-    let view = kept(
+    let after = kept(
         limits,
         n,
         part.q,
@@ -231,7 +229,7 @@ pub fn played(
         fades,
         n,
         part.own,
-        view,
+        after,
         j.heard,
         &this,
         j.syndrome,
@@ -240,7 +238,7 @@ pub fn played(
     );
     save_accounts(fades, n, first, second, returns, out);
     save_pending(image, front, n, part.left, out);
-    if bit_at(word_at(image, 0), 5) {
+    if partitionable {
         let split = pick(part.skew, place, 0);
         save_views(
             image,
@@ -251,7 +249,7 @@ pub fn played(
             read,
             controller,
             part.view,
-            view,
+            after,
             out,
         );
         return j.health;

@@ -14,11 +14,6 @@ use Rattle.image.proofs.SectionLaws.{tests-made}
 
 -- ---- their room
 
--- there are at most as many words as where there are some
-pub views-most : (b : Bool) (n : ℕ) → viewsCount b n ≤ n + 4
-views-most true n = omega arith
-views-most false n = omega arith
-
 pub views-small : {at : ℕ} (front n left : ℕ) → front ≤ 6 → n ≤ 16 → at ≡ viewsAt front n left → at < 2 ^ 16
 views-small front n left h l e = omega (arith, e, new-most n left)
 

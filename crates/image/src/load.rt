@@ -106,11 +106,11 @@ pub fn load_image(
     let front = front_words(fades);
     let modules = load_modules(s, front, n, criticality);
     let alone = load_words(s, front, n);
-    let read = load_rows(s, front, n, rows);
     let at = left_at(front, n);
     let left = word_at(s, at);
     let change = check_change(s, fades, n, at);
     let views = views_good(s, bit_at(head, 5), front, n, alone.view, left);
+    let read = load_rows(s, front, n, rows);
     if !limits_right(s, fades) {
         return no_part();
     }

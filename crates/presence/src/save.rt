@@ -103,14 +103,8 @@ impl State {
         }
         let setup = self.setup;
         let limits = setup.limits;
-        if out.len()
-            != image_length(
-                front_words(fades(limits)),
-                setup.n,
-                pending.left,
-                setup.partitionable,
-            )
-        {
+        let front = front_words(fades(limits));
+        if out.len() != image_length(front, setup.n, pending.left, setup.partitionable) {
             return refusal(9, 0);
         }
         save_words(self, out);

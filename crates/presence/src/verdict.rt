@@ -70,12 +70,8 @@ impl State {
         // room for the longest image
         let limits = setup.limits;
         let mut out = [0u8; 512];
-        let k = image_length(
-            front_words(fades(limits)),
-            setup.n,
-            pending.left,
-            setup.partitionable,
-        );
+        let front = front_words(fades(limits));
+        let k = image_length(front, setup.n, pending.left, setup.partitionable);
         image_verdict(self, &mut out[..k])
     }
 }

@@ -1,7 +1,7 @@
 -- The words before the views, and those of the views.
 use native.Mathlib.Omega.{arith}
 use Rattle.changes.proofs.SectionTests.{new-most}
-use Rattle.image.proofs.TornLaws.{views-most}
+use Rattle.views.proofs.ViewWords.{views-most}
 use borrow.Author.Needs.{needs}
 use Rattle.image.proofs.layout.image_length.Statement.{statement}
 use Rattle.image.proofs.layout.image_length.Tie as tie

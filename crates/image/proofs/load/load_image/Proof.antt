@@ -58,12 +58,6 @@ load-modules-requires c κs = search needs
 load-words-requires : tie.Need-load-words-requires
 load-words-requires c κs = search needs
 
-load-rows-requires : tie.Need-load-rows-requires
-load-rows-requires c κs =
-    let s = c .before .before .before .before .before .before .before .before in
-    let f = c .before .before .before .before .front-words .ensures in
-    (f .2, s .pre .0 .0, by-front (s .args .fades) (s .args .n) (s .args .s .now) (f .0) (s .pre .0 .1), s .pre .1 .1)
-
 left-at-requires : tie.Need-left-at-requires
 left-at-requires c κs = search needs
 
@@ -72,8 +66,8 @@ word-at-requires-2 c κs = search needs
 
 check-change-requires : tie.Need-check-change-requires
 check-change-requires c κs =
-    let s = c .before .before .before .before .before .before .before .before .before .before .before in
-    let f = c .before .before .before .before .before .before .before .front-words .ensures in
+    let f = c .before .before .before .before .before .front-words .ensures in
+    let s = c .before .before .before .before .before .before .before .before .before in
     let e = c .before .left-at .ensures in
     (s .pre .0 .0, omega (arith, f .2, s .pre .0 .0), change-room (s .args .fades) (s .args .n) (wordAt (s .args .s .now)) (f .0) e (s .pre .0 .1))
 
@@ -83,10 +77,20 @@ bit-at-requires c κs = search needs
 views-good-requires : tie.Need-views-good-requires
 views-good-requires c κs =
     let d = c .before .before .before in
-    let f = d .before .before .before .before .before .before .front-words .ensures in
-    let head = d .before .before .before .before .before .before .before .before .word-at .ensures in
-    let s = d .before .before .before .before .before .before .before .before .before .before in
-    (f .2, s .pre .0 .0, length-found (s .args .fades) (s .args .n) (wordAt (s .args .s .now)) (f .0) (d .left-at .ensures) (c .before .before .word-at2 .ensures) (c .bit-at .ensures ∙ ap partitionableIn head) (s .pre .0 .1))
+    let f = d .before .before .before .before .front-words .ensures in
+    let head = d .before .before .before .before .before .before .word-at .ensures in
+    let s = d .before .before .before .before .before .before .before .before in (
+      f .2,
+      s .pre .0 .0,
+      length-found (s .args .fades) (s .args .n) (wordAt (s .args .s .now)) (f .0) (d .left-at .ensures) (c .before .before .word-at2 .ensures)
+          (c .bit-at .ensures ∙ ap partitionableIn head) (s .pre .0 .1),
+    )
+
+load-rows-requires : tie.Need-load-rows-requires
+load-rows-requires c κs =
+    let f = c .before .before .before .before .before .before .before .before .before .front-words .ensures in
+    let s = c .before .before .before .before .before .before .before .before .before .before .before .before .before in
+    (f .2, s .pre .0 .0, by-front (s .args .fades) (s .args .n) (s .args .s .now) (f .0) (s .pre .0 .1), s .pre .1 .1)
 
 limits-right-requires : tie.Need-limits-right-requires
 limits-right-requires c κs =
@@ -123,19 +127,19 @@ returns-2 c =
     let counted = c .before .before .before .before .load-accounts in
     let limits = c .before .before .before .before .before .before .before .before .before .limits-at .ensures in
     let i = c .before .before .before .before .before .before .before .before .before .before in
-    let views = i .before .before .views-good in
-    let bit = i .before .before .before .bit-at .ensures in
-    let change = i .before .before .before .before .check-change in
-    let left = i .before .before .before .before .before .word-at2 .ensures in
-    let h = i .before .before .before .before .before .before in
+    let read = i .before .before .load-rows in
+    let views = i .before .before .before .before .views-good in
+    let bit = i .before .before .before .before .before .bit-at .ensures in
+    let change = i .before .before .before .before .before .before .check-change in
+    let left = i .before .before .before .before .before .before .before .word-at2 .ensures in
+    let h = i .before .before .before .before .before .before .before .before in
     let at = h .left-at .ensures in
-    let read = h .before .load-rows in
-    let alone = h .before .before .before .load-words in
-    let modules = h .before .before .before .before .load-modules in
-    let front = h .before .before .before .before .before .before .front-words in
-    let head = h .before .before .before .before .before .before .before .before .word-at .ensures in
-    let q = h .before .before .before .before .before .before .before .field .ensures ∙ ap returnLimitIn head in
-    let s = h .before .before .before .before .before .before .before .before .before .before in
+    let alone = h .before .load-words in
+    let modules = h .before .before .load-modules in
+    let front = h .before .before .before .before .front-words in
+    let head = h .before .before .before .before .before .before .word-at .ensures in
+    let q = h .before .before .before .before .before .field .ensures ∙ ap returnLimitIn head in
+    let s = h .before .before .before .before .before .before .before .before in
     let w = wordAt (s .args .s .now) in
     let a = s .pre .0 in
     let x = given-by _ _ (s .args .fades) limits (counted .ensures) in (
@@ -173,12 +177,12 @@ load-image-spec =
     front-words-requires
     load-modules-requires
     load-words-requires
-    load-rows-requires
     left-at-requires
     word-at-requires-2
     check-change-requires
     bit-at-requires
     views-good-requires
+    load-rows-requires
     limits-right-requires
     no-part-requires
     returns

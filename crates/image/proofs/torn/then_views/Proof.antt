@@ -1,6 +1,5 @@
 -- The answer so far, where it refuses or there are no views, else the tests of the views.
-use mathlib.Core.Path.{_≡_, ap, sym, _∙_}
-use mathlib.Core.Bool.{true}
+use mathlib.Core.Path.{ap, sym, _∙_}
 use borrow.Author.Tests.{not-true, not-false}
 use Rattle.words.specs.Word.{wordAt}
 use Rattle.setup.specs.Setup.{partitionableIn}

@@ -1,29 +1,25 @@
 -- The view words that a step of a session votes on: after alignment each is of round k - u, as it is heard there.
-use Prim.Native.Nat.{ℕ, zero, suc, _+_, _-_, _*_, _<_}
-use mathlib.Core.Path.{_≡_, refl, sym, ap, ap₂, _∙_}
-use mathlib.Core.Bool.{Bool, true, cond, _&&_, Bool·beq}
+use Prim.Native.Nat.{ℕ, zero, suc, _-_, _<_}
+use mathlib.Core.Path.{_≡_, sym, ap, ap₂, _∙_}
+use mathlib.Core.Bool.{Bool, true, _&&_}
 use mathlib.Core.List.{List}
-use native.Mathlib.Omega.{arith}
 use lib.ListN.{getD}
-use Rattle.words.specs.Bits.{bit, full}
-use Rattle.words.specs.Count.{count}
+use Rattle.words.specs.Bits.{full}
 use Rattle.words.proofs.Truth.{cond-true}
 use Rattle.words.proofs.BitLaws.{bit-pack, full-lt}
-use Rattle.words.proofs.CountLaws.{count-ext}
 use Rattle.words.proofs.ArrayLaws.{array-at}
 use Rattle.rules.specs.Lag.{skewed}
-use Rattle.views.specs.ViewWord.{viewWord, viewWordHeard, viewEntry, viewsRead, viewsSeen, alignedViews}
-use Rattle.views.specs.Adoption.{isThere, carriers}
+use Rattle.views.specs.ViewWord.{viewWord, viewEntry, viewsRead, viewsSeen}
+use Rattle.views.specs.Adoption.{isThere}
 use Rattle.views.specs.Views.{fullViews, noViews, freshViews, viewsAfter}
 use Rattle.views.specs.declared.Views.{Views}
 use Rattle.views.proofs.ViewWordLaws.{view-heard, entry-says, views-at, aligned-at}
 use Rattle.presence.specs.Opening.{fresh}
-use Rattle.presence.specs.Step.{skewOf, placeOf, votedViews, viewsFor}
+use Rattle.presence.specs.Step.{votedViews, viewsFor}
 use Rattle.presence.specs.declared.State.{State}
 use Rattle.agreement.specs.Session.{Session, Accepted, Partitionable, size, u, bitIn, viewWordIn, hearsView, readRound, readBits, readBytes, state, viewOf}
 use Rattle.agreement.proofs.Steps.{seen, read-view, small, held, state-zero, views-suc}
 use Rattle.agreement.proofs.Aligned.{read-zero, own-place, own-skew, own-size, one-round}
-use Rattle.adoption.specs.Adopts.{carriersHeard}
 
 module _ (S : Session) (ok : Accepted S) (set : Partitionable S) (i : ℕ) (below : i < size S) where
   -- the view word of sender j in round k, as receiver i keeps it
@@ -83,10 +79,10 @@ module _ (S : Session) (ok : Accepted S) (set : Partitionable S) (i : ℕ) (belo
       let o = one-round S ok i below k j h (λ m. kept m j) _ _ (last-view k j h) (this-view (suc k) j h) in
       cc
 
-  -- so who carries a value there is who carries it in that round, of those heard
-  pub carriers-are : (k j : ℕ) (value : Bool) → carriers (size S) (voted k) j value ≡ carriersHeard S (suc k - u S) i j value
-  unfolding carriers hearsView
-  carriers-are k j value =
-      count-ext (size S) _ _
-      (λ l h. ap (λ (w : ℕ). isThere w && Bool·beq (bit w j) value) (voted-view k l h)
-      ∙ entry-says (size S) (bitIn S (suc k - u S) i l) (viewWordIn S (suc k - u S) i l) (λ w. Bool·beq (bit w j) value))
+  -- so what is asked of the word there is asked of the view word of that round, where it is heard
+  pub voted-says : (k j : ℕ) (p : ℕ → Bool) → j < size S
+      → isThere (getD (voted k) j 0) && p (getD (voted k) j 0) ≡ hearsView S (suc k - u S) i j && p (viewWordIn S (suc k - u S) i j)
+  unfolding hearsView
+  voted-says k j p h =
+      ap (λ (w : ℕ). isThere w && p w) (voted-view k j h)
+      ∙ entry-says (size S) (bitIn S (suc k - u S) i j) (viewWordIn S (suc k - u S) i j) p
