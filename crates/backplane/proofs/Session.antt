@@ -8,10 +8,10 @@ use native.Mathlib.Omega.{arith}
 use native.Mathlib.Nat.{le-refl}
 use lib.Dec.{eqb, ltb}
 use lib.ListN.{getD, length, replicate, length-replicate}
-use borrow.Author.Tests.{eqb-true, eq-eqb, ne-eqb, ltb-true, lt-ltb}
+use borrow.Author.Tests.{eqb-true, eq-eqb, ne-eqb, ltb-true, lt-ltb, not-true}
 use Rattle.words.specs.Bits.{bit, b2n}
 use Rattle.words.specs.Count.{all}
-use Rattle.words.proofs.Truth.{and-l, and-r, and-true, and-false-r, cond-true, cond-false}
+use Rattle.words.proofs.Truth.{clash, and-l, and-r, and-true, and-false-r, cond-true, cond-false}
 use Rattle.words.proofs.BitLaws.{bit-full}
 use Rattle.words.proofs.ArrayLaws.{array-at}
 use Rattle.words.proofs.CountLaws.{all-at}
@@ -35,7 +35,7 @@ use Rattle.script.specs.declared.Cursor.{Cursor}
 use Rattle.script.specs.declared.Events.{Events}
 use Rattle.script.proofs.CastLaws.{only-cast, plays-all}
 use Rattle.agreement.specs.Fault.{followsIn, firstFollower, keptOver, limit}
-use Rattle.agreement.specs.Session.{Offer, Session, Accepted, size, u, follows, RuleFollower, bitIn, wordIn, viewWordIn, round, state, health, viewOf, keptBy, kept}
+use Rattle.agreement.specs.Session.{Offer, Session, Accepted, size, u, follows, RuleFollower, Partitionable, bitIn, wordIn, viewWordIn, viewWordSent, BoundViews, round, state, health, viewOf, keptBy, kept}
 use Rattle.agreement.specs.Life.{Life}
 use Rattle.agreement.specs.Demand.{KeptTo}
 use Rattle.agreement.specs.Existence.{Choice, NoChanges}
@@ -43,11 +43,12 @@ use Rattle.agreement.proofs.Steps.{small, setup-fits, held}
 use Rattle.agreement.proofs.Demand.{demand-3}
 use Rattle.agreement.proofs.Without.{common-without, life-without}
 use Rattle.agreement.proofs.Existence.{existence}
+use Rattle.adoption.proofs.AdoptedViews.{adopted-views}
 use Rattle.bus.specs.Bus.{faultless, arrived}
 use Rattle.bus.specs.Senders.{hearingOf, sendersIn}
 use Rattle.backplane.specs.Play.{stateAt, openedStates, opened, sentWords, sentViews, steppedStates, answeredHealth, earlier, followersView, countingView, played}
 use Rattle.backplane.specs.Run.{begun, goesOn, nextOf, later, runAt}
-use Rattle.backplane.specs.Session.{PlayedBy, HasSession, Carries, Hears, Holds, PlaysSession, InAgrees}
+use Rattle.backplane.specs.Session.{PlayedBy, HasSession, Carries, Hears, Holds, PlaysSession, InAgrees, ShownAlike}
 use Rattle.backplane.specs.declared.Backplane.{Backplane}
 use Rattle.backplane.proofs.StartLaws.{accepts, setup-read}
 use Rattle.backplane.proofs.SessionLaws.{Tells, hears-bus, limit-as, carries, states-as, health-as}
@@ -229,6 +230,21 @@ has-session s e =
       },
     )
 
+-- what is sent binds the view words, since only the cast is told any
+pub views-bound : (s : List ℕ) → checkScript s .number ≡ 0 → (S : Session) → size S ≤ 16 → S .cast ≡ castOf s
+    → (Partitionable S → (k i j : ℕ) → j < size S → fateIn s (suc k) i j ≢ 8 → S .view (suc k) i j ≡ viewWordSent S j (suc k))
+    → (last : ℕ) → BoundViews S last
+unfolding viewWordIn
+views-bound s e S few c sends last p zero i l pos hk fi fl t = absurd (omega arith)
+views-bound s e S few c sends last p (suc k) i l pos hk fi fl t =
+    sends p k i l (fl .below)
+    (λ f.
+    let hi = fi .below in
+    let hl = fl .below in
+    let r : (i * 16 + l) % 16 ≡ l = omega arith in
+    let told : bit (castOf s) l ≡ true = rw r at (only-cast s e (suc k) (i * 16 + l) (omega arith) f) in
+    clash (bit (S .cast) l) (ap (λ (x : ℕ). bit x l) c ∙ told) (not-true _ (fl .true-to)))
+
 -- ---- the run is the session, round by round
 
 pub run-cursor : (s : List ℕ) (k : ℕ) → runAt s k .cursor ≡ cursorAt s k
@@ -304,3 +320,13 @@ in-agrees s e S P k pos hk t =
       charged = λ j hj un i fi. ap (λ (x : ℕ). bit x j) (h .health i (fi .below)) ∙ A .charged j hj un i _ [] _ fi (lives i);
       cleared = λ j fj here alike i fi. ap (λ (x : ℕ). bit x j) (h .health i (fi .below)) ∙ A .cleared j fj here alike i _ [] _ fi (lives i);
     }
+
+-- ---- what is adopted from the same view words is the same: adoption's theorem
+
+pub shown-alike : ShownAlike
+shown-alike s e S P p k hk one i i′ fi fi′ o o′ =
+    let h = plays-session s e S P (suc k) hk in
+    let life : (j : ℕ) → Life S j (suc k) [] (state S j (suc k)) (health S j (suc k)) = λ j. life-without S (P .no-changes) j (suc k) in
+    h .shown i (fi .below) ∙ cond-true _ _ p
+    ∙ adopted-views .one-view S (P .accepted) p k i i′ _ _ [] [] _ _ one fi fi′ (life i) (life i′) o o′
+    ∙ sym (h .shown i′ (fi′ .below) ∙ cond-true _ _ p)

@@ -20,6 +20,7 @@ use Rattle.script.specs.Effect.{fateIn, toldIn, toldViewIn}
 use Rattle.agreement.specs.Fault.{heard}
 use Rattle.agreement.specs.Session.{Session, Accepted, Partitionable, size, u, follows, RuleFollower, bitIn, wordIn, viewWordIn, round, state, health, sent, Bound, viewWordSent, BoundViews, unheard, halfHeard, viewOf, kept}
 use Rattle.agreement.specs.Existence.{NoChanges}
+use Rattle.adoption.specs.Adopts.{isOut, OneFaced}
 use Rattle.bus.specs.Bus.{bitTo, wordTo, viewTo}
 use Rattle.backplane.specs.Play.{stateAt}
 use Rattle.backplane.specs.Run.{runAt}
@@ -100,3 +101,11 @@ pub record PrintedIn (S : Session) (k : ℕ) (b : Backplane) : Type 0 where
 abbrev pub InAgrees : Type 0
 InAgrees = (s : List ℕ) → checkScript s .number ≡ 0 → (S : Session) → PlayedBy s S
     → (k : ℕ) → 0 < k → k ≤ roundsOf s → runAt s k .backplane .kept ≡ true → PrintedIn S k (runAt s k .backplane)
+
+-- Of a partitionable setup, in every round, `in` or `out`: two rule-followers that are not out show the same view, if no sender gave two rule-followers
+-- different view words in the round that they adopted it from. (document 02, E11; adoption/specs/AdoptedViews.antt says more of them)
+abbrev pub ShownAlike : Type 0
+ShownAlike = (s : List ℕ) → checkScript s .number ≡ 0 → (S : Session) → PlayedBy s S → Partitionable S
+    → (k : ℕ) → suc k ≤ roundsOf s → OneFaced S (suc k - u S)
+    → (i i′ : ℕ) → RuleFollower S i → RuleFollower S i′ → isOut S i (suc k) ≡ false → isOut S i′ (suc k) ≡ false
+    → shownView (stateAt (runAt s (suc k) .backplane .states) i) ≡ shownView (stateAt (runAt s (suc k) .backplane .states) i′)

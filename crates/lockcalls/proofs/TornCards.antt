@@ -101,7 +101,9 @@ module _ (S : Session) (ok : Accepted S) (t : Partitionable S) (i k last : ℕ) 
   before-is = adopted-views .shown S ok t i k _ _ _ below (card .lives k hk) .0
 
   stays : (m : ℕ) → suc k ≤ m → m ≤ last → shownView (card .state m) ≡ shownView (card .state k)
-  stays m h l = adopted-views .stays-shown S ok t i (suc k) m _ _ _ below out h (card .lives m l) ∙ sym before-is
+  stays m h l =
+      let e : suc k - 1 ≡ k = omega arith in
+      adopted-views .stays-shown S ok t i (suc k) m _ _ _ below out h (card .lives m l) ∙ ap (adoptedView S i) e ∙ sym before-is
 
   abbrev held : ℕ → Locks
   held m = locksAfter (size S) (toldCard between card m)
@@ -124,7 +126,9 @@ module _ (S : Session) (ok : Accepted S) (t : Partitionable S) (i k last : ℕ) 
 
   held-stays : (m : ℕ) → k ≤ m → m ≤ last → ((j : ℕ) → k ≤ j → j ≤ m → between j ≡ []) → held m ≡ held k
   unfolding history locksAfter
-  held-stays zero h l none = ap held (omega arith)
+  held-stays zero h l none =
+      let e : zero ≡ k = omega arith in
+      ap held e
   held-stays (suc m) h l none =
       ⊎-elim (λ (e : k ≡ suc m). ap held (sym e))
       (λ (g : k < suc m).
