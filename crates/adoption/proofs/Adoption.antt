@@ -1,6 +1,6 @@
 -- Two sets of more than half of all N share a sender: nothing else is used, not the fault limit.
 use Prim.Native.Nat.{ℕ, zero, suc, _+_, _-_, _*_, _^_, _≤_, _<_}
-use mathlib.Core.Path.{_≡_, sym, ap, _∙_, subst}
+use mathlib.Core.Path.{_≡_, refl, sym, ap, _∙_, subst}
 use mathlib.Core.Bool.{Bool, true, false, _&&_, Bool·beq}
 use mathlib.Core.Logic.{⊎-elim, _≢_}
 use native.Mathlib.Omega.{arith}
@@ -19,7 +19,7 @@ use Rattle.views.specs.AdoptionMeans.{Carried}
 use Rattle.views.specs.declared.Views.{Views}
 use Rattle.views.proofs.MajorityLaws.{common, carried, adopted as decided, adopted-lt}
 use Rattle.views.proofs.ViewsLaws.{out-stays, undecided-stays, in-adopts, adopts-in}
-use Rattle.agreement.specs.Session.{Session, Accepted, Partitionable, size, u, RuleFollower, viewWordIn, hearsView, state, viewWordSent, viewOf}
+use Rattle.agreement.specs.Session.{Session, Accepted, Partitionable, size, u, follows, RuleFollower, viewWordIn, hearsView, state, viewWordSent, BoundViews, viewOf}
 use Rattle.agreement.proofs.Steps.{setup-fits, seen}
 use Rattle.agreement.proofs.Aligned.{view-sent-is}
 use Rattle.agreement.proofs.VotedViews.{opened-views, voted, views-after, voted-says}
@@ -195,6 +195,19 @@ module _ (S : Session) (ok : Accepted S) (set : Partitionable S) where
       one-view S ok (suc k) i i′ _ _ (adopts S ok set i (fi .below) k (in-sooner S ok set i (fi .below) (suc k) last h f))
       (adopts S ok set i′ (fi′ .below) k (in-sooner S ok set i′ (fi′ .below) (suc k) last h f′)) fi fi′ (one (suc k) (zero-lt-suc k) h)
 
+cast-alone : (S : Session) → Partitionable S → (last ρ : ℕ) → BoundViews S last → ρ ≤ last
+    → ((i i′ j : ℕ) → RuleFollower S i → RuleFollower S i′ → follows S j ≡ false → hearsView S ρ i j ≡ true → hearsView S ρ i′ j ≡ true
+    → viewWordIn S ρ i j ≡ viewWordIn S ρ i′ j)
+    → OneFaced S ρ
+unfolding viewWordIn
+cast-alone S set last zero bound le cast i i′ j fi fi′ hj h h′ = refl
+cast-alone S set last (suc ρ) bound le cast i i′ j fi fi′ hj h h′ =
+    ⊎-elim
+    (λ (t : follows S j ≡ true).
+    let fj : RuleFollower S j = record { below = hj; true-to = t } in
+    bound set (suc ρ) i j (zero-lt-suc ρ) le fi fj h ∙ sym (bound set (suc ρ) i′ j (zero-lt-suc ρ) le fi′ fj h′))
+    (λ (f : follows S j ≡ false). cast i i′ j fi fi′ f h h′) (which (follows S j))
+
 pub adoption : Adoption
 adoption = record {
   opened = opened;
@@ -208,4 +221,5 @@ adoption = record {
   others-out = others-out;
   too-few = λ S ok set i k h. too-few S ok set i h k;
   same-views = same-views;
+  cast-alone = cast-alone;
 }

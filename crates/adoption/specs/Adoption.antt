@@ -9,7 +9,7 @@ use mathlib.Core.Logic.{_≢_}
 use Rattle.words.specs.Bits.{full}
 use Rattle.words.specs.Count.{count}
 use Rattle.views.specs.ViewWord.{viewWord}
-use Rattle.agreement.specs.Session.{Session, Accepted, Partitionable, size, u, RuleFollower, hearsView, viewWordSent, viewOf}
+use Rattle.agreement.specs.Session.{Session, Accepted, Partitionable, size, u, follows, RuleFollower, viewWordIn, hearsView, viewWordSent, BoundViews, viewOf}
 use Rattle.adoption.specs.Adopts.{isOut, adoptedView, Adopts, OneFaced, NoneInCommon, TornInto}
 
 pub record Adoption : Type 0 where
@@ -24,8 +24,8 @@ pub record Adoption : Type 0 where
   -- one that is out after step k "stays out until opened anew", and "its adopted view stays" as it was before that step
   pub stays : (S : Session) → Accepted S → Partitionable S → (i k m : ℕ) → i < size S → isOut S i k ≡ true → k ≤ m
       → (isOut S i m ≡ true) × (adoptedView S i m ≡ adoptedView S i (k - 1))
-  -- "Each module also sends its local view as a second word": the view word sent in round k + 1 holds the local view after step k, with the send mark
-  -- and without (lemma 12 of document 002)
+  -- "Each module also sends its local view as a second word" and "Out, it still steps and sends": the view word sent in round k + 1 holds the local view
+  -- after step k, out or not, with the send mark and without (lemma 12 of document 002)
   pub sends : (S : Session) → Accepted S → Partitionable S → (i k : ℕ) → i < size S → viewWordSent S i (suc k) ≡ viewWord (viewOf S i k)
   -- "If no sender gives two rule-followers different view words, then no two of them that were opened before round 1 adopt different views in a round,
   -- however much is lost." The round is k, in whose step they adopt; of the view words it is enough that those of round k - u, adopted from, are so.
@@ -49,7 +49,12 @@ pub record Adoption : Type 0 where
   -- ---- round after round
 
   -- Two rule-followers that are not out after step `last` had the same adopted view after each step up to it, if no sender gave two rule-followers
-  -- different view words in any of the rounds.
+  -- different view words in any of the rounds that they adopted from.
   pub same-views : (S : Session) → Accepted S → Partitionable S → (last i i′ : ℕ) → ((k : ℕ) → 0 < k → k ≤ last → OneFaced S (k - u S))
       → RuleFollower S i → RuleFollower S i′ → isOut S i last ≡ false → isOut S i′ last ≡ false
       → (k : ℕ) → k ≤ last → adoptedView S i k ≡ adoptedView S i′ k
+  -- Where view words are bound only the cast can give different ones: a round is one-faced if the rule-breakers' view words are so.
+  pub cast-alone : (S : Session) → Partitionable S → (last ρ : ℕ) → BoundViews S last → ρ ≤ last
+      → ((i i′ j : ℕ) → RuleFollower S i → RuleFollower S i′ → follows S j ≡ false → hearsView S ρ i j ≡ true → hearsView S ρ i′ j ≡ true
+      → viewWordIn S ρ i j ≡ viewWordIn S ρ i′ j)
+      → OneFaced S ρ

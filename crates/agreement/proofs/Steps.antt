@@ -56,7 +56,7 @@ read-view S p i k j h =
     ap (λ (read : List ℕ). wordAt read (size S + j)) (cond-true (syndromeBytes S i k ++ viewBytes S i k) (syndromeBytes S i k) p)
     ∙ word-after (syndromeBytes S i k) (viewBytes S i k) (size S) j (bytes-length (size S) _) ∙ word-of (size S) _ j h
 
-read-length : (S : Session) (i k : ℕ) → length (readBytes S i k) ≡ readWords (S .setup .partitionable) (size S) * 4
+pub read-length : (S : Session) (i k : ℕ) → length (readBytes S i k) ≡ readWords (S .setup .partitionable) (size S) * 4
 read-length S i k = go (S .setup .partitionable)
   where
     go : (b : Bool) → length (cond b (syndromeBytes S i k ++ viewBytes S i k) (syndromeBytes S i k)) ≡ readWords b (size S) * 4

@@ -17,7 +17,7 @@ use Rattle.rules.specs.declared.Reading.{Reading}
 use Rattle.rules.specs.declared.Reception.{Reception}
 use Rattle.rules.specs.Syndrome.{outgoingOf}
 use Rattle.words.proofs.Truth.{cond-true, cond-false, cond-both}
-use Rattle.words.specs.Verdict.{verdict, accepted, isAccepted, between, allRight}
+use Rattle.words.specs.Verdict.{isAccepted, between, allRight}
 use Rattle.setup.specs.Layout.{frontWords}
 use Rattle.setup.specs.Limits.{fades}
 use Rattle.setup.specs.Setup.{sizeIn, partitionableIn, markIn, fadesIn, frontIn, frontOf, setupOf}

@@ -40,6 +40,7 @@ lostRun = record {
   cast = 0;
   controller = λ k i j. not (eqb k 1 && eqb j 0);
   word = λ k i j. busWord 3;
+  view = λ k i j. 0;
   offers = λ k i. [];
 }
 

@@ -1,9 +1,9 @@
 -- The image, the new setup, the frame, the lead, the room, each in its turn; then the words are written.
 use native.Mathlib.Omega.{arith}
 use mathlib.Core.Path.{_∙_}
-use Rattle.calls.proofs.FrameWordLaws.{held, forms}
+use Rattle.calls.proofs.FrameWordLaws.{held}
 use Rattle.calls.proofs.ModuleCallLaws.{parted-by}
-use Rattle.calls.proofs.ChangeCallLaws.{change-bad-image, image-is, change-bad-setup, setup-is, change-other-frame, same-is, some-rounds, none-pending, change-long, change-no-lead, change-no-room, change-done, left-room, left-word, setup-of, size-of}
+use Rattle.calls.proofs.ChangeCallLaws.{change-bad-image, image-is, change-bad-setup, change-other-frame, same-is, some-rounds, none-pending, change-long, change-no-lead, change-no-room, change-done, left-room, left-word, setup-of, size-of}
 use borrow.Author.Needs.{needs}
 use Rattle.calls.proofs.calls.presence_change.Statement.{statement}
 use Rattle.calls.proofs.calls.presence_change.Tie as tie
