@@ -92,26 +92,26 @@ turnedWords =
 
 -- ---- a script with a torn cable
 
--- Rounds 1, 2 and 3 each with these losses: module 3 hears nobody else, and nobody else hears it. In round 3 module 2 tells module 1 the row and the view
+-- In rounds 1 and 2 module 3 hears nobody else, and nobody else hears it. In round 3 all is whole again, and module 2 tells module 1 the row and the view
 -- that it would have sent, and module 4 the same row with a view word of another kind, which looks like a play.
 abbrev pub tornLosses : List ℕ
-tornLosses = 0x7180_000B ∷ 0x7080_0004 ∷ 0x7100_0004 ∷ 0x7200_0004 ∷ []
+tornLosses = 0x7180_000B ∷ 0x7080_0004 ∷ 0x7100_0004 ∷ 0x7200_0004 ∷ 0x9000_0001 ∷ []
 
 abbrev pub tornScript : List ℕ
 tornScript =
     (0x1000_0524 ∷ 0x2000_0001 ∷ 0x3000_0003 ∷ 0x4088_0001 ∷ 0x4108_0002 ∷ 0x4188_0003 ∷ 0x4208_0004 ∷ 0x6000_0002 ∷ [])
-    ++ (tornLosses ++ (0x9000_0001 ∷ (tornLosses ++ (0x9000_0001 ∷ (tornLosses
-    ++ (0x8100_0001 ∷ 0x5000_000B ∷ 0xA000_000B ∷ 0x8100_0008 ∷ 0x5000_000B ∷ 0x9000_0001 ∷ 0x9000_0001 ∷ []))))))
+    ++ (tornLosses ++ (tornLosses
+    ++ (0x8100_0001 ∷ 0x5000_000B ∷ 0xA000_000B ∷ 0x8100_0008 ∷ 0x5000_000B ∷ 0x9000_0001 ∷ 0x9000_0001 ∷ [])))
 
 -- its words renumbered: both told words of each lie too
 abbrev pub turnedLosses : List ℕ
-turnedLosses = 0x7200_0007 ∷ 0x7100_0008 ∷ 0x7180_0008 ∷ 0x7080_0008 ∷ []
+turnedLosses = 0x7200_0007 ∷ 0x7100_0008 ∷ 0x7180_0008 ∷ 0x7080_0008 ∷ 0x9000_0001 ∷ []
 
 abbrev pub turnedScript : List ℕ
 turnedScript =
     (0x1000_0524 ∷ 0x2000_0001 ∷ 0x3000_0003 ∷ 0x4088_0004 ∷ 0x4108_0001 ∷ 0x4188_0002 ∷ 0x4208_0003 ∷ 0x6000_0004 ∷ [])
-    ++ (turnedLosses ++ (0x9000_0001 ∷ (turnedLosses ++ (0x9000_0001 ∷ (turnedLosses
-    ++ (0x8180_0002 ∷ 0x5000_0007 ∷ 0xA000_0007 ∷ 0x8180_0001 ∷ 0x5000_0007 ∷ 0x9000_0002 ∷ 0x9000_0001 ∷ []))))))
+    ++ (turnedLosses ++ (turnedLosses
+    ++ (0x8180_0002 ∷ 0x5000_0007 ∷ 0xA000_0007 ∷ 0x8180_0001 ∷ 0x5000_0007 ∷ 0x9000_0002 ∷ 0x9000_0001 ∷ [])))
 
 -- what is claimed
 pub record CasesRight : Type 0 where
@@ -128,13 +128,13 @@ pub record CasesRight : Type 0 where
       ≡ textOf ("1 1 1111 1111 in" ∷ "1 2 1111 1111 in" ∷ "1 3 1111 1111 in" ∷ "1 4 1111 1111 in"
       ∷ "2 1 1101 1101 out" ∷ "2 2 1111 1111 out" ∷ "2 3 1101 1101 out" ∷ "2 4 1101 1101 out" ∷ [])
   pub torn : scriptFor 4 turned (scriptOf tornScript) ≡ scriptOf turnedScript
-  -- Module 3 takes itself out in round 1. In round 3 modules 1 and 2 adopt the view without it, and module 4, which heard two view words of four, takes
-  -- itself out.
+  -- Module 3 takes itself out in round 1. In round 3 modules 1 and 2 adopt the view without it, that of three view words, and module 4, which has but two
+  -- such, takes itself out.
   pub torn-lines : outputOf (scriptOf tornScript)
       ≡ textOf ("1 1 1111 1111 out" ∷ "1 2 1111 1111 out" ∷ "1 3 1111 1111 out" ∷ "1 4 1111 1111 out"
       ∷ "2 1 1101 1111 out" ∷ "2 2 1101 1111 out" ∷ "2 3 0010 1111 out" ∷ "2 4 1101 1111 out"
-      ∷ "3 1 1101 1101 out" ∷ "3 2 1101 1101 out" ∷ "3 3 0010 1111 out" ∷ "3 4 1101 1111 out" ∷ [])
+      ∷ "3 1 1101 1101 out" ∷ "3 2 1101 1101 out" ∷ "3 3 0101 1111 out" ∷ "3 4 1101 1111 out" ∷ [])
   pub turned-torn-lines : outputOf (scriptOf turnedScript)
       ≡ textOf ("1 1 1111 1111 out" ∷ "1 2 1111 1111 out" ∷ "1 3 1111 1111 out" ∷ "1 4 1111 1111 out"
       ∷ "2 1 1110 1111 out" ∷ "2 2 1110 1111 out" ∷ "2 3 1110 1111 out" ∷ "2 4 0001 1111 out"
-      ∷ "3 1 1110 1111 out" ∷ "3 2 1110 1110 out" ∷ "3 3 1110 1110 out" ∷ "3 4 0001 1111 out" ∷ [])
+      ∷ "3 1 1110 1111 out" ∷ "3 2 1110 1110 out" ∷ "3 3 1110 1110 out" ∷ "3 4 1010 1111 out" ∷ [])
