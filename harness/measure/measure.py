@@ -259,7 +259,9 @@ def steps_as_said(presence, page, form):
 
 # by form and N the most that a step may take of plain C's instructions: what was reached, rounded up; a form that is not here has no goal
 GOALS = {"counts": {2: 1.0, 4: 0.68, 8: 0.45, 16: 0.33},
-         "fading": {2: 1.11, 4: 0.87, 8: 0.63, 16: 0.49}}
+         "fading": {2: 1.11, 4: 0.87, 8: 0.63, 16: 0.49},
+         "counts+views": {4: 0.7, 16: 0.26},
+         "fading+views": {4: 0.85, 16: 0.36}}
 ALIKE = {"counts"}  # the forms of which the same number of instructions in every kind of round is asked
 
 

@@ -3,7 +3,7 @@ use Prim.Native.Nat.{ℕ, suc, _+_, _-_, _*_, _%_, _^_, _<_, _≤_}
 use mathlib.Core.Path.{_≡_, refl, sym, ap, ap₂, _∙_}
 use mathlib.Core.Bool.{Bool, true, false, cond, not}
 use mathlib.Core.Logic.{⊎-elim, _≢_}
-use mathlib.Core.List.{List, [], _++_, append-nil}
+use mathlib.Core.List.{List, _++_}
 use native.Mathlib.Omega.{arith}
 use native.Mathlib.Nat.{mod-eq-of-lt}
 use lib.Dec.{eqb, ltb}
@@ -30,9 +30,9 @@ use Rattle.agreement.proofs.FaultLaws.{SendersAlike, senders-alike, kept-alike}
 use Rattle.agreement.proofs.Steps.{small, held}
 use Rattle.agreement.proofs.Aligned.{sent-is, view-sent-is}
 use Rattle.agreement.proofs.Without.{ready-without}
-use Rattle.bus.specs.Bus.{wordTo, viewTo, roundOf, arrived, wordsRead, bitsRead}
+use Rattle.bus.specs.Bus.{wordTo, viewTo, roundOf, arrived, bitsRead}
 use Rattle.bus.specs.Senders.{hearingOf, sendersIn}
-use Rattle.bus.proofs.ArrivalLaws.{word-arrives, view-arrives}
+use Rattle.bus.proofs.ArrivalLaws.{word-arrives, view-arrives, read-is}
 use Rattle.backplane.specs.Play.{stateAt, sentWords, sentViews, stepAt, steppedStates, answeredHealth}
 use Rattle.backplane.specs.Session.{Carries, Hears}
 use Rattle.bus.specs.declared.Bus.{Bus}
@@ -47,9 +47,9 @@ arrives-as fate lie plain =
     (which (eqb fate 8))
 
 -- a read with view words or without
-read-made : (b : Bool) {x x′ y y′ : List ℕ} → x ≡ x′ → (b ≡ true → y ≡ y′) → x ++ cond b y [] ≡ cond b (x′ ++ y′) x′
-read-made true e f = ap₂ (λ (x y : List ℕ). x ++ y) e (f refl)
-read-made false {x} e f = append-nil x ∙ e
+read-alike : (b : Bool) {x x′ y y′ : List ℕ} → x ≡ x′ → (b ≡ true → y ≡ y′) → cond b (x ++ y) x ≡ cond b (x′ ++ y′) x′
+read-alike true e f = ap₂ (λ (x y : List ℕ). x ++ y) e (f refl)
+read-alike false e f = e
 
 module _ (S : Session) (ok : Accepted S) where
   abbrev n : ℕ
@@ -153,11 +153,12 @@ module _ (S : Session) (ok : Accepted S) where
       choose-bit false i j hi hj = let e : suc k - 1 ≡ k = omega arith in rw e (c′ .bits i j hi hj)
 
       step-as : (i : ℕ) → i < n → stepAt (S .setup) states this before i ≡ answerAt S i (suc k) (ready S i k)
-      unfolding stepAt wordsRead bitsRead readRound
+      unfolding stepAt bitsRead readRound
       step-as i hi =
           let place = getD (S .setup .places) i 0 in
           let w =
-          read-made (S .setup .partitionable) (bytes-ext n _ _ (λ j hj. choose (ltb j place) i j hi hj))
+          read-is (S .setup .partitionable) n place i (this .words) (before .words) (this .views) (before .views)
+          ∙ read-alike (S .setup .partitionable) (bytes-ext n _ _ (λ j hj. choose (ltb j place) i j hi hj))
           (λ p. bytes-ext n _ _ (λ j hj. choose-view p (ltb j place) i j hi hj)) in
           let b = pack-ext n _ _ (λ j hj. choose-bit (ltb j place) i j hi hj) in
           ap₂ (λ (x : List ℕ) (y : ℕ). stepOf (stateAt states i) x y) w b

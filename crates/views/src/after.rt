@@ -14,7 +14,7 @@ ghost use Rattle.words.specs.Array.{array};
 ghost use Rattle.views.specs.Views.{fullViews, noViews, freshViews, viewsAfter};
 
 // Every view is full, as at opening.
-pub fn full_views(n: usize) -> Views
+pub(crate) fn full_views(n: usize) -> Views
     requires { ⌜ n ≤ 16 ⌝ }
     ensures { λ r. ⌜ r ≡ fullViews n ⌝ }
 {

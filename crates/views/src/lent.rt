@@ -32,7 +32,7 @@ pub(crate) fn load_view_words(s: &[u8], n: usize, at: usize, words: &mut [u32; 1
 }
 
 // Writes the words of the views.
-pub fn save_view_words(
+pub(crate) fn save_view_words(
     n: usize,
     words: &[u32; 16],
     latest: u32,

@@ -23,7 +23,7 @@ pub fn read_words(partitionable: bool, n: usize) -> usize
 }
 
 // The view words of a read of 2n words, in an array that is lent as zeros; 0 where one is missing.
-pub fn read_views(n: usize, read: &[u8], controller: u32, this: &mut [u32; 16])
+pub(crate) fn read_views(n: usize, read: &[u8], controller: u32, this: &mut [u32; 16])
     requires { ⌜ (n ≤ 16) × ((n + n) * 4 ≤ length (now read)) × (now this ≡ array 0 (λ _. 0)) ⌝ }
     ensures { λ _. ⌜ now (this .exit) ≡ viewsRead n (now (read .entry)) controller ⌝ }
 {
