@@ -3,7 +3,6 @@
 use crate::model::change::Pending;
 use crate::model::setup::{Module, Setup};
 use crate::model::state::{Entry, State};
-use crate::model::views::Views;
 use crate::model::words::{full, has, only, MAX};
 use crate::random::Random;
 use crate::script::{Item, Script};
@@ -64,15 +63,9 @@ impl Renumbering {
         moved
     }
 
-    /// A read: the word of each sender, renumbered, at its new number. Of view words behind the syndromes the same.
-    pub fn read(&self, read: &[u32]) -> Vec<u32> {
-        let mut moved = read.to_vec();
-        for (words, moved) in read.chunks(self.n()).zip(moved.chunks_mut(self.n())) {
-            for j in 1..=self.n() {
-                moved[self.of(j) - 1] = self.word(words[j - 1]);
-            }
-        }
-        moved
+    /// A read: the word of each sender, renumbered, at its new number.
+    pub fn read(&self, read: &[u32; MAX]) -> [u32; MAX] {
+        self.each(&read.map(|word| self.word(word)))
     }
 
     /// Each module keeps its criticality. A read place of N stays N; what another becomes is not said by E8, here it stays too.
@@ -91,12 +84,9 @@ impl Renumbering {
             Item::Loss { sender, receivers } => {
                 Item::Loss { sender: self.of(sender), receivers: self.vector(receivers) }
             }
-            Item::Lie { sender, receivers, told, told_view } => Item::Lie {
-                sender: self.of(sender),
-                receivers: self.vector(receivers),
-                told: self.word(told),
-                told_view: told_view.map(|word| self.word(word)),
-            },
+            Item::Lie { sender, receivers, told } => {
+                Item::Lie { sender: self.of(sender), receivers: self.vector(receivers), told: self.word(told) }
+            }
             Item::Play { rounds } => Item::Play { rounds },
         }
     }
@@ -115,17 +105,6 @@ impl Renumbering {
             score: self.each(&state.score),
             returns: self.each(&state.returns),
             pending: state.pending.map(|pending| Pending { setup: self.setup(&pending.setup), ..pending }),
-            views: state.views.map(|views| self.views(&views)),
-        }
-    }
-
-    /// Views, and those in view words; who is out stays out.
-    fn views(&self, views: &Views) -> Views {
-        Views {
-            words: self.each(&views.words.map(|word| self.word(word))),
-            earlier: self.vector(views.earlier),
-            adopted: self.vector(views.adopted),
-            out: views.out,
         }
     }
 

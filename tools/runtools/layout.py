@@ -6,7 +6,6 @@ from . import marks, svg
 
 WIDE, NARROW = 26, 20    # width of a column of one round, and of a range of rounds
 SCORE = 15               # height of a third band, for scores
-VIEWS = 16               # height of a last band, for the views that a module holds
 STRIP = 18
 MARGIN = 20
 MOST_WIDTH = 1040        # of the columns of a panel
@@ -17,19 +16,13 @@ NO_BREAK = "\u00a0"
 
 
 def width_of(column):
-    """Wide enough for its scores and for the letters of its views."""
+    """Wide enough for its scores."""
     least = WIDE if column.first == column.last else NARROW
-    texts = [score_text(scores) for scores in column.scores] + [views.letters for views in column.views]
-    return max([least, *(math.ceil(svg.text_width(text, 10)) + 4 for text in texts)])
+    return max([least, *(math.ceil(svg.text_width(score_text(scores), 10)) + 4 for scores in column.scores)])
 
 
 def row_height(account):
-    return marks.BAND + marks.JUDGED + (SCORE if account.scores else 0) + (VIEWS if account.adoption else 0)
-
-
-def strips_height(account):
-    """Of the rows above the modules: fault limit and agreement, and what was adopted where the setup is partitionable."""
-    return STRIP * (3 if account.adoption else 2)
+    return marks.BAND + marks.JUDGED + (SCORE if account.scores else 0)
 
 
 def score_text(scores):

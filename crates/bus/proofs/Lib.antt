@@ -1,3 +1,2 @@
-pub mod ArrivalLaws
 pub mod HalfHeardLaws
 pub mod LimitLaws

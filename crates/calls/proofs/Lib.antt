@@ -12,4 +12,3 @@ pub mod OutgoingImage
 pub mod ReturnCases
 pub mod Cases
 pub mod NewLimitCases
-pub mod TornCases

@@ -5,4 +5,3 @@ pub mod ReturnCases
 pub mod Held
 pub mod Cases
 pub mod NewLimitCases
-pub mod TornCases

@@ -50,7 +50,6 @@ impl State {
         let setup = self.setup;
         let counters = self.counters;
         let previous = self.previous;
-        let views = self.views;
         let pending = pending_of(new, lead);
         let state = State {
             setup,
@@ -60,7 +59,6 @@ impl State {
             latest: self.latest,
             earlier: self.earlier,
             pending,
-            views,
         };
         Changed {
             number: v.number,

@@ -1,7 +1,6 @@
 pub mod PermutationLaws
 pub mod VectorForLaws
 pub mod WordForLaws
-pub mod ViewForLaws
 pub mod StepForLaws
 pub mod LimitForLaws
 pub mod ZeroLagLaws

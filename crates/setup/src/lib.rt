@@ -11,8 +11,6 @@ pub struct Setup {
     pub n: usize,
     // The return limit Q.
     pub q: u32,
-    // Whether modules send view words too, for stands whose cable may tear.
-    pub partitionable: bool,
     pub limits: Limits,
     pub marks: u32,
     pub places: [u32; 16],

@@ -6,8 +6,11 @@ use Rattle.calls.proofs.ModuleCallLaws.{outgoing-refused, outgoing-made
 use Rattle.calls.proofs.calls.presence_outgoing.Statement.{statement}
 use Rattle.calls.proofs.calls.presence_outgoing.Tie as tie
 
+check-image-requires : tie.Need-check-image-requires
+check-image-requires c κs = search needs
+
 returns : tie.Need-returns
-returns c = outgoing-refused _ (c .before .before .before .check-image .ensures) (c .before .if1 .taken) (c .refuse-word .ensures)
+returns c = outgoing-refused _ (c .before .before .check-image .ensures) (c .if1 .taken)
 
 word-in-requires : tie.Need-word-in-requires
 word-in-requires c κs = ap (λ (v : Verdict). v .number) (sym (c .before .before .check-image .ensures)) ∙ c .if1 .left
@@ -19,8 +22,7 @@ pub presence-outgoing-spec : {M : Type 1} → statement M
 presence-outgoing-spec =
     tie.close
     (tie.spec
-    (λ c κs. search needs)
-    (λ c κs. search needs)
+    check-image-requires
     returns
     word-in-requires
     returns-2)

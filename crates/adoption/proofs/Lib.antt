@@ -1,4 +1,0 @@
-pub mod Adoption
-pub mod AdoptedViews
-pub mod SyndromesAlone
-pub mod Cases

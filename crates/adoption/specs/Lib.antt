@@ -1,5 +1,0 @@
-pub mod Adopts
-pub mod Adoption
-pub mod AdoptedViews
-pub mod SyndromesAlone
-pub mod Cases
