@@ -2,11 +2,11 @@
  * presence.h - presence of modules on the stage backplane, C interface
  *
  * A backplane has N modules, N from 2 to 16, numbered 1 to N.  Each module
- * sends one word a round on the bus.  Each module makes one step a round and
- * learns from it which modules were healthy and which still count as members
- * (the view).
+ * sends one word a round on the bus, or two (see STANDS WITH A TORN CABLE).
+ * Each module makes one step a round and learns from it which modules were
+ * healthy and which still count as members (the view).
  *
- * Seven functions of a module:
+ * Eight functions of a module:
  *
  *   presence_check_setup   tests a setup
  *   presence_open          setup and own number  -> image of a fresh module
@@ -14,6 +14,7 @@
  *   presence_save          image                 -> the same image, tested
  *   presence_change        image and new limits  -> image in which they wait
  *   presence_outgoing      image                 -> word to put on the bus
+ *   presence_outgoing_view image                 -> second word to put there
  *   presence_read_cause    N and one bus word    -> why it is not heard
  *
  * Five more for a module whose host reads its presence from a register page:
@@ -25,16 +26,17 @@
  *   presence_page_interrupt  whether the interrupt to the host is on
  *
  * All are in libgirmaut.a (make library); libcalls.a (rt staticlib calls)
- * has the first seven alone.
+ * has the first eight alone.
  *
  * A module's state is its image, a block of bytes that the caller keeps.
  * Nothing is kept between calls: the result of a call and the bytes it writes
  * follow from its arguments alone.  The functions use no heap, no static
- * variables and no C library calls.  With counts and with fading (see SETUP)
- * an accepted presence_step takes 1,032 bytes of stack (measured, for N = 2,
- * 4, 8 and 16) and a refused one 1,192, presence_page_step 1,248 and 1,400,
- * presence_page_open 328, presence_change 296, presence_open and presence_save
- * 216; no other call takes more than 200.
+ * variables and no C library calls.  With counts and with fading (see SETUP),
+ * with head bit 5 and without, an accepted presence_step takes 1,112 bytes of
+ * stack (measured, for N = 2, 4, 8 and 16) and a refused one 1,272,
+ * presence_page_step 1,352 and 1,512, presence_page_open 408, presence_open
+ * 312, presence_change 296, presence_save 216; no other call takes more than
+ * 200.
  *
  * Instructions of an accepted presence_step and presence_page_step (page), the
  * most that were counted in quiet and loud rounds and in rounds in which
@@ -46,25 +48,32 @@
  * With counts:
  *
  *    N   step   page        N   step   page        N   step   page
- *    2  1,106  1,304        7  2,006  2,265       12  2,130  2,383
- *    3  1,306  1,528        8  1,502  1,720       13  2,507  2,783
- *    4  1,216  1,404        9  1,912  2,154       14  2,715  3,015
- *    5  1,596  1,807       10  2,113  2,379       15  2,915  3,239
- *    6  1,806  2,041       11  2,313  2,603       16  2,371  2,654
+ *    2  1,139  1,347        7  2,025  2,284       12  2,151  2,406
+ *    3  1,338  1,569        8  1,523  1,750       13  2,525  2,799
+ *    4  1,240  1,434        9  1,931  2,178       14  2,732  3,029
+ *    5  1,617  1,830       10  2,131  2,401       15  2,931  3,251
+ *    6  1,826  2,062       11  2,330  2,623       16  2,390  2,677
  *
  * With fading:
  *
  *    N   step   page        N   step   page        N   step   page
- *    2  1,134  1,333        7  2,303  2,565       12  2,755  3,022
- *    3  1,402  1,623        8  1,931  2,159       13  3,127  3,418
- *    4  1,417  1,611        9  2,312  2,565       14  3,378  3,691
- *    5  1,789  2,007       10  2,539  2,814       15  3,639  3,974
- *    6  2,042  2,282       11  2,807  3,104       16  3,227  3,528
+ *    2  1,168  1,372        7  2,333  2,589       12  2,786  3,039
+ *    3  1,435  1,660        8  1,964  2,189       13  3,152  3,427
+ *    4  1,455  1,647        9  2,340  2,588       14  3,402  3,698
+ *    5  1,821  2,035       10  2,566  2,835       15  3,662  3,979
+ *    6  2,073  2,308       11  2,833  3,123       16  3,254  3,539
  *
  * With counts and a change of limits pending (see NEW LIMITS WITHOUT A STOP),
- * at N = 2, 4, 8 and 16: a step takes 1,222, 1,396, 1,750 and 2,785, with a
- * page 1,420, 1,585, 1,969 and 3,069; the step that applies the change 1,295,
- * 1,451, 1,869 and 2,996, with a page 1,555, 1,741, 2,186 and 3,436.
+ * at N = 2, 4, 8 and 16: a step takes 1,251, 1,416, 1,771 and 2,804, with a
+ * page 1,462, 1,615, 2,000 and 3,093; the step that applies the change 1,316,
+ * 1,464, 1,880 and 3,005, with a page 1,583, 1,756, 2,203 and 3,448.
+ *
+ * With head bit 5 (see STANDS WITH A TORN CABLE), at N = 2, 4, 8 and 16, where
+ * more than half of all view words are the same: with counts a step takes
+ * 1,461, 1,617, 1,834 and 2,870, with fading 1,485, 1,832, 2,275 and 3,734.
+ * Where no two are the same, which takes most: with counts 1,505, 1,819, 2,151
+ * and 3,677, with a page 1,727, 2,028, 2,390 and 3,976; with fading 1,530,
+ * 2,034, 2,592 and 4,541, with a page 1,748, 2,241, 2,829 and 4,838.
  *
  *
  * CALLS AT THE SAME TIME
@@ -142,6 +151,7 @@
  *
  *   word      kind  content
  *   0         1     27..8 return limit Q, 0..1,000,000 (0: never);
+ *                   5 partitionable (see STANDS WITH A TORN CABLE);
  *                   4..0 N, 2..16
  *   1         2     penalty limit P, 1..1,000,000
  *   2         3     reward limit R, 1..8,000,000
@@ -181,7 +191,7 @@
  *
  *
  * IMAGE: 5N+7 words with counts, 5N+10 with fading; with counts and a pending
- * change (see NEW LIMITS WITHOUT A STOP) 6N+9
+ * change (see NEW LIMITS WITHOUT A STOP) 6N+9; with head bit 5 N+4 more
  *
  *   counts    fading     kind  content
  *   0..N+2    0..N+5           the setup
@@ -203,13 +213,23 @@
  *   5N+8      none       3     its reward limit R
  *   5N+8+j    none       4     module j as in the setup, with its new
  *                              criticality
+ *   and only with head bit 5, at the end; b is 5N+7, with fading 5N+10, with a
+ *   pending change 6N+9
+ *   b+j-1     b+j-1      10    view word of module j in the latest read, as it
+ *                              came; 0 (all 32 bits) if it was missing
+ *   b+N       b+N        -     the local view, as in word N+3 (fading N+6)
+ *   b+N+1     b+N+1      -     the local view before the latest step
+ *   b+N+2     b+N+2      -     the adopted view
+ *   b+N+3     b+N+3      -     1 if the card has taken itself out, else 0
  *
  * So in a fading image the view stands three words later: read it by
- * PRESENCE_FADING_VIEW there, by PRESENCE_VIEW in an image with counts.
+ * PRESENCE_FADING_VIEW there, by PRESENCE_VIEW in an image with counts.  With
+ * head bit 5 this is the local view; presence_shown_view reads the adopted one.
  *
  * A fresh image has all modules in the view, all rows heard and all ones,
  * both syndromes all ones, all counters 0, all scores 0.0 and no pending
- * change.
+ * change.  With head bit 5 every view is full, those in the view words too, and
+ * the card is not out.
  *
  *
  * HOW A CARD LEAVES AND COMES BACK
@@ -336,9 +356,9 @@
  * this step has the new setup and no pending change.
  *
  * Only one change can be pending.  Nothing else of a setup can be changed: N,
- * Q, read places and send marks have to be those of the image's setup, and
- * neither side may fade (23).  P, R and criticalities that are the old ones are
- * accepted.
+ * Q, head bit 5, read places and send marks have to be those of the image's
+ * setup, and neither side may fade (23).  P, R and criticalities that are the
+ * old ones are accepted.
  *
  * Lengths.  A change makes the image longer by N+2 words, and the step that
  * applies it writes the shorter one again.  The output of a step has the length
@@ -354,7 +374,8 @@
  *
  * So give both images of a module room for the longer one, and pass the lengths
  * that presence_image_bytes and presence_stepped_bytes tell of the current one.
- * presence_rounds_left tells the rounds left.
+ * presence_rounds_left tells the rounds left.  With head bit 5 each of these
+ * lengths is PRESENCE_VIEWS_BYTES more, which the two functions count in.
  *
  * On a whole backplane all modules have to change in the same round.  So offer
  * the same setup with the same lead to every module between the same two of its
@@ -384,7 +405,105 @@
  * page shows of a change what it does to the view.
  *
  *
- * READ: N words
+ * STANDS WITH A TORN CABLE
+ *
+ * Where the cards of a stand hang on a cable and it tears, the cards of each
+ * part strike those of the other off, and each part takes itself for the whole.
+ * A setup with head bit 5 is partitionable: of two parts at most one goes on,
+ * the one with more than half of all N cards, and the cards of the other know
+ * that they are out.  Without head bit 5 nothing of this section exists.
+ *
+ * Two words a round.  Each module also sends its view as a second word of kind
+ * 10.  presence_outgoing_view tells it, from the same image and for the same
+ * round and slot as presence_outgoing tells the first.  The view that a module
+ * counts by and sends is its local view.
+ *
+ * A read has 2N words, PRESENCE_PARTITIONABLE_READ_BYTES: the N words of READ
+ * below, then the view words that came with them, that of module j as word
+ * N+j-1.  One controller bit covers both words of a module.  A view word is
+ * missing if this bit is 0, it is not of kind 10, or one of its bits 27..N is
+ * 1.  Each of the two words can be missing by itself: where only one of them
+ * came in, set the bit and put 0 in the place of the other.  No word makes a
+ * call refused.  Causes are those of the first words alone.
+ *
+ * A step votes on the view words of one round, each with its sender's local
+ * view after the step of the round before; the module's own word is among them,
+ * as its controller heard it.  It is this round if every l is N, else the round
+ * before this one.  For each module the value, in the view or not, that more
+ * than half of all N modules carry is taken: 2 of N = 2 or 3, 3 of 4 or 5, 9 of
+ * 16.  It is more than half of all, not of those heard or in the view.
+ *
+ *   - If every module has such a value, these values are the adopted view.
+ *   - If one has none, nothing is adopted, and the card takes itself out.  It
+ *     stays out, whatever it hears later, and its adopted view stays as it was.
+ *
+ * A card that is out still makes its steps and sends both words.  Its local
+ * view, health and counters go on, and its vote counts.  Saving keeps that it
+ * is out.  It comes in again only by opening anew (presence_open).
+ *
+ * Which view is which.  All rules go by the local view, and so does flag 1 of
+ * the page; PRESENCE_VIEW and PRESENCE_FADING_VIEW read it.  Word 1 and flag 0
+ * of the page are of the adopted view, and the scan lock is handed it:
+ * presence_shown_view reads it, and without head bit 5 reads the local one, so
+ * that a card may always act on it.  presence_is_out tells whether a card is
+ * out; the page does not.  While all cards follow the rules and hear one
+ * another, the adopted view is the local view of one step before if every l is
+ * N, else of two steps before.
+ *
+ * Lengths.  An image has N+4 words more at its end, PRESENCE_VIEWS_BYTES.
+ * presence_opened_bytes and presence_changed_bytes tell how long the output of
+ * an opening and of a change is, presence_read_bytes how long a read is;
+ * presence_image_bytes and presence_stepped_bytes count the views in.  Any
+ * image has room in PRESENCE_MAX_PENDING_IMAGE_BYTES and
+ * PRESENCE_MAX_VIEWS_BYTES together.
+ *
+ * Two parts, for example five cards, P = 1 and criticality 1, every l N; the
+ * cable tears between cards 3 and 4 before round 10.  Module 1 stands leftmost.
+ *
+ *     after    cards 1, 2, 3          cards 4, 5
+ *     step     local    adopted       local    adopted
+ *      9       11111    11111         11111    11111
+ *     10       11111    11111         11111    11111   out
+ *     11       11111    11111         11111    11111   out
+ *     12       11100    11111         00011    11111   out
+ *     13       11100    11100         00011    11111   out
+ *
+ * With two of four cards in each part no part has more than half: all are out,
+ * and all open anew when the cable is whole again.
+ *
+ * What a card does.  Out, it drives nothing: its adopted view is an old one,
+ * and the other part may drive what it drove.  When it hears more than half of
+ * all cards again, it opens anew, as HOW A CARD LEAVES AND COMES BACK says,
+ * from the setup that its image begins with; a pending change is lost with the
+ * image and has to be offered again.  It should not wait: since it sends, it
+ * comes back to the others' views after Q good rounds, or has never left them,
+ * and they leave to it what it does not drive.  Opened anew it adopts what the
+ * others adopt, if it hears enough of them, from its first step on if every l
+ * is N, else from its second: in the first, up to l of the words that it votes
+ * on are those of its opened image, which nobody sent.  Until then it drives
+ * nothing.
+ *
+ * What is promised, of cards that follow the rules, were opened before round 1
+ * and made every step since:
+ *
+ *   - No two of them adopt different views in a round, however much is lost, if
+ *     in the round voted on no sender gives two of them different view words
+ *     (proved).  The fault limit is not asked for.
+ *   - Two of them that hear no common sender's view word in a round never both
+ *     adopt from it (proved).
+ *   - What is said elsewhere of health, local views and counters holds as it
+ *     does without head bit 5, by the first words alone (proved).  A torn cable
+ *     breaks the fault limit, since each part then hears itself alone; so the
+ *     local views of its parts may differ.
+ *
+ * What is not promised: that anybody adopts.  If enough is lost all cards are
+ * out, and one is out after a single round in which it heard too little.  Nor
+ * that a card that is out, or opened later, shows what the others show.  Nor
+ * that the adopted view is a true one where more than half of all cards, those
+ * outside the view included, send a false one.
+ *
+ *
+ * READ: N words; with head bit 5 2N words, these and then N view words
  *
  * Word j-1 is the latest word that came in from module j, at the time of the
  * read: of this round for j <= l, of the round before for the others.  The
@@ -393,7 +512,8 @@
  * Module j is heard if this bit is 1, the word is of kind 5 and bits 27..N of
  * it are 0.  A word that is not heard may hold any bits; it never makes a
  * call refused.  Before round 1 all modules count as heard with the word
- * 0x50000000 with the N lowest bits set.
+ * 0x50000000 with the N lowest bits set, and with head bit 5 with the view word
+ * 0xA0000000 with the N lowest bits set.
  *
  * Why a word is not heard is its cause, the first of these that applies:
  *
@@ -410,22 +530,23 @@
  *
  *   offset  word  content
  *   0       0     health vector of the latest step; all ones when opened
- *   4       1     the module's view after the latest step or the opening
+ *   4       1     the module's view after the latest step or the opening; with
+ *                 head bit 5 the adopted one
  *   8       2     flags: bit 0 the view changed, bit 1 somebody was charged
  *   12      3     enable
  *   16..28  4-7   causes of the latest read, one byte a module
  *   32..60  8-15  0
  *
- * A step sets flag 0 if the view that it leaves differs from word 1 of the
- * page that it is lent, and flag 1 if a module has health 0 that was in the
- * view before the step and that no change applied in it has put out.  Flags
- * stay until the host clears them: a write of word 2 clears the flags that are
- * written as ones.  A write of word 3 is stored whole.  A step leaves enable,
- * words 8 to 15 and the other bits of word 2 as they are.  The interrupt is on
- * exactly while flags and enable share a set bit.  So a flag is lost only by a
- * write that names it, or when the page is opened anew; and while a flag is set
- * the interrupt is on whenever its bit of enable is set, be it set before the
- * flag or later.
+ * A step sets flag 0 if the view that it writes to word 1 differs from what
+ * word 1 of the page that it is lent holds, and flag 1 if a module has health 0
+ * that was in the view (the local one) before the step and that no change
+ * applied in it has put out.  Flags stay until the host clears them: a write of
+ * word 2 clears the flags that are written as ones.  A write of word 3 is
+ * stored whole.  A step leaves enable, words 8 to 15 and the other bits of word
+ * 2 as they are.  The interrupt is on exactly while flags and enable share a
+ * set bit.  So a flag is lost only by a write that names it, or when the page
+ * is opened anew; and while a flag is set the interrupt is on whenever its bit
+ * of enable is set, be it set before the flag or later.
  *
  * Words 4 to 7 hold four modules each, one byte a module, module 1 topmost:
  * the cause of module j stands in word 4+(j-1)/4, in bit 31-8*((j-1)%4) and the
@@ -454,12 +575,13 @@
  *    1   setup or image empty, or its length is no          0
  *        multiple of 4
  *    2   first word no head: kind not 1, N not 2..16, Q     0
- *        over 1,000,000, or one of bits 7..5 set; n of
+ *        over 1,000,000, or one of bits 7..6 set; n of
  *        presence_read_cause not 2..16
  *    3   setup not of N+3 words; image too short for its    0
  *        rounds-left word, or not of 5N+7 words where that
  *        is 0 and 6N+9 where it is not; where word 1 is of
- *        kind 0, not of N+6, and 5N+10 or 6N+12
+ *        kind 0, not of N+6, and 5N+10 or 6N+12; with head
+ *        bit 5 the image not of N+4 words more
  *    4   limit word wrong: kind (word 1 of neither 2 nor    1 (P) or 2 (R)
  *        0), or P or R out of range
  *    5   module word wrong: kind, number not in turn, l     its word,
@@ -471,8 +593,8 @@
  *        (in an image tested only if that word is of        image: N+3;
  *        kind 10)                                           fading N+6
  *    8   wrong word in the part of an image after the       its word,
- *        setup: kind, order or number of a word; a bit set  N+3..6N+8; fading
- *        that must be 0; a vector with a bit at N or        N+6..5N+9 (view
+ *        setup: kind, order or number of a word; a bit set  N+3..7N+12; fading
+ *        that must be 0; a vector with a bit at N or        N+6..6N+13 (view
  *        above; a row that is not 0 though not heard;       against penalty:
  *        penalty over P + criticality; reward R or more,    the penalty word;
  *        or over 0 with penalty 0; a module in the view     reward with
@@ -482,16 +604,22 @@
  *        negative, infinite or no number (NaN); a module    return count:
  *        in the view with a score at or above the limit,    the count's;
  *        or out of it with one below; rounds left over      score: its high
- *        1,000, or not 0 with fading; a word of a pending   half)
- *        change that is wrong as a limit or a module word,
- *        or whose l or send mark is not the setup's
- *    9   read not of N words, output not of the words of    0
- *        the image that the call would write, or page not
- *        of 16 (a length that is no multiple of 4 included)
+ *        1,000, or not 0 with fading; a word of a pending   half; the two
+ *        change that is wrong as a limit or a module word,  local views:
+ *        or whose l or send mark is not the setup's; with   the later word)
+ *        head bit 5 a view word neither 0 nor of kind 10
+ *        with view bits alone, a local view that is not
+ *        that of the kind 10 word, or the last word over 1
+ *    9   read not of N words, with head bit 5 not of 2N;    0
+ *        output not of the words of the image that the
+ *        call would write, or page not of 16 (a length
+ *        that is no multiple of 4 included)
  *   10   controller has a bit at N or above; that of        0
  *        presence_read_cause is not 0 or 1
  *   11   retired: no call answers it; every word that a
- *        module hands out is one that receivers hear
+ *        module hands out is one that receivers hear, and
+ *        no view word that it hands out is missing by its
+ *        form
  *   17   byte offset that is not the start of one of the    0
  *        page's 16 words
  *   18   write outside words 2 and 3 of the page            0
@@ -500,8 +628,8 @@
  *        (NaN); limit not above 0.0, over 1,000,000.0 or    4 (limit's)
  *        no number
  *   23   new setup differs in more than P, R and            0
- *        criticalities: in N, Q, a read place or a send
- *        mark; or it or the image is fading
+ *        criticalities: in N, Q, head bit 5, a read place
+ *        or a send mark; or it or the image is fading
  *   24   a change is pending, or lead is not 1..1,000       0
  *
  * Other numbers do not occur in these functions.
@@ -539,22 +667,32 @@ extern "C" {
 
 /* Lengths in bytes for n modules with counts, setup n+3 and image 5n+7 words,
    6n+9 while a change is pending, and with fading, setup n+6 and image 5n+10
-   words.  A read has n words with both. */
+   words.  A read has n words with both.  With head bit 5 each of these images
+   has n+4 words more, PRESENCE_VIEWS_BYTES, and a read has 2n. */
 #define PRESENCE_SETUP_BYTES(n) (4u * ((size_t)(n) + 3u))
 #define PRESENCE_IMAGE_BYTES(n) (4u * (5u * (size_t)(n) + 7u))
 #define PRESENCE_PENDING_IMAGE_BYTES(n) (4u * (6u * (size_t)(n) + 9u))
 #define PRESENCE_FADING_SETUP_BYTES(n) (4u * ((size_t)(n) + 6u))
 #define PRESENCE_FADING_IMAGE_BYTES(n) (4u * (5u * (size_t)(n) + 10u))
 #define PRESENCE_READ_BYTES(n) (4u * (size_t)(n))
+#define PRESENCE_VIEWS_BYTES(n) (4u * ((size_t)(n) + 4u))
+#define PRESENCE_PARTITIONABLE_READ_BYTES(n) (8u * (size_t)(n))
 
 /* The same for N = 16.  A setup of either form has room in that with fading, an
-   image of either form in that with a pending change; so it is for every N. */
+   image of either form in that with a pending change; so it is for every N.
+   Where head bit 5 may be set, an image of any form has room in the two lengths
+   PENDING_IMAGE and VIEWS together. */
 #define PRESENCE_MAX_SETUP_BYTES 76u
 #define PRESENCE_MAX_IMAGE_BYTES 348u
 #define PRESENCE_MAX_PENDING_IMAGE_BYTES 420u
 #define PRESENCE_MAX_FADING_SETUP_BYTES 88u
 #define PRESENCE_MAX_FADING_IMAGE_BYTES 360u
 #define PRESENCE_MAX_READ_BYTES 64u
+#define PRESENCE_MAX_VIEWS_BYTES 80u
+#define PRESENCE_MAX_PARTITIONABLE_READ_BYTES 128u
+
+/* Head bit 5, by which a setup is partitionable. */
+#define PRESENCE_PARTITIONABLE 0x20u
 
 /* The most rounds that a change may be ahead. */
 #define PRESENCE_MAX_LEAD 1000u
@@ -563,8 +701,10 @@ extern "C" {
 #define PRESENCE_FADING_FRONT_BYTES 24u
 
 /* Whether an accepted setup or image, given as a pointer to uint8_t, is of the
-   fading form: 1 or 0. */
+   fading form, and whether it is partitionable: 1 or 0. */
 #define PRESENCE_IS_FADING(bytes) ((bytes)[4] >> 4 == 0)
+#define PRESENCE_IS_PARTITIONABLE(bytes) \
+    (((bytes)[3] & PRESENCE_PARTITIONABLE) != 0)
 
 /* The page: its length, the offsets of its words, and the flags. */
 #define PRESENCE_PAGE_BYTES 64u
@@ -587,9 +727,10 @@ extern "C" {
 #define PRESENCE_CAUSE_STRAY_BITS 3u
 
 /*
- * The view in an accepted image of n modules, given as a pointer to uint8_t:
- * with counts bits 15..0 of word n+3, with fading of word n+6.  Each is for
- * images of its form alone.  Both use their arguments twice.
+ * The local view in an accepted image of n modules, given as a pointer to
+ * uint8_t: with counts bits 15..0 of word n+3, with fading of word n+6.  Each
+ * is for images of its form alone.  Both use their arguments twice.  A card
+ * acts on presence_shown_view, which without head bit 5 is this view.
  */
 #define PRESENCE_VIEW(image, n)                              \
     (((uint32_t)(image)[PRESENCE_SETUP_BYTES(n) + 2u] << 8) | \
@@ -623,7 +764,8 @@ typedef struct presence_answer {
     uint32_t health; /* after an accepted step the health vector, else 0 */
 } presence_answer;
 
-/* Answer of presence_outgoing and of the host's functions on a page. */
+/* Answer of presence_outgoing, of presence_outgoing_view and of the host's
+   functions on a page. */
 typedef struct presence_word {
     uint32_t number; /* 0 accepted, else the reason for the refusal */
     uint32_t index;  /* word index, see the table; 0 if accepted */
@@ -640,7 +782,9 @@ typedef struct presence_cause {
 } presence_cause;
 
 /*
- * The functions.  Each takes modules with counts and modules with fading.
+ * The functions.  Each takes modules with counts and modules with fading.  With
+ * head bit 5 an image, and so the output, is PRESENCE_VIEWS_BYTES(N) longer
+ * than said here, and a read has PRESENCE_PARTITIONABLE_READ_BYTES(N).
  */
 
 /*
@@ -759,6 +903,19 @@ presence_answer presence_change(const uint8_t *state, size_t state_len,
 presence_word presence_outgoing(const uint8_t *state, size_t state_len);
 
 /*
+ * The view word handed out by the step, or the opening, that wrote this image:
+ * kind 10 with the local view after that step, or with the local view before it
+ * if the module's own send mark is set.  Without head bit 5 the word is 0, and
+ * there is nothing to send.  A change leaves it as it was.
+ *   state, state_len   the image, as for presence_outgoing
+ * Order of the checks: 1, 2, 3, 4, 5, 6, 7, 8 (image).
+ * Writes nothing.
+ * It is sent in the same round and slot as the word of presence_outgoing, taken
+ * from the same image.
+ */
+presence_word presence_outgoing_view(const uint8_t *state, size_t state_len);
+
+/*
  * Whether a word that came in is heard, and if not, why: the first cause that
  * applies.  Serves to look at a single word, of the latest read or of a log;
  * words 4 to 7 of a page have the same of a whole read.
@@ -836,9 +993,35 @@ presence_word presence_page_write(uint8_t *page, size_t page_len,
 presence_word presence_page_interrupt(const uint8_t *page, size_t page_len);
 
 /*
- * Helpers, which are no part of the library.  The next three take an accepted
- * image of n modules, of either form.
+ * Helpers, which are no part of the library.  Those on lengths and views take
+ * an accepted image of n modules, of any form; the first three take an accepted
+ * setup as well.
  */
+
+/* The length of a read. */
+static inline size_t presence_read_bytes(const uint8_t *bytes, uint32_t n)
+{
+    return PRESENCE_IS_PARTITIONABLE(bytes)
+               ? PRESENCE_PARTITIONABLE_READ_BYTES(n)
+               : PRESENCE_READ_BYTES(n);
+}
+
+/* The length of an image without a pending change: what out_len of an opening
+   has to be. */
+static inline size_t presence_opened_bytes(const uint8_t *bytes, uint32_t n)
+{
+    return (PRESENCE_IS_FADING(bytes) ? PRESENCE_FADING_IMAGE_BYTES(n)
+                                      : PRESENCE_IMAGE_BYTES(n)) +
+           (PRESENCE_IS_PARTITIONABLE(bytes) ? PRESENCE_VIEWS_BYTES(n) : 0u);
+}
+
+/* The length of an image of counts with a pending change: what out_len of a
+   change has to be. */
+static inline size_t presence_changed_bytes(const uint8_t *bytes, uint32_t n)
+{
+    return presence_opened_bytes(bytes, n) + PRESENCE_PENDING_IMAGE_BYTES(n) -
+           PRESENCE_IMAGE_BYTES(n);
+}
 
 /* The rounds left until a pending change, 0 if none is pending. */
 static inline uint32_t presence_rounds_left(const uint8_t *image, uint32_t n)
@@ -854,20 +1037,36 @@ static inline uint32_t presence_rounds_left(const uint8_t *image, uint32_t n)
 /* The length of an image, with or without a pending change. */
 static inline size_t presence_image_bytes(const uint8_t *image, uint32_t n)
 {
-    if (PRESENCE_IS_FADING(image))
-        return PRESENCE_FADING_IMAGE_BYTES(n);
-    return presence_rounds_left(image, n) > 0 ? PRESENCE_PENDING_IMAGE_BYTES(n)
-                                              : PRESENCE_IMAGE_BYTES(n);
+    return presence_rounds_left(image, n) > 0 ? presence_changed_bytes(image, n)
+                                              : presence_opened_bytes(image, n);
 }
 
 /* The length of the image after a step from this one: what out_len of the step
    has to be. */
 static inline size_t presence_stepped_bytes(const uint8_t *image, uint32_t n)
 {
-    if (PRESENCE_IS_FADING(image))
-        return PRESENCE_FADING_IMAGE_BYTES(n);
-    return presence_rounds_left(image, n) > 1 ? PRESENCE_PENDING_IMAGE_BYTES(n)
-                                              : PRESENCE_IMAGE_BYTES(n);
+    return presence_rounds_left(image, n) > 1 ? presence_changed_bytes(image, n)
+                                              : presence_opened_bytes(image, n);
+}
+
+/* The view that a card acts on, and that page and scan lock take: the adopted
+   one with head bit 5, else the local one. */
+static inline uint32_t presence_shown_view(const uint8_t *image, uint32_t n)
+{
+    const uint8_t *from = image + presence_image_bytes(image, n) - 8u;
+
+    if (!PRESENCE_IS_PARTITIONABLE(image))
+        return PRESENCE_IS_FADING(image) ? PRESENCE_FADING_VIEW(image, n)
+                                         : PRESENCE_VIEW(image, n);
+    return (uint32_t)from[2] << 8 | (uint32_t)from[3];
+}
+
+/* 1 if the card has taken itself out, else 0; 0 without head bit 5. */
+static inline uint32_t presence_is_out(const uint8_t *image, uint32_t n)
+{
+    return PRESENCE_IS_PARTITIONABLE(image)
+               ? image[presence_image_bytes(image, n) - 1u]
+               : 0u;
 }
 
 /*
@@ -894,7 +1093,7 @@ static inline double presence_score(const uint8_t *image, uint32_t n,
 /*
  * Writes the PRESENCE_FADING_FRONT_BYTES before the modules' words in a fading
  * setup of n modules with return limit q.  Tests nothing but leaves that to
- * presence_check_setup.
+ * presence_check_setup.  For head bit 5: setup[3] |= PRESENCE_PARTITIONABLE.
  */
 static inline void presence_fading_front(uint8_t *setup, uint32_t n, uint32_t q,
                                          double factor, double limit)

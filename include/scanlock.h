@@ -7,13 +7,15 @@
  *
  * Each card keeps a scan lock of its own and tells it every event.  Cards that
  * follow the rules of presence.h, and tell events as WHEN TO TELL AN EVENT
- * below says, hold equal locks while the fault limit is kept (proved).
+ * below says, hold equal locks while the fault limit is kept (proved).  With
+ * head bit 5 of the setup A CABLE THAT TEARS says which cards do.
  *
  * Nine functions:
  *
  *   scanlock_open       N                    -> image of a fresh scan lock
  *   scanlock_view       image, view          -> image; after every accepted
- *                                               presence_step, with its view
+ *                                               presence_step, with the view
+ *                                               that it shows
  *   scanlock_begin      image, module, axis  -> image; a module begins a lock
  *   scanlock_end        image, module, axis  -> image; a module ends a lock
  *   scanlock_start      image, module, axis  -> image; a holder starts a move
@@ -46,8 +48,9 @@
  * before its own step k + 1; interval 0 is after its opening and before its
  * step 1.  In each interval all cards have to tell the same events, in the
  * same order.  At the beginning of interval k, before any event of it, a card
- * hands its scan lock the view of the image that step k wrote (scanlock_view);
- * such a view is never refused (proved).
+ * hands its scan lock the view that the image of step k shows (scanlock_view of
+ * presence_shown_view): the adopted one with head bit 5 of the setup, else the
+ * local one.  Such a view is never refused (proved).
  *
  * Cards with different read places (presence.h) make step k at different
  * times of round k, so in the middle of that round one card is in interval k
@@ -68,6 +71,21 @@
  * holds other locks than the rest.  Whatever carries events has to bring each
  * one to every card that follows the rules, or to none of them, all in the
  * same round and in one order.
+ *
+ *
+ * A CABLE THAT TEARS
+ *
+ * With head bit 5 of the setup (include/presence.h, STANDS WITH A TORN CABLE)
+ * locks go by the views that are adopted.  Cards that have never been out hold
+ * equal locks however much is lost, on the conditions that are named there, and
+ * of two parts of a torn cable at most one goes on to adopt.  A holder in the
+ * other part leaves the adopted view in time, and so loses its locks there.
+ *
+ * A card that is out hands over the same view as before in every step, so its
+ * locks stay, and its joystick tells nothing of the stage: it moves nothing,
+ * and takes its joystick for dead.  When it opens its presence anew it goes on
+ * from the scan lock of a card that is not out, of the same interval; if all
+ * were out, open the scan locks of all cards together.
  *
  *
  * LOCKS AND MOVES
@@ -196,9 +214,9 @@ typedef struct scanlock_answer {
 scanlock_answer scanlock_open(uint32_t n, uint8_t *out, size_t out_len);
 
 /*
- * Hands over the view, right after each accepted presence_step: PRESENCE_VIEW
- * of the image that it wrote, with fading PRESENCE_FADING_VIEW.  Holders that
- * are not in it lose their locks.
+ * Hands over the view, right after each accepted presence_step:
+ * presence_shown_view of the image that it wrote.  Holders that are not in it
+ * lose their locks.
  *   image, image_len   the scan lock, SCANLOCK_IMAGE_BYTES
  *   view               module j is bit j-1
  *   out, out_len       output, SCANLOCK_IMAGE_BYTES

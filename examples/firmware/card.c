@@ -8,13 +8,16 @@
  * site's service, which raises P for a long scan without a stop, and lowers it
  * again.  The third part stands for the hardware: it carries the words, lets
  * card 3 fall silent for some rounds, so that it leaves the view and comes
- * back, and restarts card 2.
+ * back, and restarts card 2.  The fourth part has the same cards on a stand,
+ * with head bit 5 in their setup: the cable between cards 3 and 4 tears, and is
+ * mended.
  *
  * Build, with libgirmaut.a in the folder LIB:
  *   gcc -std=c99 -O2 -Iinclude examples/firmware/card.c -LLIB -lgirmaut -o card
  *
- * Prints what happens; exit status 0 if no call but an offer was refused and
- * all cards agreed in every round.
+ * Prints what happens; exit status 0 if no call but an offer was refused, all
+ * cards agreed in every round, and on the stand no output was ever driven by
+ * two cards.
  */
 #include <stdio.h>
 #include <string.h>
@@ -33,18 +36,21 @@
 
 /*
  * The setup that the cards are opened from, the same in all: Q = 8, P = 4,
- * R = 6.  P, R and criticalities may be others later (card_change).
+ * R = 6.  P, R and criticalities may be others later (card_change).  That of
+ * the stand has PRESENCE_PARTITIONABLE in its head, so that cards send their
+ * views too.
  *
  * With fading scores five words stand in the place of P and R, here with factor
  * 0.5 and limit 3.0:
  *
  *     WORD(0u), WORD(0x3FE00000u), WORD(0u), WORD(0x40080000u), WORD(0u),
  *
- * The lengths are then PRESENCE_FADING_SETUP_BYTES and
- * PRESENCE_FADING_IMAGE_BYTES, the view is read by PRESENCE_FADING_VIEW, and
- * the cards' words begin at word 6 and not at 3 (has_send_mark, read_place).
+ * The setup's length is then PRESENCE_FADING_SETUP_BYTES, and the cards' words
+ * begin at word 6 and not at 3 (has_send_mark, read_place).
  */
-static const uint8_t setup[PRESENCE_SETUP_BYTES(N)] = {
+#define SETUP_BYTES PRESENCE_SETUP_BYTES(N)
+
+static const uint8_t rack[SETUP_BYTES] = {
     WORD(0x10000000u | 8u << 8 | N),
     WORD(0x20000000u | 4u),
     WORD(0x30000000u | 6u),
@@ -54,31 +60,44 @@ static const uint8_t setup[PRESENCE_SETUP_BYTES(N)] = {
     MODULE(4u, 0u, 2u, 1u)  /* steps after 2 has sent; sends the word of the
                                step before, as it has no send mark */
 };
+static const uint8_t *setup = rack; /* later that of the stand */
+
+/* Room for the longest image: a change pending, and views. */
+#define IMAGE_BYTES (PRESENCE_PENDING_IMAGE_BYTES(N) + PRESENCE_VIEWS_BYTES(N))
 
 struct card {
     /* Memory that a restart clears. */
     uint32_t own;                          /* from the slot's coding pins */
-    uint8_t image[2][PRESENCE_PENDING_IMAGE_BYTES(N)]; /* the longest form */
+    uint8_t image[2][IMAGE_BYTES];
     unsigned current;                      /* which image is the state */
-    uint32_t word;                         /* word to send in this round */
+    uint32_t word, view_word;              /* to send in this round; the second
+                                              is 0 where no views are sent */
     uint32_t health;                       /* of the latest step */
     uint32_t outputs;                      /* whose outputs this card drives */
+    unsigned wait;                         /* steps until it drives any */
     uint32_t line;                         /* interrupt line to the host */
     unsigned refused;                      /* calls refused so far */
 
-    /* Buffer of the bus controller: latest word from each card, and a bit if
-       its reception was valid. */
-    uint8_t received[PRESENCE_READ_BYTES(N)];
+    /* Buffer of the bus controller: latest word from each card, then the latest
+       view words, and a bit if the reception of both was valid. */
+    uint8_t received[PRESENCE_PARTITIONABLE_READ_BYTES(N)];
     uint32_t valid;
 
     /* Memory that a restart leaves; the host has access to the page. */
-    uint8_t saved[PRESENCE_PENDING_IMAGE_BYTES(N)];
+    uint8_t saved[IMAGE_BYTES];
     uint8_t page[PRESENCE_PAGE_BYTES];
 };
 
+/* The view to act on: on a stand the adopted one. */
 static uint32_t card_view(const struct card *c)
 {
-    return PRESENCE_VIEW(c->image[c->current], N);
+    return presence_shown_view(c->image[c->current], N);
+}
+
+/* Whether the card has taken itself out; never but on a stand. */
+static uint32_t card_is_out(const struct card *c)
+{
+    return presence_is_out(c->image[c->current], N);
 }
 
 /* P of the setup in the current image. */
@@ -108,7 +127,8 @@ static uint32_t read_place(uint32_t own)
 }
 
 /* The view decides: a card in it drives its own outputs, and the lowest card
-   in it drives those of the cards that are out. */
+   in it drives those of the cards outside.  A card that has taken itself out,
+   or has just been opened anew, drives nothing. */
 static void act_on_view(struct card *c)
 {
     uint32_t view = card_view(c);
@@ -116,6 +136,8 @@ static void act_on_view(struct card *c)
     uint32_t lowest = view & (~view + 1u);
 
     c->outputs = 0;
+    if (card_is_out(c) || c->wait > 0)
+        return;
     if (view & me)
         c->outputs |= me;
     if (lowest == me)
@@ -161,11 +183,26 @@ static int of_this_rack(const uint8_t *image)
 
     if (memcmp(image, setup, 4u) != 0 || PRESENCE_IS_FADING(image))
         return 0;
-    for (at = 12u; at < sizeof setup; at += 4u)
+    for (at = 12u; at < SETUP_BYTES; at += 4u)
         if (image[at] != setup[at] ||
             ((image[at + 1u] ^ setup[at + 1u]) & 0xFEu) != 0)
             return 0;
     return 1;
+}
+
+/* Opens state and page from a setup. */
+static void card_open(struct card *c, const uint8_t *from)
+{
+    unsigned next = 1u - c->current;
+    presence_answer a = presence_page_open(from, SETUP_BYTES, c->own,
+                                           c->image[next],
+                                           presence_opened_bytes(from, N),
+                                           c->page, sizeof c->page);
+
+    if (a.number == PRESENCE_ACCEPTED)
+        c->current = next;
+    else
+        c->refused++;
 }
 
 /* Power on.  Goes on from the saved state and the page if the state is
@@ -178,15 +215,11 @@ static void card_start(struct card *c, uint32_t own)
 
     c->own = own;
     c->current = 0;
+    c->wait = 0;
     a = presence_save(c->saved, len, c->image[0], len);
     if (a.number != PRESENCE_ACCEPTED || !of_this_rack(c->saved) ||
-        (c->saved[sizeof setup + 1u] & 0x1Fu) != own) {
-        a = presence_page_open(setup, sizeof setup, own, c->image[0],
-                               PRESENCE_IMAGE_BYTES(N), c->page,
-                               sizeof c->page);
-        if (a.number != PRESENCE_ACCEPTED)
-            c->refused++;
-    }
+        (c->saved[SETUP_BYTES + 1u] & 0x1Fu) != own)
+        card_open(c, setup);
     act_on_view(c);
     set_line(c);
 }
@@ -202,20 +235,40 @@ static void card_stop(struct card *c)
         c->refused++;
 }
 
-static void take_word(struct card *c)
+static void take_words(struct card *c)
 {
     const uint8_t *image = c->image[c->current];
-    presence_word w = presence_outgoing(image, presence_image_bytes(image, N));
+    size_t len = presence_image_bytes(image, N);
+    presence_word w = presence_outgoing(image, len);
+    presence_word v = presence_outgoing_view(image, len);
 
-    if (w.number != PRESENCE_ACCEPTED)
+    if (w.number != PRESENCE_ACCEPTED || v.number != PRESENCE_ACCEPTED)
         c->refused++;
     c->word = w.word;
+    c->view_word = v.word;
 }
 
-/* Beginning of a round: the word of the step before. */
+/* Whether the bus controller hears more than half of all cards. */
+static int hears_most(const struct card *c)
+{
+    uint32_t heard = 0, j;
+
+    for (j = 0; j < N; j++)
+        heard += c->valid >> j & 1;
+    return 2u * heard > N;
+}
+
+/* Beginning of a round.  A card that has taken itself out opens anew when it
+   hears enough, by the limits that hold, with which its image begins, and
+   drives nothing until it has made two steps (one would do if all cards stepped
+   at the end of the round).  Then the words of the step before. */
 static void card_begin_round(struct card *c)
 {
-    take_word(c);
+    if (card_is_out(c) && hears_most(c)) {
+        card_open(c, c->image[c->current]);
+        c->wait = 2;
+    }
+    take_words(c);
 }
 
 /* Once a round, at the card's read place. */
@@ -225,7 +278,8 @@ static void card_step(struct card *c)
     unsigned next = 1u - c->current;
     presence_answer a = presence_page_step(image,
                                            presence_image_bytes(image, N),
-                                           c->received, sizeof c->received,
+                                           c->received,
+                                           presence_read_bytes(image, N),
                                            c->valid, c->image[next],
                                            presence_stepped_bytes(image, N),
                                            c->page, sizeof c->page);
@@ -236,8 +290,10 @@ static void card_step(struct card *c)
     }
     c->current = next;
     c->health = a.health;
+    if (c->wait > 0)
+        c->wait--;
     if (has_send_mark(c->own))
-        take_word(c); /* the word of this step goes out in this round */
+        take_words(c); /* the words of this step go out in this round */
     act_on_view(c);
     set_line(c);
 }
@@ -250,9 +306,9 @@ static uint32_t card_change(struct card *c, const uint8_t *new_setup,
     const uint8_t *image = c->image[c->current];
     unsigned next = 1u - c->current;
     presence_answer a = presence_change(image, presence_image_bytes(image, N),
-                                        new_setup, sizeof setup, lead,
+                                        new_setup, SETUP_BYTES, lead,
                                         c->image[next],
-                                        PRESENCE_PENDING_IMAGE_BYTES(N));
+                                        presence_changed_bytes(image, N));
 
     if (a.number == PRESENCE_ACCEPTED)
         c->current = next;
@@ -327,10 +383,10 @@ static void host_serve(uint32_t round)
 static void service_offer(uint32_t round, uint32_t p)
 {
     const uint8_t limit[4] = { WORD(0x20000000u | p) };
-    uint8_t new_setup[sizeof setup];
+    uint8_t new_setup[SETUP_BYTES];
     uint32_t i, number;
 
-    memcpy(new_setup, setup, sizeof setup);
+    memcpy(new_setup, setup, SETUP_BYTES);
     memcpy(new_setup + 4, limit, sizeof limit);
     printf("round %2u: P = %u offered to all cards with lead %u, answers",
            (unsigned)round, (unsigned)p, LEAD);
@@ -366,17 +422,34 @@ static int silent(uint32_t card, uint32_t round)
                          (round >= 55 && round <= 61));
 }
 
-/* The word of card j arrives at all cards, its own controller too. */
+/* On the stand the cable between cards 3 and 4 is torn in rounds 5 to 20. */
+static int torn(uint32_t round)
+{
+    return round >= 5 && round <= 20;
+}
+
+/* Whether a card does not hear another in a round. */
+static int lost(uint32_t card, uint32_t receiver, uint32_t round)
+{
+    if (setup == rack)
+        return silent(card, round);
+    return torn(round) && (card == 4) != (receiver == 4);
+}
+
+/* The words of card j arrive at the cards that hear it, its own controller
+   too. */
 static void send(uint32_t j, uint32_t round)
 {
     const uint8_t bytes[4] = { WORD(cards[j - 1].word) };
+    const uint8_t view_bytes[4] = { WORD(cards[j - 1].view_word) };
     uint32_t i;
 
     for (i = 0; i < N; i++) {
-        if (silent(j, round)) {
+        if (lost(j, i + 1, round)) {
             cards[i].valid &= ~(1u << (j - 1));
         } else {
             memcpy(cards[i].received + 4u * (j - 1), bytes, 4);
+            memcpy(cards[i].received + 4u * (N + j - 1), view_bytes, 4);
             cards[i].valid |= 1u << (j - 1);
         }
     }
@@ -406,12 +479,15 @@ static uint32_t printed_limit;
 static void open_cards(void)
 {
     static const uint8_t all_ones[4] = { WORD(0x50000000u | EVERYBODY) };
+    static const uint8_t full_view[4] = { WORD(0xA0000000u | EVERYBODY) };
     uint32_t i, j;
 
     for (i = 0; i < N; i++) {
         memset(&cards[i], 0, sizeof cards[i]); /* nothing saved yet */
-        for (j = 0; j < N; j++)
+        for (j = 0; j < N; j++) {
             memcpy(cards[i].received + 4u * j, all_ones, 4);
+            memcpy(cards[i].received + 4u * (N + j), full_view, 4);
+        }
         cards[i].valid = EVERYBODY;
         card_start(&cards[i], i + 1);
         printed_outputs[i] = cards[i].outputs;
@@ -507,10 +583,86 @@ static int all_driven(void)
     return outputs == EVERYBODY;
 }
 
+/* ================= the same cards on a stand ================= */
+
+#define STAND_ROUNDS 36u
+
+/* What was printed of a card last. */
+static struct {
+    uint32_t view, out;
+} printed_card[N];
+
+/* The cards whose view, out or outputs are others than before. */
+static void print_cards(uint32_t round)
+{
+    uint32_t i, view, out;
+
+    for (i = 0; i < N; i++) {
+        view = card_view(&cards[i]);
+        out = card_is_out(&cards[i]);
+        if (view == printed_card[i].view && out == printed_card[i].out &&
+            cards[i].outputs == printed_outputs[i])
+            continue;
+        printed_card[i].view = view;
+        printed_card[i].out = out;
+        printed_outputs[i] = cards[i].outputs;
+        printf("round %2u: card %u%s shows view %s, drives outputs %s\n",
+               (unsigned)round, (unsigned)i + 1, out ? " is out," : "",
+               printed(view), printed(cards[i].outputs));
+    }
+}
+
+/* No two cards drive one output, and those that drive any show one view. */
+static int one_drives(void)
+{
+    uint32_t outputs = 0, view = 0, i;
+
+    for (i = 0; i < N; i++) {
+        if (cards[i].outputs == 0)
+            continue;
+        if ((outputs & cards[i].outputs) != 0 ||
+            (outputs != 0 && card_view(&cards[i]) != view))
+            return 0;
+        outputs |= cards[i].outputs;
+        view = card_view(&cards[i]);
+    }
+    return 1;
+}
+
+/* Cards 1, 2 and 3, more than half, go on.  Card 4 is out at once, long before
+   they strike it off and drive its outputs.  Mended, it opens anew and comes
+   back.  Answers whether all was as it should be. */
+static int play_stand(void)
+{
+    static uint8_t stand[SETUP_BYTES];
+    uint32_t round, i;
+    int right = 1;
+
+    memcpy(stand, rack, sizeof stand);
+    stand[3] |= PRESENCE_PARTITIONABLE;
+    setup = stand;
+    open_cards();
+    for (i = 0; i < N; i++)
+        printed_card[i].view = card_view(&cards[i]);
+    for (round = 1; round <= STAND_ROUNDS; round++) {
+        if (torn(round) != torn(round - 1))
+            printf("round %2u: the cable between cards 3 and 4 %s\n",
+                   (unsigned)round, torn(round) ? "tears" : "is whole again");
+        play(round);
+        print_cards(round);
+        right = one_drives() && right;
+    }
+    right = all_driven() && all_agree() && right;
+    printf("%u rounds, %s\n", STAND_ROUNDS,
+           right ? "no output was driven by two cards, no call refused"
+                 : "FAILED");
+    return right;
+}
+
 int main(void)
 {
     uint32_t round;
-    int agreed = 1;
+    int agreed = 1, right;
 
     open_cards();
     host_start();
@@ -525,5 +677,8 @@ int main(void)
     agreed = all_driven() && agreed;
     printf("%u rounds, %s\n", ROUNDS,
            agreed ? "all cards agreed, no other call refused" : "FAILED");
-    return agreed ? 0 : 1;
+
+    printf("\nOn a stand, with head bit 5\n");
+    right = play_stand();
+    return agreed && right ? 0 : 1;
 }

@@ -185,7 +185,7 @@ static void card_step(struct card *c)
     c->current = next;
     if (has_send_mark(c->own))
         card_word(c); /* the word of this step goes out in this round */
-    card_take(c, scanlock_view(LOCK(c), PRESENCE_VIEW(c->image[next], N),
+    card_take(c, scanlock_view(LOCK(c), presence_shown_view(c->image[next], N),
                                NEXT(c)));
 }
 

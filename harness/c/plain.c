@@ -3,8 +3,8 @@
  *
  * Rule numbers are those of "One step, round k", refusal numbers those of
  * "Answers and their order" in document 01; E4, E6, E9 and E10 of document 02
- * change rules 4, 5 and 8.  Module j stands at place j-1 of the arrays and is
- * bit j-1 of the vectors.
+ * change rules 4, 5 and 8, and E11 has modules adopt a view besides.  Module j
+ * stands at place j-1 of the arrays and is bit j-1 of the vectors.
  *
  * A setup has one of two forms: counts, with P and R, or fading, with a factor
  * and a limit (E9).  An image has the form of its setup.  Scores take as many
@@ -57,6 +57,7 @@ struct limits {
 struct setup {
     uint32_t n;            /* number of modules */
     bool fading;           /* else counts */
+    bool partitionable;    /* modules send their views too */
     uint32_t words;        /* length */
     struct limits limits;
     double factor, limit;  /* of fading */
@@ -79,6 +80,12 @@ struct state {
     uint32_t returns[MAX]; /* good rounds running outside the view */
     uint32_t left;         /* rounds until a change, 0 if none is pending */
     struct limits pending; /* those of the change */
+
+    /* Of a partitionable setup alone. */
+    uint32_t view_word[MAX]; /* previous read, 0 if missing */
+    uint32_t view_before;    /* the view before the latest step */
+    uint32_t adopted;        /* view */
+    bool out;                /* adopts no more */
 };
 
 static presence_answer answer(uint32_t number, uint32_t index, uint32_t health)
@@ -157,17 +164,36 @@ static bool is_bus_word(uint32_t word, uint32_t n)
     return kind_of(word) == BUS_WORD && (word & 0x0FFFFFFF) <= all(n);
 }
 
+/* E11 of document 02: kind 10 with no bits but those of the view. */
+static bool is_view_word(uint32_t word, uint32_t n)
+{
+    return kind_of(word) == OWN_AND_VIEW && (word & 0x0FFFFFFF) <= all(n);
+}
+
 /* The rounds-left word of an image with this setup. */
 static uint32_t left_at(const struct setup *s)
 {
     return s->words + 4 * s->n + 3;
 }
 
-/* Bytes of an image with this setup, with a pending change or without: P, R and
-   a word for each module more. */
+/* The first view word of an image with this setup, with a pending change or
+   without: P, R and a word for each module more. */
+static uint32_t views_at(const struct setup *s, bool pending)
+{
+    return left_at(s) + 1 + (pending ? s->n + 2 : 0);
+}
+
+/* Bytes of an image; where it has views, a word of each module and four. */
 static size_t image_bytes(const struct setup *s, bool pending)
 {
-    return 4 * (size_t)(left_at(s) + 1 + (pending ? s->n + 2 : 0));
+    return 4 * (size_t)(views_at(s, pending) +
+                        (s->partitionable ? s->n + 4 : 0));
+}
+
+/* Bytes of a read. */
+static size_t read_bytes(const struct setup *s)
+{
+    return 4 * (size_t)(s->partitionable ? 2 * s->n : s->n);
 }
 
 /* Whether an image has the length that its rounds-left word calls for. */
@@ -233,7 +259,8 @@ static presence_answer load_setup(struct setup *s, const uint8_t *bytes,
     word = get_word(bytes, 0);
     s->n = word & 0x1F;
     s->return_limit = word >> 8 & 0xFFFFF;
-    if (kind_of(word) != HEAD || (word & 0xE0) != 0 ||
+    s->partitionable = bit(word, 5);
+    if (kind_of(word) != HEAD || (word & 0xC0) != 0 ||
         s->n < 2 || s->n > MAX || s->return_limit > 1000000)
         return answer(2, 0, 0);
 
@@ -351,6 +378,36 @@ static presence_answer load_pending(struct state *s, const uint8_t *bytes)
     return answer(0, 0, 0);
 }
 
+/* View words, views and out of a partitionable setup.  Refusal 8. */
+static presence_answer load_views(struct state *s, const uint8_t *bytes)
+{
+    uint32_t n = s->setup.n, at = views_at(&s->setup, s->left > 0), word, j;
+
+    for (j = 0; j < n; j++, at++) {
+        s->view_word[j] = get_word(bytes, at);
+        if (s->view_word[j] != 0 && !is_view_word(s->view_word[j], n))
+            return answer(8, at, 0);
+    }
+
+    if (get_word(bytes, at) != s->view)
+        return answer(8, at, 0);
+
+    s->view_before = get_word(bytes, ++at);
+    if (s->view_before > all(n))
+        return answer(8, at, 0);
+
+    s->adopted = get_word(bytes, ++at);
+    if (s->adopted > all(n))
+        return answer(8, at, 0);
+
+    word = get_word(bytes, ++at);
+    s->out = word == 1;
+    if (word > 1)
+        return answer(8, at, 0);
+
+    return answer(0, 0, 0);
+}
+
 /* Reads an image.  Refusals 1 to 8, 22 in the place of 4. */
 static presence_answer load_state(struct state *s, const uint8_t *bytes,
                                   size_t len)
@@ -413,7 +470,10 @@ static presence_answer load_state(struct state *s, const uint8_t *bytes,
             return answer(8, at, 0);
     }
 
-    return load_pending(s, bytes);
+    a = load_pending(s, bytes);
+    if (a.number != 0 || !s->setup.partitionable)
+        return a;
+    return load_views(s, bytes);
 }
 
 /* P and R of counts, from a word on. */
@@ -428,7 +488,8 @@ static void store_setup(const struct setup *s, uint8_t *out)
 {
     uint32_t first = s->words - s->n, j;
 
-    put_word(out, 0, (uint32_t)HEAD << 28 | s->return_limit << 8 | s->n);
+    put_word(out, 0, (uint32_t)HEAD << 28 | s->return_limit << 8 |
+                     (uint32_t)s->partitionable << 5 | s->n);
     if (s->fading) {
         put_word(out, 1, (uint32_t)FADING << 28);
         put_double(out, 2, s->factor);
@@ -454,11 +515,26 @@ static void store_pending(const struct state *s, uint8_t *out, uint32_t first)
                  module_word(&s->setup, j, s->pending.criticality[j]));
 }
 
+/* View words, the view and the one before, the adopted one, and out. */
+static void store_views(const struct state *s, uint8_t *out)
+{
+    uint32_t n = s->setup.n, first = views_at(&s->setup, s->left > 0), j;
+
+    for (j = 0; j < n; j++)
+        put_word(out, first + j, s->view_word[j]);
+    put_word(out, first + n, s->view);
+    put_word(out, first + n + 1, s->view_before);
+    put_word(out, first + n + 2, s->adopted);
+    put_word(out, first + n + 3, s->out);
+}
+
 static void store_state(const struct state *s, uint8_t *out)
 {
     uint32_t n = s->setup.n, j;
 
     store_setup(&s->setup, out);
+    if (s->setup.partitionable)
+        store_views(s, out);
     out += 4 * s->setup.words;
     put_word(out, 0, (uint32_t)OWN_AND_VIEW << 28 | s->own << 16 | s->view);
     for (j = 0; j < n; j++)
@@ -490,6 +566,20 @@ static uint32_t word_handed_out(const struct state *s)
     uint32_t syndrome = s->setup.mark[s->own - 1] ? s->before : s->latest;
 
     return (uint32_t)BUS_WORD << 28 | syndrome;
+}
+
+/* The word of a view. */
+static uint32_t view_word(uint32_t view)
+{
+    return (uint32_t)OWN_AND_VIEW << 28 | view;
+}
+
+/* E11 of document 02: delayed like a syndrome; none without head bit 5. */
+static uint32_t view_word_handed_out(const struct state *s)
+{
+    if (!s->setup.partitionable)
+        return 0;
+    return view_word(s->setup.mark[s->own - 1] ? s->view_before : s->view);
 }
 
 /* Rule 1. */
@@ -536,6 +626,55 @@ static uint32_t vote(uint32_t n, const bool *voter, const uint32_t *row,
 static bool is_accused(uint32_t j, uint32_t row, uint32_t health)
 {
     return ((row ^ health) & ~(1u << j)) != 0;
+}
+
+/* E11 of document 02: the view in which each module has the value that more
+   than half of all n senders carry.  False if a module has no such value. */
+static bool majority_view(uint32_t n, const uint32_t *word, uint32_t *view)
+{
+    uint32_t ones, zeros, i, j;
+
+    *view = 0;
+    for (j = 0; j < n; j++) {
+        ones = 0;
+        zeros = 0;
+        for (i = 0; i < n; i++) {
+            if (word[i] == 0)
+                continue;
+            if (bit(word[i], j))
+                ones++;
+            else
+                zeros++;
+        }
+        if (2 * ones > n)
+            *view |= 1u << j;
+        else if (2 * zeros <= n)
+            return false;
+    }
+    return true;
+}
+
+/* E11 of document 02: takes in the view words of a read, which are aligned as
+   the syndromes are, and adopts the majority's view or is out for good. */
+static void adopt(struct state *s, const uint8_t *read, uint32_t controller,
+                  uint32_t u)
+{
+    uint32_t n = s->setup.n, place = s->setup.place[s->own - 1];
+    uint32_t aligned[MAX], word, view, j;
+
+    for (j = 0; j < n; j++) {
+        word = get_word(read, n + j);
+        if (!bit(controller, j) || !is_view_word(word, n))
+            word = 0;
+        aligned[j] = u == 1 && j + 1 <= place ? s->view_word[j] : word;
+        s->view_word[j] = word;
+    }
+    if (s->out)
+        return;
+    if (majority_view(n, aligned, &view))
+        s->adopted = view;
+    else
+        s->out = true;
 }
 
 /* E10 of document 02: the counters and the view by the limits of the pending
@@ -661,10 +800,14 @@ presence_answer plain_open(const uint8_t *setup, size_t setup_len,
         s.reward[j] = 0;
         s.score[j] = 0.0;
         s.returns[j] = 0;
+        s.view_word[j] = view_word(all(n));
     }
     s.latest = all(n);
     s.before = all(n);
     s.left = 0;
+    s.view_before = all(n);
+    s.adopted = all(n);
+    s.out = false;
     store_state(&s, out);
     return answer(0, 0, 0);
 }
@@ -684,7 +827,7 @@ presence_answer plain_step(const uint8_t *state, size_t state_len,
         return a;
     n = s.setup.n;
     /* The image after the step. */
-    if (read_len != PRESENCE_READ_BYTES(n) ||
+    if (read_len != read_bytes(&s.setup) ||
         out_len != image_bytes(&s.setup, s.left > 1))
         return answer(9, 0, 0);
     if (controller > all(n))
@@ -719,6 +862,10 @@ presence_answer plain_step(const uint8_t *state, size_t state_len,
     for (j = 0; j < n; j++)
         if (present[j] && !(voter[j] && is_accused(j, aligned[j], health)))
             syndrome |= 1u << j;
+
+    if (s.setup.partitionable)
+        adopt(&s, read, controller, u);
+    s.view_before = s.view;
 
     if (s.left > 0 && --s.left == 0)
         take_effect(&s);
@@ -759,6 +906,7 @@ static bool same_but_limits(const struct setup *s, const struct setup *t)
     uint32_t j;
 
     if (s->fading || t->fading || s->n != t->n ||
+        s->partitionable != t->partitionable ||
         s->return_limit != t->return_limit)
         return false;
     for (j = 0; j < s->n; j++)
@@ -802,5 +950,17 @@ presence_word plain_outgoing(const uint8_t *state, size_t state_len)
     w.number = a.number;
     w.index = a.index;
     w.word = a.number == 0 ? word_handed_out(&s) : 0;
+    return w;
+}
+
+presence_word plain_outgoing_view(const uint8_t *state, size_t state_len)
+{
+    struct state s;
+    presence_answer a = load_state(&s, state, state_len);
+    presence_word w;
+
+    w.number = a.number;
+    w.index = a.index;
+    w.word = a.number == 0 ? view_word_handed_out(&s) : 0;
     return w;
 }

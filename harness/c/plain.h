@@ -26,6 +26,8 @@ presence_answer plain_change(const uint8_t *state, size_t state_len,
 
 presence_word plain_outgoing(const uint8_t *state, size_t state_len);
 
+presence_word plain_outgoing_view(const uint8_t *state, size_t state_len);
+
 presence_answer plain_page_open(const uint8_t *setup, size_t setup_len,
                                 uint32_t own, uint8_t *out, size_t out_len,
                                 uint8_t *page, size_t page_len);

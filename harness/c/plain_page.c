@@ -1,6 +1,6 @@
 /*
  * plain_page.c - the register page of presence.h, and why a word was not heard,
- * by hand in plain C99, after E1, E5, E9 and E10 of document 02.  Apart from
+ * by hand in plain C99, after E1, E5 and E9 to E11 of document 02.  Apart from
  * plain.c, whose instructions are counted.
  */
 #include <string.h>
@@ -47,13 +47,8 @@ static presence_word told(uint32_t number, uint32_t word)
     return w;
 }
 
-static size_t image_bytes(const uint8_t *setup, uint32_t n)
-{
-    return PRESENCE_IS_FADING(setup) ? PRESENCE_FADING_IMAGE_BYTES(n)
-                                     : PRESENCE_IMAGE_BYTES(n);
-}
-
-static uint32_t view_of(const uint8_t *image, uint32_t n)
+/* The local view, whatever was adopted. */
+static uint32_t local_view(const uint8_t *image, uint32_t n)
 {
     return PRESENCE_IS_FADING(image) ? PRESENCE_FADING_VIEW(image, n)
                                      : PRESENCE_VIEW(image, n);
@@ -64,7 +59,7 @@ static uint32_t view_of(const uint8_t *image, uint32_t n)
 static uint32_t view_found(const uint8_t *image, uint32_t n)
 {
     const uint32_t penalties = 2 * n + 6, rewards = 3 * n + 6;
-    uint32_t view = view_of(image, n), p, r, j;
+    uint32_t view = local_view(image, n), p, r, j;
 
     if (presence_rounds_left(image, n) != 1)
         return view;
@@ -135,12 +130,13 @@ presence_answer plain_page_open(const uint8_t *setup, size_t setup_len,
     n = setup[3] & 31u;
     if (own < 1 || own > n)
         return refused(7, 0);
-    if (out_len != image_bytes(setup, n) || page_len != PRESENCE_PAGE_BYTES)
+    if (out_len != presence_opened_bytes(setup, n) ||
+        page_len != PRESENCE_PAGE_BYTES)
         return refused(9, 0);
     a = plain_open(setup, setup_len, own, out, out_len);
     memset(page, 0, page_len);
     put_word(page, HEALTH, (1u << n) - 1);
-    put_word(page, VIEW, view_of(out, n));
+    put_word(page, VIEW, presence_shown_view(out, n));
     return a;
 }
 
@@ -152,7 +148,7 @@ presence_answer plain_page_step(const uint8_t *state, size_t state_len,
 {
     presence_word checked = plain_outgoing(state, state_len);
     presence_answer a;
-    uint32_t n, flags, found, left;
+    uint32_t n, flags, found, shown;
 
     if (checked.number != 0)
         return refused(checked.number, checked.index);
@@ -163,14 +159,14 @@ presence_answer plain_page_step(const uint8_t *state, size_t state_len,
         return a;
     n = state[3] & 31u;
     found = view_found(state, n);
-    left = view_of(out, n);
+    shown = presence_shown_view(out, n);
     flags = get_word(page, FLAGS);
-    if (left != get_word(page, VIEW))
+    if (shown != get_word(page, VIEW))
         flags |= PRESENCE_PAGE_VIEW_CHANGED;
     if ((found & ~a.health) != 0)
         flags |= PRESENCE_PAGE_CHARGED;
     put_word(page, HEALTH, a.health);
-    put_word(page, VIEW, left);
+    put_word(page, VIEW, shown);
     put_word(page, FLAGS, flags);
     put_causes(page, n, read, controller);
     return a;

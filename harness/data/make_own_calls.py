@@ -1,5 +1,5 @@
 #!/usr/bin/env python3
-"""Writes own-calls.txt: calls with the answers that document 01 gives, and E1, E4, E5, E6, E9 and E10 of document 02.
+"""Writes own-calls.txt: calls with the answers that document 01 gives, and E1, E4, E5, E6, E9, E10 and E11 of document 02.
 
     python3 make_own_calls.py > own-calls.txt
 
@@ -10,7 +10,7 @@ the fields after each step, are written here after the paper; no model computes 
 import copy
 
 from setup_words import (ABOVE_1, ABOVE_MOST, BELOW_1, BELOW_MOST, GREATEST, INFINITE, LEAST, LEAST_NORMAL, MINUS_INFINITE, MOST, NO_NUMBERS,
-                         bus, double, head, limit_p, limit_r, module, setup_words)
+                         bus, double, head, limit_p, limit_r, module, setup_words, view_word)
 
 # ---- words ----
 
@@ -85,8 +85,12 @@ def fades(setup):
     return setup[1] >> 28 == 0
 
 
+def partitionable(setup):
+    return setup[0] >> 5 & 1 == 1
+
+
 class State:
-    """A fresh module; row None is unheard."""
+    """A fresh module; row None is unheard, and so is a view word (seen) that is None."""
 
     def __init__(self, setup, own):
         self.setup = setup
@@ -101,9 +105,13 @@ class State:
         self.score = [0.0] * self.n
         self.returns = [0] * self.n
         self.pending = None
+        self.seen = [view_word(full(self.n))] * self.n
+        self.earlier = full(self.n)
+        self.adopted = full(self.n)
+        self.out = 0
 
     def but(self, **fields):
-        """A copy with other fields; row, penalty, reward, score and returns take {module: value}. pending: rounds left and the new setup."""
+        """A copy with other fields; row, penalty, reward, score, returns and seen take {module: value}. pending: rounds left and the new setup."""
         state = copy.deepcopy(self)
         for name, value in fields.items():
             if isinstance(value, dict):
@@ -125,7 +133,10 @@ class State:
             words += [reward(j, self.reward[j - 1]) for j in numbers]
         words += [returns(j, self.returns[j - 1]) for j in numbers]
         left, new = self.pending or (0, [])
-        return words + [left] + new[1:]
+        words += [left] + new[1:]
+        if partitionable(self.setup):
+            words += [word or 0 for word in self.seen] + [self.view, self.earlier, self.adopted, self.out]
+        return words
 
 
 # ---- lines ----
@@ -164,7 +175,8 @@ def state(data, number, index):
 
 def image_bytes(image):
     words = 5 * image.n + (10 if fades(image.setup) else 7)
-    return 4 * (words + (image.n + 2 if image.pending else 0))
+    words += image.n + 2 if image.pending else 0
+    return 4 * (words + (image.n + 4 if partitionable(image.setup) else 0))
 
 
 def opened(words, own):
@@ -188,7 +200,7 @@ def save_refused(data, out, number, index):
 def stepped(image, read, controller, health, rows, latest, **fields):
     """An accepted step: health and the fields after it, those not named stay. Answers the new state.
     read: words; rows: the read as the image keeps it, None if unheard."""
-    after = image.but(row=list(rows), latest=latest, before=image.latest, **fields)
+    after = image.but(row=list(rows), latest=latest, before=image.latest, earlier=image.view, **fields)
     print(
         f"step {text(image)} {text(read)} {controller:X} {image_bytes(after)}"
         f" = 0 0 {health:04X} {text(after)}"
@@ -243,7 +255,7 @@ def page_open_refused(data, own, out, page, number, index):
 
 def page_stepped(image, page, after_page, read, controller, health, rows, latest, **fields):
     """As stepped, with the page before and after; answers the new state."""
-    after = image.but(row=list(rows), latest=latest, before=image.latest, **fields)
+    after = image.but(row=list(rows), latest=latest, before=image.latest, earlier=image.view, **fields)
     print(
         f"pagestep {text(image)} {text(read)} {controller:X} {image_bytes(after)} {text(page)}"
         f" = 0 0 {health:04X} {text(after)} {text(after_page)}"
@@ -320,11 +332,14 @@ def setups_with_wrong_head():
     setup([head(1), limit_p(1), limit_r(3), module(1, 1)], 2, 0)
     setup([head(17), limit_p(1), limit_r(3)] + [module(j, 16) for j in range(1, 18)], 2, 0)
     setup([head(0), limit_p(1), limit_r(3)], 2, 0)
-    also("2: kind 2; spare bits 5, 6 and 7, without and with Q.")
+    also("2: kind 2; spare bits 6 and 7, without and with Q, and bit 5, which is none (E11).")
     setup(put(SHEET, {0: kind(head(4), 2)}), 2, 0)
-    for bit in (5, 6, 7):
-        setup(put(SHEET, {0: head(4) | 1 << bit}), 2, 0)
-        setup(put(SHEET, {0: head(4, 3) | 1 << bit}), 2, 0)
+    for bit in (6, 7):
+        for spare in (1 << bit, 1 << 5 | 1 << bit):
+            setup(put(SHEET, {0: head(4) | spare}), 2, 0)
+            setup(put(SHEET, {0: head(4, 3) | spare}), 2, 0)
+    setup(put(SHEET, {0: head(4) | 1 << 5}), 0, 0)
+    setup(put(SHEET, {0: head(4, 3) | 1 << 5}), 0, 0)
     also("2: Q 1 and 1,000,000 are accepted, and 524,288, which is bit 27 alone; 1,000,001 and all bits are not.")
     for q in (1, 524288, 1000000):
         setup(put(SHEET, {0: head(4, q)}), 0, 0)
@@ -1574,7 +1589,7 @@ def changes_refused_by_the_state():
 def changes_refused_by_the_new_words():
     note("Then the new setup by its own numbers and indexes: lead 0 and no output in each call, the state has a change that waits.")
     for new, number, index in ((b"", 1, 0), (raw(RAISED)[:5], 1, 0), (raw(RAISED) + bytes(2), 1, 0), (put(RAISED, {0: head(17)}), 2, 0),
-                               (put(RAISED, {0: head(4) | 1 << 5}), 2, 0), (RAISED[:6], 3, 0), (RAISED + [module(5, 4)], 3, 0),
+                               (put(RAISED, {0: head(4) | 1 << 6}), 2, 0), (RAISED[:6], 3, 0), (RAISED + [module(5, 4)], 3, 0),
                                (put(RAISED, {1: limit_p(0)}), 4, 1), (put(RAISED, {1: limit_p(1000001)}), 4, 1),
                                (put(RAISED, {2: limit_r(8000001)}), 4, 2), (put(RAISED, {1: limit_r(3)}), 4, 1),
                                (put(RAISED, {3: module(1, 5)}), 5, 3), (put(RAISED, {6: module(4, 4, crit=100001)}), 5, 6),
@@ -1935,8 +1950,495 @@ def pages_of_changes():
     page_step_refused(put(WAITS_WORDS, {29: 0}), ALL_ONES, 0x10, 0, b"", 8, 29)
 
 
-print("# Calls and their answers after document 01 and E1, E4, E5, E6, E9 and E10 of document 02, in the format of e10-calls.txt;")
-print("# a cause that is refused is written cause CTLBIT WORD N = refused NUMBER at INDEX.")
+# ---- stands with a torn cable (document 02, E11) ----
+
+# The sheet with head bit 5. An image has 35 words: 27 to 30 are the view words of the last read, 31 the latest local view, 32 the one before it, 33 the
+# adopted one, 34 is 1 if the module is out. With a change that waits these are 33 to 40, with fading 30 to 37.
+TORN = setup_words(4, partitionable=1)
+TORN_TWO = setup_words(2, partitionable=1)
+TORN_THREE = setup_words(3, partitionable=1)
+TORN_SIXTEEN = setup_words(16, partitionable=1)
+TORN_MARKED = setup_words(4, l=[0, 0, 1, 2], marks=[2, 3, 4], partitionable=1)
+TORN_FADING = setup_words(4, fading=(0.5, 2.0), partitionable=1)
+TORN_RAISED = setup_words(4, p=5, r=4, crit=[2, 1, 3, 1], partitionable=1)
+TORN_1 = State(TORN, 1)
+TORN_WORDS = TORN_1.words()
+TORN_WAITS = TORN_1.but(pending=(1, TORN_RAISED))
+
+
+def views(*each):
+    """The view words of these views."""
+    return [view_word(view) for view in each]
+
+
+def viewed(image, words, controller=None, seen=None, **fields):
+    """A step in which all syndromes are full, with these view words. seen: as the image keeps them, None if missing."""
+    ones = full(image.n)
+    seen = list(words) if seen is None else seen
+    return stepped(image, buses(*[ones] * image.n) + words, ones if controller is None else controller, ones, [ones] * image.n, ones,
+                   seen=seen, **fields)
+
+
+def outgoing_view(data, number, index, word):
+    print(f"outgoingview {text(data)} = {number} {index} {word:08X}")
+
+
+def partitionable_setups():
+    note("Partitionable setups, head bit 5: N = 2, 4 and 16, u = 0 and u = 1, marks, Q, fading. The length is as without.")
+    for words in (TORN_TWO, TORN, TORN_SIXTEEN, TORN_MARKED, TORN_FADING, setup_words(4, q=1000000, partitionable=1)):
+        setup(words, 0, 0)
+    also("3: one word short, one over; 4, 5 and 6 as without.")
+    setup(TORN[:6], 3, 0)
+    setup(TORN + [module(5, 4)], 3, 0)
+    setup(put(TORN, {1: limit_p(0)}), 4, 1)
+    setup(put(TORN, {6: module(4, 5)}), 5, 6)
+    setup(put(TORN, {4: module(2, 2, mark=1)}), 6, 4)
+    also("2: bit 5 with N = 1 and 17, with bit 6 and with bit 7; with Q = 1,000,001; with another kind.")
+    for word in (head(1, 0, 1), head(17, 0, 1), head(4, 0, 1) | 1 << 6, head(4, 0, 1) | 1 << 7, head(4, 1000001, 1), kind(head(4, 0, 1), 2)):
+        setup(put(TORN, {0: word}), 2, 0)
+
+
+def partitionable_openings():
+    note("Opened: every view is full, those in the view words too; out is 0. N = 2, 4 and 16, fading, with marks, with Q.")
+    for words, own in ((TORN, 1), (TORN, 4), (TORN_TWO, 2), (TORN_SIXTEEN, 16), (TORN_FADING, 3), (TORN_MARKED, 2),
+                       (setup_words(4, q=3, partitionable=1), 2)):
+        opened(words, own)
+    also("9: output as long as without bit 5, one word and one byte short, one over. The sheet with that of a partitionable one.")
+    for out in (0, 108, 136, 139, 141, 144):
+        open_refused(TORN, 1, out, 9, 0)
+    open_refused(SHEET, 1, 140, 9, 0)
+    open_refused(TORN_FADING, 1, 140, 9, 0)
+    also("7 before 9.")
+    open_refused(TORN, 5, 108, 7, 0)
+    also("With a page, which has the adopted view, a full one.")
+    page_opened(TORN, 1, FRESH_PAGE)
+    page_opened(TORN_SIXTEEN, 7, page_words(0xFFFF, 0xFFFF))
+    page_open_refused(TORN, 1, 108, 64, 9, 0)
+    page_open_refused(TORN, 1, 140, 60, 9, 0)
+
+
+def partitionable_states():
+    note("Partitionable states that are accepted: fresh; view words missing, one and all; other views in them, 0000 too.")
+    state(TORN_1, 0, 0)
+    state(TORN_1.but(seen={2: None}), 0, 0)
+    state(TORN_1.but(seen=[None] * 4), 0, 0)
+    state(TORN_1.but(seen=views(0x0, 0x1, 0x8, 0xE)), 0, 0)
+    also("The view before and the adopted one: any of N bits. Out, with any adopted view.")
+    for earlier, adopted in ((0x0, 0xF), (0xF, 0x0), (0x5, 0xA)):
+        state(TORN_1.but(earlier=earlier, adopted=adopted), 0, 0)
+        state(TORN_1.but(earlier=earlier, adopted=adopted, out=1), 0, 0)
+    also("No tie between a row and the view word of the same module: one is there and the other is not.")
+    state(TORN_1.but(row={2: None}), 0, 0)
+    state(TORN_1.but(row={2: None, 3: 0x1}, seen={3: None, 2: view_word(0x3)}), 0, 0)
+    also("The latest local view is the kind 10 word's: 2 is outside.")
+    state(TORN_1.but(view=0xD, penalty={2: 2}, adopted=0xF), 0, 0)
+    also("With a change that waits; with fading; N = 2 and 16; marks.")
+    state(TORN_WAITS, 0, 0)
+    state(TORN_WAITS.but(pending=(1000, TORN), seen={1: None}, adopted=0x3, out=1), 0, 0)
+    state(State(TORN_FADING, 2).but(view=0xD, score={2: 2.5}, earlier=0x0, adopted=0x9, out=1), 0, 0)
+    state(State(TORN_TWO, 1).but(seen=views(0x2, 0x1)), 0, 0)
+    state(State(TORN_SIXTEEN, 16).but(seen={16: view_word(0x8000), 1: None}, earlier=0x8000, adopted=0x1), 0, 0)
+    state(State(TORN_MARKED, 3).but(earlier=0x7), 0, 0)
+
+
+def partitionable_states_of_wrong_length():
+    plain = FRESH.but(own=1).words()
+    note("3: head bit 5 without its words; these words without head bit 5; one word short, one over; N view words alone.")
+    state(put(plain, {0: TORN[0]}), 3, 0)
+    state(put(TORN_WORDS, {0: SHEET[0]}), 3, 0)
+    state(TORN_WORDS[:34], 3, 0)
+    state(TORN_WORDS + [0], 3, 0)
+    state(TORN_WORDS[:31], 3, 0)
+    also("3: rounds left 1 and 1,001 without the words of a change; the words of a change and rounds left 0; one word short, one over.")
+    for left in (1, 1001):
+        state(put(TORN_WORDS, {26: left}), 3, 0)
+    waits = TORN_WAITS.words()
+    state(put(waits, {26: 0}), 3, 0)
+    state(waits[:40], 3, 0)
+    state(waits + [0], 3, 0)
+    also("3: the words of a change, and those of the views are missing. The other way round: the views' words of one more module.")
+    state(waits[:33], 3, 0)
+    state(TORN_WORDS[:27] + views(0xF) + TORN_WORDS[27:], 3, 0)
+    also("3: fading, the same: without its words, with one fewer, with rounds left 1 and nothing for it.")
+    fading = State(TORN_FADING, 2).words()
+    state(fading[:30], 3, 0)
+    state(fading[:37], 3, 0)
+    state(put(fading, {29: 1}), 3, 0)
+    also("8 at the rounds left of a fading state with the words that they call for.")
+    state(fading[:29] + [1] + TORN_RAISED[1:] + fading[30:], 8, 29)
+    also("3: too short for the rounds left. 2 before 3; 3 before 4 to 8.")
+    state(TORN_WORDS[:26], 3, 0)
+    state(put(TORN_WORDS[:34], {0: head(4, 0, 1) | 1 << 6}), 2, 0)
+    state(put(TORN_WORDS[:34], {1: limit_p(0), 7: own_view(0, 0xF), 27: 1}), 3, 0)
+
+
+def wrong_view_words(n):
+    """Of other kinds, with a bit at N or above, or neither kind nor 0."""
+    wrong = [full(n), 1, 1 << 27, bus(full(n)), kind(view_word(full(n)), 9), kind(view_word(full(n)), 11), kind(view_word(full(n)), 2)]
+    return wrong + [view_word(full(n)) | 1 << bit for bit in range(n, 28)] + [view_word(0) | 1 << n, 0xFFFFFFFF]
+
+
+def partitionable_states_refused():
+    note("8 at a view word (27 to 30): another kind, kind 0 with a bit, any bit from N to 27, a kind 10 word with an own number.")
+    for at in (27, 30):
+        for wrong in wrong_view_words(4):
+            state(put(TORN_WORDS, {at: wrong}), 8, at)
+    for at in (28, 29):
+        for wrong in (1, bus(0xF), view_word(0x10), own_view(1, 0xF)):
+            state(put(TORN_WORDS, {at: wrong}), 8, at)
+    also("8 at the latest local view (31): each bit other than in the kind 10 word, a bit at N, kind 10. The kind 10 word is right in each.")
+    for wrong in (0xE, 0xD, 0xB, 0x7, 0x0, 0x1F, 0x1000F, 1 << 31 | 0xF, view_word(0xF)):
+        state(put(TORN_WORDS, {31: wrong}), 8, 31)
+    also("8 at 31 too where the view itself is other: 2 is outside, and the latest local view is full; the view before it is not asked.")
+    outside = TORN_1.but(view=0xD, penalty={2: 2}).words()
+    state(outside, 0, 0)
+    for wrong in (0xF, 0xC, 0x1D):
+        state(put(outside, {31: wrong}), 8, 31)
+    state(put(outside, {32: 0xD}), 0, 0)
+    also("8 at the view before (32) and at the adopted one (33): a bit at N or above, kind 10.")
+    for at in (32, 33):
+        for wrong in (0x10, 0x1F, 0x8000, 0x10000, 1 << 28, 1 << 31, view_word(0xF), 0xFFFFFFFF):
+            state(put(TORN_WORDS, {at: wrong}), 8, at)
+    also("8 at out (34): 2, 3, 256, a bit above, all bits.")
+    for wrong in (2, 3, 0x100, 1 << 16, 1 << 31 | 1, 0xFFFFFFFF):
+        state(put(TORN_WORDS, {34: wrong}), 8, 34)
+
+    note("8 at several words, the first counts: two view words; a view word and the latest view; latest and before; before and adopted; adopted and",
+         "out; the rounds left before a view word, a return count before a view word.")
+    state(put(TORN_WORDS, {28: 1, 30: 1}), 8, 28)
+    state(put(TORN_WORDS, {30: 1, 31: 0}), 8, 30)
+    state(put(TORN_WORDS, {31: 0, 32: 0x10}), 8, 31)
+    state(put(TORN_WORDS, {32: 0x10, 33: 0x10}), 8, 32)
+    state(put(TORN_WORDS, {33: 0x10, 34: 2}), 8, 33)
+    state(put(TORN_WORDS, {25: returns(4, 1), 27: 1}), 8, 25)
+    also("7 before 8; a wrong kind 10 word is named before the latest view.")
+    state(put(TORN_WORDS, {7: own_view(0, 0xF), 34: 2}), 7, 7)
+    state(put(TORN_WORDS, {7: own_view(1, 0x1F), 31: 0x1F}), 8, 7)
+
+    note("With a change that waits they lie N + 2 words further (33 to 40), behind its words.")
+    waits = TORN_WAITS.words()
+    for at, wrong in ((33, 1), (36, bus(0xF)), (37, 0xE), (38, 0x10), (39, 0x10), (40, 2)):
+        state(put(waits, {at: wrong}), 8, at)
+    state(put(waits, {26: 1001, 33: 1}), 8, 26)
+    state(put(waits, {32: module(4, 3), 33: 1}), 8, 32)
+    note("With fading three words further (30 to 37).")
+    fading = State(TORN_FADING, 2).words()
+    for at, wrong in ((30, 1), (33, view_word(0x10)), (34, 0xE), (35, 0x10), (36, 0x10), (37, 2)):
+        state(put(fading, {at: wrong}), 8, at)
+    note("N = 2: bit 2. N = 16: bits 16 to 27 of a view word; 65,536 in the place of a view.")
+    two, sixteen = State(TORN_TWO, 1).words(), State(TORN_SIXTEEN, 1).words()
+    for at, wrong in ((17, view_word(0x4)), (18, view_word(0x7)), (19, 0x7), (20, 0x4), (21, 0x4), (22, 2)):
+        state(put(two, {at: wrong}), 8, at)
+    for bit in range(16, 28):
+        state(put(sixteen, {102: view_word(0xFFFF) | 1 << bit}), 8, 102)
+    for at, wrong in ((87, 0xFFFF), (103, 0x1FFFF), (104, 0x10000), (105, 0x10000), (106, 2)):
+        state(put(sixteen, {at: wrong}), 8, at)
+
+
+def partitionable_savings():
+    note("Saved, with an output of that length; 9 for others: without the words of the views, one word short, one over.")
+    saved(TORN_1)
+    saved(TORN_1.but(seen=[None, view_word(0x3), None, view_word(0x0)], earlier=0x1, adopted=0x2, out=1))
+    saved(TORN_WAITS)
+    saved(State(TORN_FADING, 4))
+    saved(State(TORN_SIXTEEN, 9))
+    for out in (0, 108, 136, 139, 144, 164):
+        save_refused(TORN_1, out, 9, 0)
+    for out in (132, 140, 160, 168):
+        save_refused(TORN_WAITS, out, 9, 0)
+    save_refused(SHEET_1, 140, 9, 0)
+    also("8 before 9.")
+    save_refused(put(TORN_WORDS, {34: 2}), 0, 8, 34)
+
+
+def partitionable_outgoing_views():
+    note("The view word that a state hands out: 0 without head bit 5; else the latest local view, with the send mark the one before it.")
+    outgoing_view(SHEET_1, 0, 0, 0)
+    outgoing_view(FADES, 0, 0, 0)
+    outgoing_view(State(MARKED, 2), 0, 0, 0)
+    outgoing_view(TORN_1, 0, 0, view_word(0xF))
+    outside = TORN_1.but(view=0xD, penalty={2: 2}, earlier=0x7, adopted=0xB)
+    outgoing_view(outside, 0, 0, view_word(0xD))
+    outgoing_view(outside.but(out=1, seen=[None] * 4), 0, 0, view_word(0xD))
+    marked = State(TORN_MARKED, 1).but(view=0xD, penalty={2: 2}, earlier=0x7, adopted=0xB)
+    outgoing_view(marked, 0, 0, view_word(0xD))
+    for own in (2, 3, 4):
+        outgoing_view(marked.but(own=own), 0, 0, view_word(0x7))
+    also("With a change that waits; with fading; N = 2 and 16; a view without anybody.")
+    outgoing_view(TORN_WAITS, 0, 0, view_word(0xF))
+    outgoing_view(State(TORN_FADING, 1).but(view=0xE, score={1: 2.0}), 0, 0, view_word(0xE))
+    outgoing_view(State(TORN_TWO, 1).but(view=0x2, penalty={1: 2}), 0, 0, view_word(0x2))
+    outgoing_view(State(TORN_SIXTEEN, 16).but(view=0x7FFF, penalty={16: 2}), 0, 0, view_word(0x7FFF))
+    outgoing_view(TORN_1.but(view=0x0, penalty={j: 2 for j in range(1, 5)}), 0, 0, view_word(0x0))
+    also("Numbers 1 to 8, and 22 in the place of 4.")
+    outgoing_view(b"", 1, 0, 0)
+    outgoing_view(put(TORN_WORDS, {0: head(4, 0, 1) | 1 << 6}), 2, 0, 0)
+    outgoing_view(TORN_WORDS[:34], 3, 0, 0)
+    outgoing_view(put(TORN_WORDS, {1: limit_p(0)}), 4, 1, 0)
+    outgoing_view(with_double(State(TORN_FADING, 1).words(), 2, ABOVE_1), 22, 2, 0)
+    outgoing_view(put(TORN_WORDS, {6: module(4, 5)}), 5, 6, 0)
+    outgoing_view(put(TORN_WORDS, {4: module(2, 2, mark=1)}), 6, 4, 0)
+    outgoing_view(put(TORN_WORDS, {7: own_view(5, 0xF)}), 7, 7, 0)
+    outgoing_view(put(TORN_WORDS, {31: 0xE}), 8, 31, 0)
+    outgoing_view(put(FRESH_WORDS, {25: returns(4, 1)}), 8, 25, 0)
+
+
+def partitionable_steps_refused():
+    both = ALL_ONES + views(0xF, 0xF, 0xF, 0xF)
+    note("9: a read of N words, of 2N - 1, of 2N + 1, of 3N, one byte short, none. Without head bit 5 one of 2N words.")
+    for read in (ALL_ONES, both[:7], both + [0], both + ALL_ONES, raw(both)[:31], b""):
+        step_refused(TORN_1, read, 0xF, 140, 9, 0)
+    step_refused(SHEET_1, both, 0xF, 108, 9, 0)
+    also("9: an output as long as without bit 5, one word and one byte short, one over; with a change that waits 2 rounds and 1.")
+    for out in (0, 108, 136, 139, 144, 164):
+        step_refused(TORN_1, both, 0xF, out, 9, 0)
+    for out in (132, 140, 160, 168):
+        step_refused(TORN_1.but(pending=(2, TORN_RAISED)), both, 0x10, out, 9, 0)
+    for out in (108, 132, 164):
+        step_refused(TORN_WAITS, both, 0x10, out, 9, 0)
+    also("10: a controller bit at N, and at 2N - 1: one bit covers both words of a module. 9 before 10, 8 before 9.")
+    for controller in (0x10, 0xFF, 0x80, 1 << 31):
+        step_refused(TORN_1, both, controller, 140, 10, 0)
+    step_refused(TORN_1, ALL_ONES, 0x10, 140, 9, 0)
+    step_refused(put(TORN_WORDS, {33: 0x10}), ALL_ONES, 0x10, 0, 8, 33)
+
+
+def partitionable_steps_that_adopt():
+    note("All view words are full: adopted. All lack 2: adopted, while the local view stays full; then full again.")
+    viewed(TORN_1, views(0xF, 0xF, 0xF, 0xF))
+    lacks = viewed(TORN_1, views(0xD, 0xD, 0xD, 0xD), adopted=0xD)
+    viewed(lacks, views(0xF, 0xF, 0xF, 0xF), adopted=0xF)
+    also("Three of four carry 0 for 2, whoever the fourth is: more than half. So does the own word, which is 1's.")
+    for other in range(4):
+        each = [0xD] * 4
+        each[other] = 0xF
+        viewed(TORN_1, views(*each), adopted=0xD)
+    also("Three carry 1 for 2 and one 0: full.")
+    viewed(TORN_1.but(adopted=0xD), views(0xF, 0xF, 0xD, 0xF), adopted=0xF)
+    also("Each module by itself: 0111, 1011, 1101, 1110 have three carriers of 1 for each, and 1111 is adopted, which nobody sent.")
+    viewed(TORN_1.but(adopted=0x1), views(0xE, 0xD, 0xB, 0x7), adopted=0xF)
+    viewed(TORN_1, views(0x1, 0x2, 0x4, 0x8), adopted=0x0)
+    also("Nobody is in the view that all carry. Three are heard and alike; whoever is missing, by the controller or by its word.")
+    viewed(TORN_1, views(0x0, 0x0, 0x0, 0x0), adopted=0x0)
+    for other in range(4):
+        words = views(0xB, 0xB, 0xB, 0xB)
+        seen = list(words)
+        words[other], seen[other] = view_word(0x1B), None
+        viewed(TORN_1, words, seen=seen, adopted=0xB)
+    also("Modules outside the local view count as the others do: 2 and 3 are outside, and their words make three of four.")
+    outside = TORN_1.but(view=0x9, penalty={2: 2, 3: 2})
+    viewed(outside, views(0x9, 0x9, 0x9, 0xF), adopted=0x9)
+    also("N is not reduced by the view: only 1 and 4 are in it, both carry 1001, and that is not more than half of 4.")
+    words, seen = views(0x9, 0x9, 0x9, 0x9), [view_word(0x9), None, None, view_word(0x9)]
+    viewed(outside, put(words, {1: 0, 2: bus(0x9)}), seen=seen, out=1)
+
+
+def partitionable_steps_that_go_out():
+    note("Two of four carry 1 for 2 and two carry 0: nothing is adopted, of the others neither, and 1 is out. Its adopted view stays.")
+    for each in ((0xF, 0xF, 0xD, 0xD), (0xD, 0xF, 0xF, 0xD), (0x5, 0x5, 0x7, 0x7)):
+        viewed(TORN_1, views(*each), out=1)
+        viewed(TORN_1.but(adopted=0x6), views(*each), out=1)
+    also("Two alike and two missing: two of four are not more than half. Nobody's word is there.")
+    words = views(0xF, 0xF, 0xF, 0xF)
+    viewed(TORN_1, put(words, {2: 0, 3: 0}), seen=put(words, {2: None, 3: None}), out=1)
+    viewed(TORN_1.but(adopted=0x3), [0] * 4, seen=[None] * 4, out=1)
+    also("Three are there, but on 2 they differ: two of four. The last module alone has no majority; the first alone.")
+    viewed(TORN_1, views(0xF, 0xF, 0xD) + [0], seen=views(0xF, 0xF, 0xD) + [None], out=1)
+    viewed(TORN_1, views(0xF, 0xF, 0x7, 0x7), out=1)
+    viewed(TORN_1, views(0xF, 0xE, 0xF, 0xE), out=1)
+    also("Out for good: all carry 1101, and nothing is adopted; the words are kept, the module steps, charges and sends as before.")
+    away = TORN_1.but(out=1, adopted=0xE)
+    after = viewed(away, views(0xB, 0xB, 0xB, 0xB))
+    outgoing_view(after, 0, 0, view_word(0xF))
+    viewed(after, views(0xF, 0xF, 0xF, 0xF))
+    lack = [0xD] * 4
+    one = stepped(away, buses(*lack) + views(0xF, 0xF, 0xF, 0xF), 0xF, 0xD, lack, 0xF, penalty={2: 1})
+    two = stepped(one, buses(*lack) + views(0xF, 0xF, 0xF, 0xF), 0xF, 0xD, lack, 0xF, penalty={2: 2}, view=0xD)
+    outgoing_view(two, 0, 0, view_word(0xD))
+    also("Out, and without a majority: as before.")
+    viewed(away, views(0xF, 0xF, 0x0, 0x0))
+
+
+def partitionable_steps_of_missing_words():
+    note("A controller bit covers both words: 2 is missing with its row and its view word. The three others carry 1011.")
+    read = ALL_ONES + views(0xD, 0xF, 0xD, 0xD)
+    stepped(TORN_1, read, 0xD, 0xF, [0xF, None, 0xF, 0xF], 0xD, seen=put(views(0xD, 0xF, 0xD, 0xD), {1: None}), adopted=0xD)
+    also("The view word alone is missing: of another kind, with stray bits, a syndrome in its place. The row is heard.")
+    for wrong in (0, bus(0xD), view_word(0x1D), own_view(2, 0xD), 0x9000000D, 0xB000000D, view_word(0xD) | 1 << 27):
+        words = put(views(0xD, 0xD, 0xD, 0xD), {1: wrong})
+        viewed(TORN_1, words, seen=put(words, {1: None}), adopted=0xD)
+    also("The syndrome alone is missing, of another kind, a view word in its place: the view word is there and counts.")
+    for wrong in (0, view_word(0xF), bus(0x1F)):
+        stepped(TORN_1, put(ALL_ONES, {1: wrong}) + views(0xD, 0xD, 0xD, 0xF), 0xF, 0xF, [0xF, None, 0xF, 0xF], 0xD,
+                seen=views(0xD, 0xD, 0xD, 0xF), adopted=0xD)
+    also("Nobody is heard: 1 is out; the vote goes by the latest syndrome.")
+    stepped(TORN_1, ALL_ONES + views(0xF, 0xF, 0xF, 0xF), 0x0, 0xF, [None] * 4, 0x0, seen=[None] * 4, out=1)
+    also("All syndromes missing, all view words there: adopted.")
+    stepped(TORN_1, [0] * 4 + views(0x7, 0x7, 0x7, 0x7), 0xF, 0xF, [None] * 4, 0x0, seen=views(0x7, 0x7, 0x7, 0x7), adopted=0x7)
+
+
+def partitionable_steps_of_the_local_view():
+    note("2 is charged a second time and leaves: the latest local view lacks it, the one before is full; adopted is what the words carry, a full one.")
+    lack = [0xD] * 4
+    words = views(0xF, 0xF, 0xF, 0xF)
+    left = stepped(TORN_1.but(penalty={2: 1}), buses(*lack) + words, 0xF, 0xD, lack, 0xF, penalty={2: 2}, view=0xD)
+    outgoing_view(left, 0, 0, view_word(0xD))
+    also("In the next step the words carry it, and it is adopted; the view before is that of the step before.")
+    viewed(left, views(0xD, 0xD, 0xD, 0xD), adopted=0xD)
+    also("The rules go by the local view, not by the adopted one: 2 is out of the adopted view, but its row votes and it is charged.")
+    rows = [0xF, 0xE, 0xF, 0xE]
+    stepped(TORN_1.but(adopted=0xD), buses(*rows) + views(0xD, 0xD, 0xD, 0xD), 0xF, 0xE, rows, 0xB, seen=views(0xD, 0xD, 0xD, 0xD),
+            penalty={1: 1})
+    also("The other way round: 2 is in the adopted view alone; its row does not vote, and health 0 charges nobody.")
+    outside = TORN_1.but(view=0xD, penalty={2: 2})
+    stepped(outside, buses(*rows) + words, 0xF, 0xF, rows, 0x7)
+    stepped(outside, buses(*lack) + words, 0xF, 0xD, lack, 0xF)
+    also("Q = 1: 2 returns; latest full, before 1011.")
+    quick = State(setup_words(4, q=1, partitionable=1), 3).but(view=0xD, penalty={2: 2}, adopted=0xD)
+    viewed(quick, views(0xD, 0xD, 0xD, 0xD), penalty={2: 1}, view=0xF)
+    also("Fading: the second charge reaches 2.0. The view words go their own way.")
+    fading = State(TORN_FADING, 1).but(score={2: 1.0})
+    stepped(fading, buses(*lack) + views(0xF, 0xF, 0x0, 0x0), 0xF, 0xD, lack, 0xF, seen=views(0xF, 0xF, 0x0, 0x0), score={2: 2.0}, view=0xD,
+            out=1)
+
+
+def partitionable_steps_with_u_1():
+    note("u = 1, module 4 with l = 2 and the mark: view words 1 and 2 of the read before, 3 and 4 of this one. All four carry 1011: adopted.")
+    marked = State(TORN_MARKED, 4)
+    after = viewed(marked.but(seen=views(0xD, 0xD, 0xF, 0xF)), views(0xF, 0xF, 0xD, 0xD), adopted=0xD)
+    also("It hands out the view before the latest, a full one. Two of the read before and two of this one differ: out.")
+    outgoing_view(after, 0, 0, view_word(0xF))
+    viewed(marked.but(seen=views(0xF, 0xF, 0xD, 0xD)), views(0xD, 0xD, 0xD, 0xD), out=1)
+    also("Missing in the read before, there in this one: missing; and the other way round.")
+    words = views(0xB, 0xB, 0xB, 0xB)
+    viewed(marked.but(seen=put(words, {0: None})), words, adopted=0xB)
+    viewed(marked.but(seen=put(words, {0: None, 1: None})), words, out=1)
+    viewed(marked.but(seen=words), put(words, {0: 0, 1: 0}), seen=put(words, {0: None, 1: None}), adopted=0xB)
+    viewed(marked.but(seen=words), put(words, {2: 0, 3: 0}), seen=put(words, {2: None, 3: None}), out=1)
+    also("Module 1 with l = 0: all of this read. One early module of four, so u = 1: module 1 with l = N takes all of the read before.")
+    viewed(State(TORN_MARKED, 1).but(seen=[None] * 4), words, adopted=0xB)
+    early = State(setup_words(4, l=[4, 4, 4, 3], partitionable=1), 1)
+    viewed(early.but(seen=words), views(0x1, 0x2, 0x4, 0x8), adopted=0xB)
+    viewed(early, [0] * 4, seen=[None] * 4)
+    also("Marked, and 2 leaves in this step: the word handed out is the view before it, in the next step that without 2.")
+    lack = [0xD] * 4
+    left = stepped(marked.but(row=[0xD, 0xD, 0xF, 0xF], penalty={2: 1}), buses(0xF, 0xF, 0xD, 0xD) + views(0xF, 0xF, 0xF, 0xF), 0xF, 0xD,
+                   [0xF, 0xF, 0xD, 0xD], 0xF, penalty={2: 2}, view=0xD)
+    outgoing_view(left, 0, 0, view_word(0xF))
+    later = stepped(left.but(row=lack), buses(*lack) + views(0xF, 0xF, 0xF, 0xF), 0xF, 0xD, lack, 0xF)
+    outgoing_view(later, 0, 0, view_word(0xD))
+
+
+def partitionable_steps_of_other_n():
+    note("N = 2: both must be there and carry the same.")
+    two = State(TORN_TWO, 1)
+    viewed(two, views(0x1, 0x1), adopted=0x1)
+    viewed(two, views(0x3, 0x1), out=1)
+    viewed(two, views(0x3) + [0], seen=[view_word(0x3), None], out=1)
+    note("N = 3: two of three.")
+    three = State(TORN_THREE, 2)
+    viewed(three, views(0x5, 0x5) + [0], seen=views(0x5, 0x5) + [None], adopted=0x5)
+    viewed(three, views(0x6, 0x5, 0x3), adopted=0x7)
+    viewed(three, views(0x6, 0x5) + [0], seen=views(0x6, 0x5) + [None], out=1)
+    viewed(three, [0, 0] + views(0x7), seen=[None, None] + views(0x7), out=1)
+    note("N = 16: nine carry 0 for 16, seven 1: adopted; eight and eight: out. Nine alike and seven missing: adopted; eight: out.")
+    sixteen = State(TORN_SIXTEEN, 5)
+    viewed(sixteen, views(*[0x7FFF] * 9 + [0xFFFF] * 7), adopted=0x7FFF)
+    viewed(sixteen, views(*[0x7FFF] * 8 + [0xFFFF] * 8), out=1)
+    viewed(sixteen, views(*[0x7FFF] * 7 + [0xFFFF] * 9))
+    for there in (9, 8):
+        words = views(*[0x0FF0] * there) + [0] * (16 - there)
+        fields = {"adopted": 0x0FF0} if there == 9 else {"out": 1}
+        viewed(sixteen, words, seen=[word or None for word in words], **fields)
+
+
+def partitionable_changes():
+    note("A change of a partitionable module: its words stand before those of the views, which stay.")
+    changed(TORN_1, TORN_RAISED, 1)
+    changed(TORN_1.but(seen=[None, view_word(0x3), None, view_word(0x0)], earlier=0x1, adopted=0x2, out=1), TORN_RAISED, 1000)
+    changed(State(TORN_MARKED, 3), TORN_MARKED, 2)
+    changed(State(TORN_SIXTEEN, 3), setup_words(16, p=7, partitionable=1), 3)
+    also("23: head bit 5 alone differs, either way, before 24 and 9; with other limits too; with fading.")
+    for out in (0, 108, 132, 140, 164):
+        change_refused(TORN_1, SHEET, 1, out, 23, 0)
+        change_refused(SHEET_1, TORN, 1, out, 23, 0)
+    change_refused(TORN_1, RAISED, 0, 164, 23, 0)
+    change_refused(SHEET_1, TORN_RAISED, 1001, 132, 23, 0)
+    change_refused(TORN_WAITS, SHEET, 1, 164, 23, 0)
+    change_refused(State(TORN_FADING, 1), TORN_FADING, 1, 176, 23, 0)
+    change_refused(TORN_1, TORN_FADING, 1, 164, 23, 0)
+    also("2 for bits 6 and 7 of the new head. 24 if one waits; lead 0 and 1,001.")
+    for bit in (6, 7):
+        change_refused(TORN_1, put(TORN, {0: TORN[0] | 1 << bit}), 1, 164, 2, 0)
+    change_refused(TORN_WAITS, TORN, 1, 164, 24, 0)
+    for lead in (0, 1001):
+        change_refused(TORN_1, TORN_RAISED, lead, 164, 24, 0)
+    also("9: without the words of the change, without those of the views, one word short, one over.")
+    for out in (0, 132, 140, 160, 163, 168):
+        change_refused(TORN_1, TORN_RAISED, 1, out, 9, 0)
+    also("8 in the words of the views before the new setup.")
+    change_refused(put(TORN_WORDS, {30: 1}), b"", 0, 0, 8, 30)
+
+    note("While it waits, and in the step in which it takes effect: the view words are read and adopted as without.")
+    words = views(0xD, 0xD, 0xD, 0xF)
+    waits = TORN_1.but(pending=(2, TORN_RAISED))
+    one = viewed(waits, words, adopted=0xD, pending=(1, TORN_RAISED))
+    viewed(one, views(0xF, 0xF, 0xF, 0xD), adopted=0xF, setup=TORN_RAISED, pending=None)
+    also("2 leaves by the change: the latest local view lacks it, the one before is that before the step, a full one; adopted is what was sent.")
+    high = State(setup_words(4, p=5, partitionable=1), 1).but(penalty={2: 5})
+    left = viewed(applied(TORN, high), views(0xF, 0xF, 0xF, 0xF), penalty={2: 2}, view=0xD, setup=TORN, pending=None)
+    outgoing_view(left, 0, 0, view_word(0xD))
+    also("Out in the step in which it takes effect.")
+    viewed(applied(TORN, high), views(0xF, 0xF, 0x0, 0x0), penalty={2: 2}, view=0xD, setup=TORN, pending=None, out=1)
+    also("Q = 1: 2 leaves by the change and is back in the same step; the view before is the same.")
+    quick = setup_words(4, p=1, q=1, partitionable=1)
+    viewed(applied(quick, State(setup_words(4, p=5, q=1, partitionable=1), 1).but(penalty={2: 5})), views(0xF, 0xF, 0xF, 0xF), penalty={2: 1},
+           setup=quick, pending=None)
+
+
+def partitionable_pages():
+    quiet = page_words(0xF, 0xF, 0, 3)
+    ones, lack = [0xF] * 4, [0xD] * 4
+    full_views, lack_views = views(0xF, 0xF, 0xF, 0xF), views(0xD, 0xD, 0xD, 0xD)
+    note("The page shows the adopted view. All carry 1011: word 1 changes, flag 0, while the local view stays full; nobody is charged.")
+    after = page_stepped(TORN_1, quiet, page_words(0xF, 0xD, 1, 3), ALL_ONES + lack_views, 0xF, 0xF, ones, 0xF, seen=lack_views, adopted=0xD)
+    also("The same again: word 1 stays, no flag.")
+    page_stepped(after, page_words(0xF, 0xD, 0, 3), page_words(0xF, 0xD, 0, 3), ALL_ONES + lack_views, 0xF, 0xF, ones, 0xF)
+    also("2 leaves the local view and is charged: flag 1, and word 1 stays, for the words carry a full view. Then they carry 1011: flag 0.")
+    left = page_stepped(TORN_1.but(penalty={2: 1}), quiet, page_words(0xD, 0xF, 2, 3), buses(*lack) + full_views, 0xF, 0xD, lack, 0xF,
+                        penalty={2: 2}, view=0xD)
+    page_stepped(left, quiet, page_words(0xF, 0xD, 1, 3), ALL_ONES + lack_views, 0xF, 0xF, ones, 0xF, seen=lack_views, adopted=0xD)
+    also("Flag 1 goes by the local view: 2 is in it, not in the adopted one, and has health 0: charged. The other way round: not charged.")
+    page_stepped(TORN_1.but(adopted=0xD), page_words(0xF, 0xD, 0, 3), page_words(0xD, 0xD, 2, 3), buses(*lack) + lack_views, 0xF, 0xD, lack, 0xF,
+                 seen=lack_views, penalty={2: 1})
+    page_stepped(TORN_1.but(view=0xD, penalty={2: 2}), quiet, page_words(0xD, 0xF, 0, 3), buses(*lack) + full_views, 0xF, 0xD, lack, 0xF)
+    also("Flag 0 by word 1 alone: it had another view than the module, and the adopted one stays as it was.")
+    page_stepped(TORN_1, page_words(0xF, 0x3, 0, 3), page_words(0xF, 0xF, 1, 3), ALL_ONES + full_views, 0xF, 0xF, ones, 0xF)
+    also("Out: word 1 keeps the adopted view, whatever is sent and whatever the local view is. In the step in which it goes out too.")
+    away = TORN_1.but(out=1, adopted=0xE)
+    shown = page_words(0xF, 0xE, 0, 3)
+    page_stepped(away, shown, shown, ALL_ONES + lack_views, 0xF, 0xF, ones, 0xF, seen=lack_views)
+    page_stepped(away.but(penalty={2: 1}), shown, page_words(0xD, 0xE, 2, 3), buses(*lack) + full_views, 0xF, 0xD, lack, 0xF, penalty={2: 2},
+                 view=0xD)
+    halves = views(0xD, 0xD, 0xF, 0xF)
+    page_stepped(TORN_1.but(adopted=0xE), shown, shown, ALL_ONES + halves, 0xF, 0xF, ones, 0xF, seen=halves, out=1)
+    also("Causes are those of the syndromes: a view word of another kind has none; a view word in the place of a syndrome is of a wrong kind.")
+    page_stepped(TORN_1, quiet, quiet, ALL_ONES + put(full_views, {1: bus(0xF)}), 0xF, 0xF, ones, 0xF, seen=put(full_views, {1: None}))
+    page_stepped(TORN_1, quiet, page_words(0xF, 0xF, 0, 3, causes={2: KIND}), put(ALL_ONES, {1: view_word(0xF)}) + full_views, 0xF, 0xF,
+                 [0xF, None, 0xF, 0xF], 0xD)
+    page_stepped(TORN_1, quiet, page_words(0xF, 0xF, 0, 3, causes={3: LOSS}), ALL_ONES + full_views, 0xB, 0xF, [0xF, 0xF, None, 0xF], 0xB,
+                 seen=put(full_views, {2: None}))
+    also("9 for a read of N words, an output without the words of the views, a page of 60 bytes; 10; 8 before 9.")
+    page_step_refused(TORN_1, ALL_ONES, 0xF, 140, quiet, 9, 0)
+    page_step_refused(TORN_1, ALL_ONES + full_views, 0x10, 108, quiet, 9, 0)
+    page_step_refused(TORN_1, ALL_ONES + full_views, 0x10, 140, raw(quiet)[:60], 9, 0)
+    page_step_refused(TORN_1, ALL_ONES + full_views, 0x10, 140, quiet, 10, 0)
+    page_step_refused(put(TORN_WORDS, {34: 2}), ALL_ONES, 0x10, 0, b"", 8, 34)
+
+
+print("# Calls and their answers after document 01 and E1, E4, E5, E6, E9, E10 and E11 of document 02, in the format of e11-calls.txt;")
+print("# a cause that is refused is written cause CTLBIT WORD N = refused NUMBER at INDEX, and the view word that a state hands out")
+print("# outgoingview STATE = NUMBER INDEX WORD.")
 print("# A number before a colon or a comma at the start of a comment is the answer's number.")
 print("# Vectors in the comments are as printed: module 1 stands leftmost.")
 setups_accepted()
@@ -2006,3 +2508,19 @@ steps_that_lower_r()
 steps_of_changes_and_returns()
 steps_of_changes_and_votes()
 pages_of_changes()
+partitionable_setups()
+partitionable_openings()
+partitionable_states()
+partitionable_states_of_wrong_length()
+partitionable_states_refused()
+partitionable_savings()
+partitionable_outgoing_views()
+partitionable_steps_refused()
+partitionable_steps_that_adopt()
+partitionable_steps_that_go_out()
+partitionable_steps_of_missing_words()
+partitionable_steps_of_the_local_view()
+partitionable_steps_with_u_1()
+partitionable_steps_of_other_n()
+partitionable_changes()
+partitionable_pages()

@@ -17,7 +17,7 @@ import subprocess
 import sys
 
 from setup_words import (ABOVE_1, ABOVE_MOST, BELOW_1, BELOW_MOST, INFINITE, LEAST, MINUS_INFINITE, MOST, NO_NUMBERS, bus, head, limit_p, limit_r,
-                         module, setup_words)
+                         module, setup_words, view_word)
 
 # ---- words ----
 
@@ -151,7 +151,8 @@ def heads():
     rest = SHEET[1:] + TAIL
     for n in (0, 1, 17, 31):
         refused("n-%d" % n, [head(n)] + rest, 2, 0, "N is 2 to 16")
-    for bit in (5, 6, 7):
+    played("bit-5", [head(4) | 1 << 5] + rest, "bit 5 chooses the partitionable variant", limit="in")
+    for bit in (6, 7):
         refused("spare-bit-%d" % bit, [head(4) | 1 << bit] + rest, 2, 0, "a head with a spare bit")
     for bit in range(8, 28):
         played("q-%d" % (1 << bit - 8), [head(4, 1 << bit - 8)] + rest, "bit %d is the only one of Q" % bit, limit="in")
@@ -742,7 +743,8 @@ def back_in():
 
 def return_limits():
     rest = SHEET[1:] + TAIL
-    for bit in (5, 6, 7):
+    played("q-and-bit-5", [head(4, 3) | 1 << 5] + rest, "a head with Q = 3 and bit 5", limit="in")
+    for bit in (6, 7):
         refused("q-and-spare-bit-%d" % bit, [head(4, 3) | 1 << bit] + rest, 2, 0, "a head with Q = 3 and a spare bit")
     for q in (1000001, 31 << 15, 0xFFFFF):
         refused("q-%d" % q, [head(4, q)] + rest, 2, 0, "Q is 0 to 1,000,000")
@@ -901,6 +903,155 @@ def fading_runs():
             "2 has left; in round 5 2 and 3 miss 1: out. In round 6 rows 3 and 4 vote 0 and 1 on 1: 1; row 3 is accused, row 2 is not")
 
 
+# ---- stands with a torn cable (document 02, E11) ----
+
+TORN = setup_words(4, partitionable=1)
+FULL = view_word(ALL)
+
+
+def told(sender, receivers, word, view):
+    """A lie with the two words that it tells."""
+    return [lie(sender, receivers), word, view]
+
+
+def torn(n, *part):
+    """Neither the modules of this part nor the others hear the other side."""
+    others = lacks(n, *part)
+    return [loss(j, others if j in part else of(*part)) for j in range(1, n + 1)]
+
+
+def partitionable_words():
+    rest = SHEET[1:] + TAIL
+    for bit in (6, 7):
+        refused("bits-5-and-%d" % bit, [head(4, 0, 1) | 1 << bit] + rest, 2, 0, "bit 5 with a spare bit")
+    for n in (1, 17):
+        refused("bit-5-n-%d" % n, [head(n, 0, 1)] + rest, 2, 0, "N is 2 to 16")
+    refused("bit-5-q-1000001", [head(4, 1000001, 1)] + rest, 2, 0, "Q is 0 to 1,000,000")
+    refused("bit-5-6-words", TORN[:6], 3, 0, "a setup has N+3 words with bit 5 too")
+    for n in (2, 16):
+        played("bit-5-n%d" % n, setup_words(n, partitionable=1) + TAIL, "the least and the greatest N", limit="in")
+    played("bit-5-q-1000000", [head(4, 1000000, 1)] + rest, "Q at its end", limit="in")
+
+    start = TORN + [cast(2)]
+    refused("told-view-missing", start + [play(1), lie(2, ALL), bus(ALL)], 14, 11, "the script ends with a told word")
+    refused("both-told-missing", start + [play(1), lie(2, ALL)], 14, 10, "the script ends with a lie")
+    refused("told-view-missing-no-play", start + [lie(2, ALL), bus(ALL)], 14, 10, "the script ends with a told word, and has no play")
+    refused("play-is-the-told-view", start + [lie(2, ALL), bus(ALL), play(1)], 14, 11, "the one play is a told view")
+    refused("last-play-is-the-told-view", start + [play(1), lie(2, ALL), bus(ALL), play(1)], 14, 12, "the last play is a told view")
+    refused("told-plays-both", start + [lie(2, ALL), play(1), play(1)], 14, 11, "told word and told view look like plays")
+    refused("told-view-never-played", start + [play(1)] + told(2, ALL, bus(ALL), FULL), 14, 12, "a lie that is never played")
+    refused("told-lies-both", start + [play(1), lie(2, ALL), lie(2, ALL), lie(2, ALL)], 14, 12, "the second and the third lie are told words")
+    refused("view-outside-the-cast", TORN + [cast(), play(1), lie(2, ALL), bus(ALL)], 13, 9, "13 before 14: no told view")
+    refused("after-told-views", start + [lie(2, ALL), lie(3, ALL), lie(3, ALL), lie(3, ALL), 0, 0, play(1)], 13, 11,
+            "two lies by 3 are told words, the third is not")
+    refused("after-told-views", start + [lie(2, ALL), play(0), play(0), play(0)], 12, 11, "two plays of 0 are told words, the third is not")
+    refused("two-told-views", start + told(2, ALL, bus(ALL), FULL) + [FULL, play(1)], 12, 11, "a third word behind a lie is no told word")
+    refused("told-view-without-bit-5", SHEET + [cast(2)] + told(2, ALL, bus(ALL), FULL) + [play(1)], 12, 10,
+            "without bit 5 a told word has no view behind it")
+    refused("view-no-receiver", start + told(2, 0, bus(ALL), FULL) + [play(1)], 12, 8, "an empty mask")
+    thousands = [play(1000)] * 100
+    refused("told-view-plays", setup_words(2, partitionable=1) + [cast(1), lie(1, 3), play(1000), play(1000)] + thousands + [play(1)], 15, 109,
+            "told words that look like plays count no rounds, the last play passes")
+
+
+def partitionable_runs():
+    """2 is unheard in rounds 1 and 2, judged in 2 and 3, and leaves all local views in 3; those are sent in 4."""
+    late_view = [GOOD, "1011 1111 in", "1011 1111 in", "1111 1011 in", "1111 1011 in"]
+    by_hand("adopted-quiet", TORN + [cast(), play(3)], [GOOD] * 3, "nothing happens")
+    by_hand("adopted-a-round-later", TORN + [cast()] + lost_by(4, 2, 1, 1) + [play(3)], late_view, "out of all local views in 3, adopted in 4")
+    by_hand("adopted-return", setup_words(4, q=1, partitionable=1) + [cast()] + lost_by(4, 2, 1, 1) + [play(4)],
+            late_view[:4] + [GOOD] * 2, "Q = 1: back in all local views in 4, adopted in 5")
+    by_hand("adopted-fading", setup_words(4, fading=(0.5, 2.0), partitionable=1) + [cast()] + lost_by(4, 2, 1, 1) + [play(3)], late_view,
+            "1.0, then 2.0: out in 3, adopted in 4")
+    marked = [GOOD] * 3 + ["1011 1111 in", "1011 1111 in", GOOD, "1111 1011 in", "1111 1011 in"]
+    by_hand("adopted-u1-marks", setup_words(4, l=[0, 0, 1, 2], marks=[2, 3, 4], partitionable=1) + [cast()] + lost_by(4, 2, 1, 1) + [play(6)],
+            marked, "u = 1: out of all local views in 5, on the bus in 6, adopted in 7")
+    by_hand("adopted-u1-no-marks", late(4, partitionable=1) + [cast()] + lost_by(4, 2, 1, 1) + [play(6)], marked, "all l = 0, no marks")
+    by_hand("adopted-u1-one-early", setup_words(4, l=[4, 4, 4, 3], partitionable=1) + [cast()] + lost_by(4, 2, 1, 1) + [play(6)], marked,
+            "one l of four below N")
+
+
+def told_view_runs():
+    """2 and 3 break the rules: they tell the honest syndrome and a view. 4 is unheard in rounds 2 and 3 and leaves all local views in 4; who is not
+    out adopts that in 5."""
+    f = bus(ALL)
+
+    def then_4_leaves(each):
+        return TORN + [cast(2, 3)] + each + [play(1)] + lost_by(4, 4, 1, 1) + [play(2)]
+
+    begin = ["1111 1111 out", "1111 1111 out", "1110 1111 out", "1110 1111 out"]
+    adopt, away = begin + ["1111 1110 out"], begin + ["1111 1111 out"]
+    by_hand("told-views-honest", then_4_leaves(told(2, ALL, f, FULL) + told(3, ALL, f, FULL)), adopt, "as if nothing happened")
+    by_hand("told-view-of-one-missing", then_4_leaves(told(2, ALL, f, 0)), adopt, "three of four are there and alike")
+    looks = [("play", play(5)), ("play-0", play(0)), ("cast", cast(1)), ("loss", loss(1, 15)), ("lie", lie(2, 15)), ("head", head(4)),
+             ("zero", 0), ("ones", 0xFFFFFFFF), ("bus", f), ("kind-0", ALL), ("kind-9", 0x9000000F), ("row", 0xB140000F), ("syndrome", 0xC000000F),
+             ("own-number", 0xA002000F), ("bit-at-n", view_word(0x1F)), ("bit-15", view_word(0x800F)), ("bit-16", view_word(0x1000F)),
+             ("bit-27", view_word(0x800000F)), ("other-view", view_word(0x7))]
+    for name, word in looks:
+        by_hand("told-view-" + name, then_4_leaves(told(2, ALL, f, word) + told(3, ALL, f, word)), away,
+                "told %08X: not two of four more, so all are out, and show the same view from then on" % word)
+    by_hand("told-view-to-some", then_4_leaves(told(2, of(1, 4), f, 0) + told(3, of(1, 4), f, 0)),
+            begin + [["1111 1111 out", "1111 1110 out", "1111 1110 out", "1111 1111 out"]], "1 and 4 miss two view words, and are out; 2 and 3 are not")
+    by_hand("told-word-wrong-view-right", TORN + [cast(2)] + told(2, ALL, 0, FULL) + [play(3)], [GOOD, "1011 1111 in", GOOD],
+            "the syndrome is missing, the view word is not")
+    three = TORN + [cast(1, 2, 3)]
+    of_three = [told(j, ALL, f, view_word(lacks(4, 3))) for j in (1, 2, 3)]
+    by_hand("told-views-adopted", three + sum(of_three, []) + [play(2)], ["1111 1101 out", "1111 1111 out"],
+            "three of four tell 1101; in round 2 all send their local views, which are full")
+    by_hand("told-views-by-module", three + told(1, ALL, f, view_word(0x6)) + told(2, ALL, f, view_word(0x5)) + told(3, ALL, f, view_word(0x3)) + [play(1)],
+            ["1111 1110 out"], "0110, 1010, 1100 and 1111: three of four carry 1 for 1, 2 and 3 each, and 0 for 4")
+    by_hand("told-views-replaced", three + sum(of_three, []) + sum((told(j, ALL, f, view_word(lacks(4, 1))) for j in (1, 2, 3)), []) + [play(2)],
+            ["1111 0111 out", "1111 1111 out"], "later lies replace the told views too")
+    by_hand("told-views-replaced-at-some", three + sum(of_three, []) + sum((told(j, of(4), f, FULL) for j in (1, 2, 3)), []) + [play(1)],
+            [["1111 1101 out"] * 3 + ["1111 1111 out"]], "later lies to 4 alone")
+    by_hand("told-views-lost", three + sum(of_three, []) + [loss(j, ALL) for j in (1, 2, 3)] + [play(2)], ["1111 1111 out", "0001 1111 out"],
+            "losses replace both told words: 4 alone is heard, so all are out")
+    by_hand("lost-then-told-views", three + [loss(j, ALL) for j in (1, 2, 3)] + sum(of_three, []) + [play(1)], ["1111 1101 out"],
+            "lies replace losses")
+
+
+def torn_runs():
+    halves = ["1100 1111 out"] * 2 + ["0011 1111 out"] * 2
+    by_hand("torn-2-2", TORN + [cast()] + by_round(*[torn(4, 1, 2)] * 3) + [play(3)], ["1111 1111 out"] + [halves] * 3 + ["1111 1111 out"] * 2,
+            "two of four on each side: all are out in round 1 and show a full view for good, though each side strikes the other off in 3")
+    begin, apart = "11111 11111 out", "00011 11111 out"
+    by_hand("torn-3-2", setup_words(5, partitionable=1) + [cast()] + by_round(*[torn(5, 4, 5)] * 4) + [play(2)],
+            [begin] + [["11100 11111 out"] * 3 + [apart] * 2] * 2 + [["11100 11100 out"] * 3 + [apart] * 2] * 2
+            + [["11111 11100 out"] * 3 + [begin] * 2],
+            "three of five adopt their own view in 4; 4 and 5 are out in round 1. Whole again in 5: both sides keep what they show")
+    by_hand("torn-3-1-u1", late(4, partitionable=1) + [cast()] + by_round(*[torn(4, 4)] * 8),
+            ["1111 1111 out"] * 3 + [["1110 1111 out"] * 3 + ["0001 1111 out"]] * 3 + [["1110 1110 out"] * 3 + ["0001 1111 out"]] * 2,
+            "u = 1: 4 is struck off in 5, sent in 6, adopted in 7; 4 reads itself alone in 2 and is out")
+    stays = [["11111 01111 out"] * 3 + [begin] * 2] * 2
+    by_hand("torn-for-one-round", setup_words(5, p=3, crit=[4, 1, 1, 1, 1], partitionable=1)
+            + [cast(), *torn(5, 4, 5), play(1), play(3), loss(1, full(5)), play(4)],
+            [begin] + ["11100 11111 out"] * 2 + [begin] * 2 + ["01111 11111 out"] + stays,
+            "4 and 5 are out in round 1 and stay so: in 7 the others adopt that 1 has left, 4 and 5 hear the same words and do not")
+    honest = bus(full(3))
+    both = [[loss(1, of(2)), loss(2, of(1))]] * 4
+    words = [(honest, honest, full(3), full(3))] + [(bus(0x5), bus(0x6), full(3), full(3))] * 2 + [(bus(0x5), bus(0x6), 0x5, 0x6)]
+    faces = [told(3, of(1), one, view_word(v1)) + told(3, of(2), two, view_word(v2)) for one, two, v1, v2 in words]
+    by_hand("two-faced", setup_words(3, partitionable=1) + [cast(3)] + by_round(*[lost + lies for lost, lies in zip(both, faces)]),
+            ["111 111 out", ["101 111 out", "011 111 out", "111 111 out"], ["101 111 out", "011 111 out", "001 111 out"],
+             ["101 101 out", "011 011 out", "111 111 out"]],
+            "1 and 2 do not hear each other; 3 tells each what it sends itself, also its view: in 4 they adopt different views")
+    one_faced = [told(3, of(1), one, view_word(full(3))) + told(3, of(2), two, view_word(full(3))) for one, two, _, _ in words]
+    by_hand("one-faced", setup_words(3, partitionable=1) + [cast(3)] + by_round(*[lost + lies for lost, lies in zip(both, one_faced)]),
+            ["111 111 out", ["101 111 out", "011 111 out", "111 111 out"], ["101 111 out", "011 111 out", "001 111 out"],
+             ["101 111 out", "011 111 out", "111 111 out"]],
+            "the same, but 3 tells both the same view: in 4 neither adopts")
+
+
+def torn_runs_of_every_n():
+    """Torn in rounds 3 to 8 into halves, or nearly; whole before and after."""
+    for n in range(2, 17):
+        for u, setup in (("u0", setup_words(n, q=2, partitionable=1)),
+                         ("u1", setup_words(n, q=2, l=list(range(n)), marks=range(2, n + 1), partitionable=1))):
+            for size in sorted({n // 2, n - n // 2}):
+                played("torn-n%d-%s-%d" % (n, u, size), setup + [cast(), play(2)] + by_round(*[torn(n, *range(1, size + 1))] * 6) + [play(6)],
+                       "%d of %d on one side, Q = 2" % (size, n), limit=" ".join(["in"] * 2 + ["out"] * 12))
+
+
 def write(player):
     folder = os.path.join(os.path.dirname(os.path.abspath(__file__)), "own-scripts")
     names = ["%03d-%s" % (at + 1, each[0]) for at, each in enumerate(CASES)]
@@ -947,7 +1098,8 @@ def main():
     for part in (lengths, heads, short, limits, modules, marks, casts, kinds, senders_and_masks, plays, outside_the_cast, missing,
                  many_rounds, two_numbers, quiet_runs, event_runs, told_runs, counter_runs, differing_runs, late_runs, limit_edges,
                  limit_over_two_rounds, limit_of_unheard_breakers, limit_by_receivers, limit_of_told_words, replaced_runs, every_n,
-                 marked_runs, leaving_runs, back_in, return_limits, returning_runs, fading_limits, fading_lengths, fading_runs):
+                 marked_runs, leaving_runs, back_in, return_limits, returning_runs, fading_limits, fading_lengths, fading_runs,
+                 partitionable_words, partitionable_runs, told_view_runs, torn_runs, torn_runs_of_every_n):
         part()
     write(sys.argv[1])
 

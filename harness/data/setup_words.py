@@ -3,8 +3,8 @@
 import struct
 
 
-def head(n, q=0):
-    return 1 << 28 | q << 8 | n
+def head(n, q=0, partitionable=0):
+    return 1 << 28 | q << 8 | partitionable << 5 | n
 
 
 def limit_p(value):
@@ -37,12 +37,17 @@ def bus(syndrome):
     return 5 << 28 | syndrome
 
 
-def setup_words(n, p=1, r=3, q=0, l=None, crit=None, marks=(), fading=None):
-    """l and crit: one a module; the default is l = N and criticality 1. fading: factor and limit in the place of P and R."""
+def view_word(view):
+    return 10 << 28 | view
+
+
+def setup_words(n, p=1, r=3, q=0, l=None, crit=None, marks=(), fading=None, partitionable=0):
+    """l and crit: one a module; the default is l = N and criticality 1. fading: factor and limit in the place of P and R.
+    partitionable: head bit 5."""
     l = l or [n] * n
     crit = crit or [1] * n
     modules = [module(j, l[j - 1], crit[j - 1], int(j in marks)) for j in range(1, n + 1)]
-    return [head(n, q)] + limits(p, r, fading) + modules
+    return [head(n, q, partitionable)] + limits(p, r, fading) + modules
 
 
 # Doubles with a name: the least above 0, the least normal one, those next to 1.0 and to the highest limit, the greatest; then what is no number

@@ -1,6 +1,6 @@
 #!/usr/bin/env python3
 """Measures the calls of the library, the step against plain.c, with counts and
-with fading.
+with fading, each without and with views (head bit 5 of the setup).
 
   harness/measure/measure.py --lib FOLDER [--libs "-lpthread ..."] [--n 4,16]
 
@@ -12,7 +12,8 @@ that it calls, "total" the whole program (the driver's loop included); "page"
 is presence_page_step.  All get the same inputs (rounds.h); their checksums
 over final image and health vectors must be equal, or the exit status is 1.
 With counts also of a step while a change of the limits is pending, and of one
-that applies it.
+that applies it.  With views quiet and loud rounds are gone through, and those in which all view
+words differ.
 
 Stack: of every call that the archive exports, and of the step of plain.c, each
 at its deepest over u and all kinds of rounds, accepted and refused
@@ -21,14 +22,14 @@ for it, and no other.
 
 Code size: of plain.o and of each object of the archive, as size gives it.
 
-The tables of include/presence.h, one for each form: for each N the most
-instructions of a step, without and with a page, over u and all kinds of
-rounds.  Exit status 1 if the header has another table.
+The tables of include/presence.h, one for each form without views: for each N
+the most instructions of a step, without and with a page, over u and all kinds
+of rounds.  Exit status 1 if the header has another table.
 
 With --goals only the goals of speed are tried, for the gate: of plain C's
 instructions a step takes at most what GOALS says, for each u and in every kind
-of round, and with counts the same number in every kind.  Exit status 1 if one
-is not met.
+of round, and in the forms of ALIKE the same number in every kind.  Exit status
+1 if one is not met.
 
 With --steps only the tables of include/presence.h are tried.
 """
@@ -47,8 +48,11 @@ GCC = ["gcc", "-std=c99", "-O2", ROUNDED, "-Wall", "-Wextra", "-Werror", "-Wl,--
        "-I" + ROOT + "/include", "-I" + ROOT + "/harness/c", "-I" + HERE]
 STACK = ["stack/stack.c", "stack/given.c", "stack/calls.c", "stack/painted.c"]
 ADDRESS_BYTES = 8  # of a return address
-FORMS = ["counts", "fading"]  # of a setup
-KINDS = ["quiet", "loud", "late", "away", "back"]
+KINDS = ["quiet", "loud", "late", "away", "back"]  # of rounds
+TORN = ["quiet", "loud", "split"]  # of rounds with views
+FORMS = {"counts": KINDS, "fading": KINDS, "counts+views": TORN, "fading+views": TORN}  # of a setup, and the rounds gone through
+CHANGED = ["counts", "counts+views"]  # the forms that a change is for
+TABLES = ["counts", "fading"]  # the forms that the header has a table for
 FEW, MANY = 64, 320  # rounds, multiples of PERIOD in rounds.h
 
 
@@ -123,18 +127,18 @@ def print_all_instructions(plain, presence, page, form, sizes):
     equal = True
     for n in sizes:
         for u in (0, 1):
-            for kind in KINDS:
+            for kind in FORMS[form]:
                 equal = print_instructions(plain, presence, page, form, n, u, kind) and equal
     print()
     return equal
 
 
-def print_change(plain, presence, page, n, u, kind):
+def print_change(plain, presence, page, form, n, u, kind):
     """One line of the table of changes.  Answers whether all printed the same."""
     cells, equal = [], True
     for change in ("waits", "applied"):
         (_, plain_step, plain_says), (_, step, says), (_, page_step, page_says) = (
-            one.per_step("counts", n, u, kind, (change,)) for one in (plain, presence, page))
+            one.per_step(form, n, u, kind, (change,)) for one in (plain, presence, page))
         cells += [plain_step, step, step / plain_step, page_step]
         equal = equal and plain_says == says == page_says
     print("%2d %d %-6s | %9.1f %9.1f %5.2f %9.1f | %9.1f %9.1f %5.2f %9.1f%s"
@@ -142,15 +146,15 @@ def print_change(plain, presence, page, n, u, kind):
     return equal
 
 
-def print_all_changes(plain, presence, page, sizes):
+def print_all_changes(plain, presence, page, form, sizes):
     """Answers whether the results were equal everywhere."""
-    print("Instructions a step of counts with a change (left while it is pending, right where the step applies it; ratios are presence / plain)")
+    print("Instructions a step of %s with a change (left while it is pending, right where the step applies it; ratios are presence / plain)" % form)
     print(" N u rounds |     plain  presence ratio      page |     plain  presence ratio      page")
     equal = True
     for n in sizes:
         for u in (0, 1):
-            for kind in KINDS:
-                equal = print_change(plain, presence, page, n, u, kind) and equal
+            for kind in FORMS[form]:
+                equal = print_change(plain, presence, page, form, n, u, kind) and equal
     print()
     return equal
 
@@ -169,7 +173,7 @@ def deepest(program, form, n, empty):
     """By call: bytes accepted and refused, the largest over u and the kinds of rounds."""
     largest = {name: (0, 0) for name in empty}
     for u in (0, 1):
-        for kind in KINDS:
+        for kind in FORMS[form]:
             for name, (accepted, refused, named, answered) in depths(program, form, n, u, kind).items():
                 if named != answered:
                     sys.exit("%s: answered numbers %X, the header names %X" % (name, answered, named))
@@ -220,7 +224,7 @@ def print_code_sizes(both, archive):
         own = OBJECTS[one.name]
         linked = sum(text_bytes(one.compile(["use.c"], one.link)).values())
         rest = sum(text_bytes(one.compile(["use.c", "none.c"], [])).values())
-        print("  %-8s %7d in %s, %d of it linked when setup check, opening, step, saving, change and outgoing word are used"
+        print("  %-8s %7d in %s, %d of it linked when setup check, opening, step, saving, change and outgoing words are used"
               % (one.name, text_bytes(one.link[0])[own], own, linked - rest))
     objects = ["%s %d" % (name, size) for name, size in sorted(text_bytes(archive).items())]
     print("  %s: %s" % (os.path.basename(archive), ", ".join(objects)))
@@ -229,12 +233,12 @@ def print_code_sizes(both, archive):
 # ---- the header's tables ----
 
 HEADER = os.path.join(ROOT, "include", "presence.h")
-ROWS = 5  # of a table, of which the header has one for each form; its columns go through N = 2 to 16
+ROWS = 5  # of a table, of which the header has one for each form of TABLES; its columns go through N = 2 to 16
 
 
 def most(one, form, n):
     """Instructions of a step, the most over u and the kinds of rounds."""
-    return math.ceil(max(one.per_step(form, n, u, kind)[1] for u in (0, 1) for kind in KINDS))
+    return math.ceil(max(one.per_step(form, n, u, kind)[1] for u in (0, 1) for kind in FORMS[form]))
 
 
 def step_table(presence, page, form):
@@ -255,15 +259,17 @@ def steps_as_said(presence, page, form):
 
 # ---- goals ----
 
-# by form and N the most that a step may take of plain C's instructions: what was reached, rounded up
+# by form and N the most that a step may take of plain C's instructions: what was reached, rounded up; a form that is not here has no goal
 GOALS = {"counts": {2: 1.0, 4: 0.68, 8: 0.45, 16: 0.33},
-         "fading": {2: 1.11, 4: 0.87, 8: 0.63, 16: 0.49}}
+         "fading": {2: 1.11, 4: 0.87, 8: 0.63, 16: 0.49},
+         "counts+views": {4: 0.77, 16: 0.32},
+         "fading+views": {4: 0.92, 16: 0.41}}
 ALIKE = {"counts"}  # the forms of which the same number of instructions in every kind of round is asked
 
 
 def goal_met(plain, presence, form, n, u, most):
-    steps = {kind: presence.per_step(form, n, u, kind)[1] for kind in KINDS}
-    ratio = max(steps[kind] / plain.per_step(form, n, u, kind)[1] for kind in KINDS)
+    steps = {kind: presence.per_step(form, n, u, kind)[1] for kind in FORMS[form]}
+    ratio = max(steps[kind] / plain.per_step(form, n, u, kind)[1] for kind in FORMS[form])
     alike = len(set(steps.values())) == 1
     print("step of %d modules with %s, u = %d: %.3f of plain C's instructions at most, the goal is %.2f; %s"
           % (n, form, u, ratio, most,
@@ -273,7 +279,7 @@ def goal_met(plain, presence, form, n, u, most):
 
 def goals_met(plain, presence):
     return all([goal_met(plain, presence, form, n, u, most)
-                for form in FORMS for n, most in GOALS[form].items() for u in (0, 1)])
+                for form, goals in GOALS.items() for n, most in goals.items() for u in (0, 1)])
 
 
 # ---- all ----
@@ -308,14 +314,14 @@ def main():
         return 0 if goals_met(plain, presence) else 1
     page = Implementation("page", "presence_page_step", ["-DPAGE"], link, options.build)
     if options.steps:
-        return 0 if all([steps_as_said(presence, page, form) for form in FORMS]) else 1
+        return 0 if all([steps_as_said(presence, page, form) for form in TABLES]) else 1
     equal = all([print_all_instructions(plain, presence, page, form, sizes) for form in FORMS])
-    equal = print_all_changes(plain, presence, page, sizes) and equal
+    equal = all([print_all_changes(plain, presence, page, form, sizes) for form in CHANGED]) and equal
     for form in FORMS:
         print_all_stacks(plain, presence, form, sizes)
     print_code_sizes((plain, presence), archive)
     print()
-    same = all([steps_as_said(presence, page, form) for form in FORMS])
+    same = all([steps_as_said(presence, page, form) for form in TABLES])
     print("\nresults %s" % ("equal" if equal else "DIFFERENT"))
     return 0 if equal and same else 1
 

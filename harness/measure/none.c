@@ -47,3 +47,9 @@ presence_word OUTGOING(const uint8_t *state, size_t state_len)
     (void)state, (void)state_len;
     return w;
 }
+
+presence_word OUTGOING_VIEW(const uint8_t *state, size_t state_len)
+{
+    (void)state, (void)state_len;
+    return w;
+}

@@ -1,7 +1,7 @@
 /*
  * rounds.h - the inputs that are measured: a setup and a table of reads that
  * is gone through again and again.  Always the same for the same N, u, form of
- * the setup and kind of rounds; the reads are the same with both forms.
+ * the setup and kind of rounds; the syndromes are the same with all forms.
  *
  *   quiet   all heard, all rows ones
  *   loud    nearly every row differs from the health vector; a quarter of the
@@ -15,10 +15,18 @@
  *   back    all heard; in every fourth round the rows lack all modules but 1,
  *           which then leave the view, count, and return in the round before
  *           the next of them, Q = 3
+ *   split   all heard, all rows ones; with views each view word lacks its own
+ *           sender, so that no two are the same
  *
- * P = 1,000,000 and criticality 1 in the first three: no module leaves the
- * view.  P = 1 in the others.  With fading the limit is 1,000,000 and 1, the
+ * P = 1 where modules are away or come back, else 1,000,000 with criticality 1:
+ * no module leaves the view.  With fading the limit is 1,000,000 and 1, the
  * factor 0.9.
+ *
+ * With views (head bit 5) every view word carries the view that the rounds
+ * leave: full, empty where all are away, and where modules come back without
+ * them in every fourth round, or as split says.  In loud rounds a view word is lost or of a stray
+ * form where the syndrome is.  A module that took itself out is in again before
+ * each step, so that each votes on the views.
  *
  * With counts a change may wait in each step, or be applied in each: to another
  * P where it is 1,000,000, and to criticality 2, and back.  It puts nobody out.
@@ -36,18 +44,21 @@
 
 #define BAD_EVERY 4u /* back: how often rows lack the others */
 
-enum rounds_form { COUNTS, FADING };
-enum rounds_kind { QUIET, LOUD, LATE, AWAY, BACK };
+/* Room for any image. */
+#define IMAGE_BYTES \
+    (PRESENCE_MAX_PENDING_IMAGE_BYTES + PRESENCE_MAX_VIEWS_BYTES)
+
+enum rounds_kind { QUIET, LOUD, LATE, AWAY, BACK, SPLIT };
 
 struct rounds {
     uint32_t n, u, own, place;
-    enum rounds_form form;
+    int fading, views; /* the form; else counts, and no views */
     enum rounds_kind kind;
     uint8_t setup[PRESENCE_MAX_FADING_SETUP_BYTES];
-    size_t setup_len, image_len;
+    size_t setup_len, image_len, read_len;
     uint32_t word[PERIOD][PRESENCE_MAX_MODULES];
     uint32_t controller[PERIOD];
-    uint8_t read[PERIOD][PRESENCE_MAX_READ_BYTES];
+    uint8_t read[PERIOD][PRESENCE_MAX_PARTITIONABLE_READ_BYTES];
     uint32_t rows, present, different; /* over one period, after alignment */
 };
 
@@ -138,7 +149,7 @@ static uint32_t rounds_limits(struct rounds *r)
                  : r->kind == BACK ? BAD_EVERY - 1u : 0u;
     uint32_t limit = q == 0 ? 1000000u : 1u;
 
-    if (r->form == FADING) {
+    if (r->fading) {
         presence_fading_front(r->setup, r->n, q, 0.9, limit);
         return 6;
     }
@@ -158,10 +169,12 @@ static void rounds_setup(struct rounds *r)
                    0x40000000 | j << 23 |
                    (r->u == 1 && r->place < j ? 1u << 22 : 0) |
                    r->place << 17 | 1);
-    r->setup_len = r->form == FADING ? PRESENCE_FADING_SETUP_BYTES(r->n)
-                                     : PRESENCE_SETUP_BYTES(r->n);
-    r->image_len = r->form == FADING ? PRESENCE_FADING_IMAGE_BYTES(r->n)
-                                     : PRESENCE_IMAGE_BYTES(r->n);
+    if (r->views)
+        r->setup[3] |= PRESENCE_PARTITIONABLE;
+    r->setup_len = r->fading ? PRESENCE_FADING_SETUP_BYTES(r->n)
+                             : PRESENCE_SETUP_BYTES(r->n);
+    r->image_len = presence_opened_bytes(r->setup, r->n);
+    r->read_len = presence_read_bytes(r->setup, r->n);
 }
 
 /* Whether row j, as the step after its alignment has it, lacks all modules but
@@ -213,14 +226,33 @@ static void rounds_loudest(struct rounds *r)
     }
 }
 
+/* The view word of module j at place t of the table; where the bus word is of a
+   stray form, in the same way. */
+static uint32_t rounds_view_word(const struct rounds *r, uint32_t t, uint32_t j)
+{
+    uint32_t all = (1u << r->n) - 1;
+    uint32_t stray = (r->word[t][j] ^ 0x50000000) & ~all;
+
+    if (r->kind == AWAY)
+        return 0xA0000000;
+    if (r->kind == BACK && rounds_bad(r, t, j))
+        return 0xA0000001;
+    if (r->kind == SPLIT)
+        return 0xA0000000 | (all & ~(1u << j));
+    return (0xA0000000 | all) ^ stray;
+}
+
 /* The reads of the table, and how many rows are present and different. */
 static void rounds_reads(struct rounds *r)
 {
     uint32_t t, j, present, different;
 
     for (t = 0; t < PERIOD; t++) {
-        for (j = 0; j < r->n; j++)
+        for (j = 0; j < r->n; j++) {
             rounds_put(r->read[t], j, r->word[t][j]);
+            if (r->views)
+                rounds_put(r->read[t], r->n + j, rounds_view_word(r, t, j));
+        }
         rounds_count(r, t, &present, &different);
         r->rows += r->n;
         r->present += present;
@@ -228,13 +260,15 @@ static void rounds_reads(struct rounds *r)
     }
 }
 
-static void rounds_make(struct rounds *r, uint32_t n, uint32_t u,
-                        enum rounds_form form, enum rounds_kind kind)
+/* Form 0 is counts and 1 fading, 2 and 3 are the same with views. */
+static void rounds_make(struct rounds *r, uint32_t n, uint32_t u, int form,
+                        enum rounds_kind kind)
 {
     memset(r, 0, sizeof *r);
     r->n = n;
     r->u = u;
-    r->form = form;
+    r->fading = form % 2;
+    r->views = form / 2;
     r->kind = kind;
     r->own = n;
     r->place = u == 1 ? n / 2 : n;
@@ -254,16 +288,31 @@ static void rounds_begin(const struct rounds *r, uint8_t *image)
     if (r->kind != LATE && r->kind != AWAY)
         return;
     for (j = 1; j <= n; j++)
-        if (r->form == FADING)
+        if (r->fading)
             rounds_put(image, 2 * n + 7 + 2 * j, 0x3FF00000);
         else
             rounds_put(image, 2 * n + 5 + j, 0xD0000000 | j << 23 | penalty);
-    if (r->kind == AWAY)
+    if (r->kind == AWAY) {
         rounds_put(image + r->setup_len, 0, 0xA0000000 | r->own << 16);
+        if (r->views) /* the latest local view */
+            rounds_put(image + r->image_len - 16, 0, 0);
+    }
+}
+
+/* With views the module is not out, whatever the step before it said.  Answers
+   whether it was out. */
+static int rounds_in_again(const struct rounds *r, uint8_t *image)
+{
+    uint8_t *out = image + presence_image_bytes(image, r->n) - 1;
+    int was_out = r->views && *out != 0;
+
+    if (r->views)
+        *out = 0;
+    return was_out;
 }
 
 /* The image, of counts, with a pending change: in every other round back to the
-   limits of the setup. */
+   limits of the setup.  Views stay at its end. */
 static void rounds_change(const struct rounds *r, uint8_t *image, uint32_t k,
                           uint32_t left)
 {
@@ -271,6 +320,11 @@ static void rounds_change(const struct rounds *r, uint8_t *image, uint32_t k,
     const uint8_t *module;
 
     p |= (uint32_t)r->setup[6] << 8 | (uint32_t)r->setup[5] << 16;
+    if (r->views)
+        memmove(image + PRESENCE_PENDING_IMAGE_BYTES(r->n),
+                image + presence_image_bytes(image, r->n) -
+                    PRESENCE_VIEWS_BYTES(r->n),
+                PRESENCE_VIEWS_BYTES(r->n));
     rounds_put(image, at, left);
     rounds_put(image, at + 1, 0x20000000 | (k % 2 == 0 && p > 1 ? p - 1 : p));
     memcpy(image + 4 * (at + 2), r->setup + 8, 4);
@@ -295,16 +349,17 @@ static int rounds_named(const char *name, const char *const *names, int count)
 /* Arguments N, u, form, kind.  Returns 0 if they are wrong. */
 static int rounds_from(struct rounds *r, char **argument)
 {
-    static const char *const forms[] = {"counts", "fading"};
+    static const char *const forms[] = {"counts", "fading", "counts+views",
+                                        "fading+views"};
     static const char *const kinds[] = {"quiet", "loud", "late", "away",
-                                        "back"};
+                                        "back", "split"};
     uint32_t n = (uint32_t)atoi(argument[0]), u = (uint32_t)atoi(argument[1]);
-    int form = rounds_named(argument[2], forms, 2);
-    int kind = rounds_named(argument[3], kinds, 5);
+    int form = rounds_named(argument[2], forms, 4);
+    int kind = rounds_named(argument[3], kinds, 6);
 
     if (n < 2 || n > PRESENCE_MAX_MODULES || u > 1 || form < 0 || kind < 0)
         return 0;
-    rounds_make(r, n, u, (enum rounds_form)form, (enum rounds_kind)kind);
+    rounds_make(r, n, u, form, (enum rounds_kind)kind);
     return 1;
 }
 

@@ -3,7 +3,7 @@
 #include "which.h"
 
 static uint8_t in[PRESENCE_MAX_PENDING_IMAGE_BYTES];
-static uint8_t read[PRESENCE_MAX_READ_BYTES];
+static uint8_t read[PRESENCE_MAX_PARTITIONABLE_READ_BYTES];
 static uint8_t out[PRESENCE_MAX_PENDING_IMAGE_BYTES];
 
 int main(int argc, char **argv)
@@ -16,5 +16,5 @@ int main(int argc, char **argv)
                  STEP(in, len, read, len, 0, out, len).number +
                  SAVE(in, len, out, len).number +
                  CHANGE(in, len, in, len, 1, out, len).number +
-                 OUTGOING(in, len).number);
+                 OUTGOING(in, len).number + OUTGOING_VIEW(in, len).number);
 }

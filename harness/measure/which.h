@@ -13,6 +13,7 @@
 #define SAVE plain_save
 #define CHANGE plain_change
 #define OUTGOING plain_outgoing
+#define OUTGOING_VIEW plain_outgoing_view
 #elif defined PAGE
 #include "presence.h"
 static uint8_t page[PRESENCE_PAGE_BYTES];
@@ -26,6 +27,7 @@ static uint8_t page[PRESENCE_PAGE_BYTES];
 #define SAVE presence_save
 #define CHANGE presence_change
 #define OUTGOING presence_outgoing
+#define OUTGOING_VIEW presence_outgoing_view
 #endif
 
 #endif

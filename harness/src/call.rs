@@ -11,6 +11,7 @@ pub enum Call {
     Save { state: Vec<u8>, out_len: usize },
     Change { state: Vec<u8>, setup: Vec<u8>, lead: u32, out_len: usize },
     Outgoing { state: Vec<u8> },
+    OutgoingView { state: Vec<u8> },
     PageOpen { setup: Vec<u8>, own: u32, out_len: usize, page_len: usize },
     PageStep { state: Vec<u8>, read: Vec<u8>, controller: u32, out_len: usize, page: Vec<u8> },
     PageRead { page: Vec<u8>, offset: u32 },
@@ -19,7 +20,7 @@ pub enum Call {
     ReadCause { n: u32, controller: u32, word: u32 },
 }
 
-/// What a call answers: number, index, and health, the outgoing word, a word of the page, the interrupt or a cause.
+/// What a call answers: number, index, and health, an outgoing word, a word of the page, the interrupt or a cause.
 #[derive(Clone, Copy, PartialEq, Eq, Debug)]
 pub struct Reply {
     pub number: u32,
@@ -119,6 +120,7 @@ impl Call {
             Call::Save { state, .. } => on.save(state, out).into(),
             Call::Change { state, setup, lead, .. } => on.change(state, setup, *lead, out).into(),
             Call::Outgoing { state } => on.outgoing(state).into(),
+            Call::OutgoingView { state } => on.outgoing_view(state).into(),
             Call::PageOpen { setup, own, .. } => on.page_open(setup, *own, out, page_lent).into(),
             Call::PageStep { state, read, controller, .. } => {
                 on.page_step(state, read, *controller, out, page_lent).into()
@@ -143,6 +145,7 @@ impl Call {
                 format!("change {} {} {lead} {out_len}", to_hex(state), to_hex(setup))
             }
             Call::Outgoing { state } => format!("outgoing {}", to_hex(state)),
+            Call::OutgoingView { state } => format!("outgoingview {}", to_hex(state)),
             Call::PageOpen { setup, own, out_len, page_len } => {
                 format!("pageopen {} {own} {out_len} {page_len}", to_hex(setup))
             }

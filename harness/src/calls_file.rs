@@ -1,6 +1,6 @@
 //! The calls file: one call a line with the answer it must give. Besides the calls named at the
-//! top of that file, `outgoing STATE = NUMBER INDEX WORD` is understood, and a cause that is refused,
-//! `cause CTLBIT WORD N = refused NUMBER at INDEX`.
+//! top of that file, `outgoing STATE = NUMBER INDEX WORD` is understood, `outgoingview` with the same
+//! fields, and a cause that is refused, `cause CTLBIT WORD N = refused NUMBER at INDEX`.
 
 use crate::call::{Buffers, Call, Reply};
 use crate::hex::{from_hex, to_hex};
@@ -32,9 +32,9 @@ pub struct Case {
     pub page: Option<Vec<u8>>,
 }
 
-/// The cases of a line: none for comments and empty lines, else one, but two for reading a
-/// state. That is asked through saving (with an output of the image's length) and through the
-/// outgoing word, since both begin by reading the state.
+/// The cases of a line: none for comments and empty lines, else one, but three for reading a
+/// state. That is asked through saving (with an output of the image's length) and through the two
+/// outgoing words, since all three begin by reading the state.
 pub fn parse(text: &str) -> Result<Vec<Case>, String> {
     let text = text.trim();
     if text.is_empty() || text.starts_with('#') {
@@ -56,6 +56,10 @@ fn cases(call: &[&str], answer: &[&str]) -> Result<Vec<Case>, String> {
         (["state", state], [number, index]) => state_cases(state, number, index),
         (["outgoing", state], [number, index, word]) => {
             let call = Call::Outgoing { state: bytes(state)? };
+            Ok(vec![case(call, number, index, Some(word), "-")?])
+        }
+        (["outgoingview", state], [number, index, word]) => {
+            let call = Call::OutgoingView { state: bytes(state)? };
             Ok(vec![case(call, number, index, Some(word), "-")?])
         }
         (["open", setup, own, out_len], [number, index, health, output]) => {
@@ -153,7 +157,7 @@ fn with_page(mut case: Case, page_len: usize, page: &str) -> Result<Case, String
     Ok(case)
 }
 
-/// Reading a state, by saving and by the outgoing word. The line does not say the word of an
+/// Reading a state, by saving and by the outgoing words. The line does not say the words of an
 /// accepted state.
 fn state_cases(state: &str, number: &str, index: &str) -> Result<Vec<Case>, String> {
     let bytes = bytes(state)?;
@@ -161,8 +165,11 @@ fn state_cases(state: &str, number: &str, index: &str) -> Result<Vec<Case>, Stri
     let output = if accepted { state } else { "-" };
     let word = if accepted { None } else { Some("0") };
     let save = Call::Save { state: bytes.clone(), out_len: bytes.len() };
-    let outgoing = Call::Outgoing { state: bytes };
-    Ok(vec![case(save, number, index, Some("0"), output)?, case(outgoing, number, index, word, "-")?])
+    let mut cases = vec![case(save, number, index, Some("0"), output)?];
+    for call in [Call::Outgoing { state: bytes.clone() }, Call::OutgoingView { state: bytes }] {
+        cases.push(case(call, number, index, word, "-")?);
+    }
+    Ok(cases)
 }
 
 fn case(call: Call, number: &str, index: &str, value: Option<&str>, output: &str) -> Result<Case, String> {
@@ -215,8 +222,8 @@ pub fn answered(text: &str, on: &dyn Functions) -> Result<String, String> {
     let text = case.call.text();
     let line = match &case.call {
         Call::CheckSetup { .. } => format!("{text} = {number} {index}"),
-        Call::Save { state, .. } if cases.len() == 2 => format!("state {} = {number} {index}", to_hex(state)),
-        Call::Outgoing { .. } => format!("{text} = {number} {index} {value:08X}"),
+        Call::Save { state, .. } if cases.len() > 1 => format!("state {} = {number} {index}", to_hex(state)),
+        Call::Outgoing { .. } | Call::OutgoingView { .. } => format!("{text} = {number} {index} {value:08X}"),
         Call::PageOpen { .. } | Call::PageStep { .. } => {
             format!("{text} = {number} {index} {value:04X} {output} {page}")
         }

@@ -56,6 +56,7 @@ extern "C" {
         out_len: usize,
     ) -> PresenceAnswer;
     fn presence_outgoing(state: *const u8, state_len: usize) -> PresenceWord;
+    fn presence_outgoing_view(state: *const u8, state_len: usize) -> PresenceWord;
     fn presence_page_open(
         setup: *const u8,
         setup_len: usize,
@@ -124,6 +125,9 @@ impl Functions for Library {
     }
     fn outgoing(&self, state: &[u8]) -> WordAnswer {
         word_from_c(unsafe { presence_outgoing(state.as_ptr(), state.len()) })
+    }
+    fn outgoing_view(&self, state: &[u8]) -> WordAnswer {
+        word_from_c(unsafe { presence_outgoing_view(state.as_ptr(), state.len()) })
     }
     fn page_open(&self, setup: &[u8], own: u32, out: &mut [u8], page: &mut [u8]) -> Answer {
         from_c(unsafe {

@@ -1,5 +1,5 @@
 //! Document 01 as plain code: words, setups, states, the step and the calls from C; the register page, the causes, the return counts, the fading
-//! scores and the changes of limits of document 02.
+//! scores, the changes of limits and the adopted views of document 02.
 
 pub mod calls;
 pub mod change;
@@ -7,6 +7,7 @@ pub mod page;
 pub mod setup;
 pub mod state;
 pub mod step;
+pub mod views;
 pub mod words;
 
 /// A refusal: a number of the table of answers and a word index from 0.

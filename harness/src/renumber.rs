@@ -3,6 +3,7 @@
 use crate::model::change::Pending;
 use crate::model::setup::{Module, Setup};
 use crate::model::state::{Entry, State};
+use crate::model::views::Views;
 use crate::model::words::{full, has, only, MAX};
 use crate::random::Random;
 use crate::script::{Item, Script};
@@ -63,9 +64,15 @@ impl Renumbering {
         moved
     }
 
-    /// A read: the word of each sender, renumbered, at its new number.
-    pub fn read(&self, read: &[u32; MAX]) -> [u32; MAX] {
-        self.each(&read.map(|word| self.word(word)))
+    /// A read: the word of each sender, renumbered, at its new number. Of view words behind the syndromes the same.
+    pub fn read(&self, read: &[u32]) -> Vec<u32> {
+        let mut moved = read.to_vec();
+        for (words, moved) in read.chunks(self.n()).zip(moved.chunks_mut(self.n())) {
+            for j in 1..=self.n() {
+                moved[self.of(j) - 1] = self.word(words[j - 1]);
+            }
+        }
+        moved
     }
 
     /// Each module keeps its criticality. A read place of N stays N; what another becomes is not said by E8, here it stays too.
@@ -84,9 +91,12 @@ impl Renumbering {
             Item::Loss { sender, receivers } => {
                 Item::Loss { sender: self.of(sender), receivers: self.vector(receivers) }
             }
-            Item::Lie { sender, receivers, told } => {
-                Item::Lie { sender: self.of(sender), receivers: self.vector(receivers), told: self.word(told) }
-            }
+            Item::Lie { sender, receivers, told, told_view } => Item::Lie {
+                sender: self.of(sender),
+                receivers: self.vector(receivers),
+                told: self.word(told),
+                told_view: told_view.map(|word| self.word(word)),
+            },
             Item::Play { rounds } => Item::Play { rounds },
         }
     }
@@ -105,6 +115,17 @@ impl Renumbering {
             score: self.each(&state.score),
             returns: self.each(&state.returns),
             pending: state.pending.map(|pending| Pending { setup: self.setup(&pending.setup), ..pending }),
+            views: state.views.map(|views| self.views(&views)),
+        }
+    }
+
+    /// Views, and those in view words; who is out stays out.
+    fn views(&self, views: &Views) -> Views {
+        Views {
+            words: self.each(&views.words.map(|word| self.word(word))),
+            earlier: self.vector(views.earlier),
+            adopted: self.vector(views.adopted),
+            out: views.out,
         }
     }
 

@@ -6,6 +6,7 @@ use common::*;
 use harness::model::calls::{Answer, Functions, Model};
 use harness::model::state::{fresh, image_words};
 use harness::model::step::{heard_word, step};
+use harness::model::views::is_view_word;
 use harness::model::words::{bytes_of, Double};
 use harness::random::reads::read as random_read;
 use harness::random::setups::setup as random_setup;
@@ -93,10 +94,12 @@ fn number_1() {
 fn number_2() {
     assert_eq!(checked(&with(&SHEET, 0, 0x10000011)), answer(2, 0));
     assert_eq!(checked(&with(&SHEET, 0, 0x10000001)), answer(2, 0));
-    // Spare bits 5, 6 and 7. Above them Q: 1 and 1,000,000 are accepted, one more is not.
-    for spare in [5, 6, 7] {
+    // Spare bits 6 and 7; bit 5 is none (document 02, E11). Above them Q: 1 and 1,000,000 are accepted, one more is not.
+    for spare in [6, 7] {
         assert_eq!(checked(&with(&SHEET, 0, 0x10000004 | 1 << spare)), answer(2, 0));
+        assert_eq!(checked(&with(&SHEET, 0, 0x10000024 | 1 << spare)), answer(2, 0));
     }
+    assert_eq!(checked(&with(&SHEET, 0, 0x10000024)), answer(0, 0));
     assert_eq!(checked(&with(&SHEET, 0, 0x10000104)), answer(0, 0));
     assert_eq!(checked(&with(&SHEET, 0, 0x10000004 | 1_000_000 << 8)), answer(0, 0));
     assert_eq!(checked(&with(&SHEET, 0, 0x10000004 | 1_000_001 << 8)), answer(2, 0));
@@ -347,7 +350,7 @@ fn number_10() {
     assert_eq!(stepped(&image(), &full_read(4), 15, 108), Answer { number: 0, index: 0, health: 15 });
 }
 
-/// None known: the word handed out always passes its test, from any accepted state.
+/// None known: the words handed out always pass their tests, from any accepted state.
 #[test]
 fn number_11() {
     let mut random = Random::new(11);
@@ -357,6 +360,7 @@ fn number_11() {
         let (read, controller) = random_read(&mut random, &setup, &state);
         let outcome = step(&setup, &mut state, &read, controller).unwrap();
         assert!(heard_word(setup.n, outcome.word).is_some());
+        assert!(if setup.partitionable { is_view_word(setup.n, outcome.view_word) } else { outcome.view_word == 0 });
     }
 }
 

@@ -147,9 +147,9 @@ fn the_bench_takes_the_answer() {
     let mut backplane = Backplane::new(&setup(&SHEET), 0b1110);
     let mut events = NO_EVENTS;
     add_event(&mut events, 1, 0b0001, Event::Loss);
-    add_event(&mut events, 2, 0b0001, Event::Lie { told: 0x7000000F });
-    add_event(&mut events, 3, 0b0001, Event::Lie { told: 0x5000002F });
-    add_event(&mut events, 4, 0b0001, Event::Lie { told: 0x50000003 });
+    add_event(&mut events, 2, 0b0001, Event::Lie { told: 0x7000000F, told_view: 0 });
+    add_event(&mut events, 3, 0b0001, Event::Lie { told: 0x5000002F, told_view: 0 });
+    add_event(&mut events, 4, 0b0001, Event::Lie { told: 0x50000003, told_view: 0 });
     backplane.play_round(&events);
     assert_eq!(backplane.outcomes[0].causes[..4], [1, 2, 3, 0]);
     assert_eq!(backplane.outcomes[1].causes[..4], [0, 0, 0, 0]);
@@ -163,8 +163,8 @@ fn the_limit_does_not_ask_for_causes() {
     let mut backplane = Backplane::new(&setup(&SHEET), 0b1000);
     let mut events = NO_EVENTS;
     add_event(&mut events, 4, 0b0001, Event::Loss);
-    add_event(&mut events, 4, 0b0010, Event::Lie { told: 0x7000000F });
-    add_event(&mut events, 4, 0b0100, Event::Lie { told: 0x5000002F });
+    add_event(&mut events, 4, 0b0010, Event::Lie { told: 0x7000000F, told_view: 0 });
+    add_event(&mut events, 4, 0b0100, Event::Lie { told: 0x5000002F, told_view: 0 });
     backplane.play_round(&events);
     assert_eq!(backplane.hearings[0], Hearing { half_heard: 0, unheard: 0b1000 });
 }

@@ -449,7 +449,7 @@ fn a_change_is_accepted_exactly_by_its_checks() {
         let state = if random.chance(1, 4) { pending_state(&mut random, &setup) } else { state(&mut random, &setup) };
         let new = if random.chance(1, 3) { more_than_limits(&mut random, &setup) } else { new_limits(&mut random, &setup) };
         let lead = random.pick(&[0, 1, 2, 999, MOST_LEAD, MOST_LEAD + 1]);
-        let same = (new.n, new.return_limit) == (setup.n, setup.return_limit)
+        let same = (new.n, new.return_limit, new.partitionable) == (setup.n, setup.return_limit, setup.partitionable)
             && (1..=setup.n).all(|j| (new.module(j).place, new.module(j).send_mark) == (setup.module(j).place, setup.module(j).send_mark));
         let counts = setup.form() == Form::Counts && new.form() == Form::Counts;
         let answer = accept(&setup, &state, &bytes_of(&new.words()), lead);

@@ -216,6 +216,29 @@ fn random_steps_fade() {
     assert!(all.into_iter().min().unwrap() > 50, "{single:?}");
 }
 
+/// What lives as `differential` makes them reach of adopted views (document 02, E11).
+#[test]
+fn random_lives_adopt() {
+    let mut random = Random::new(9);
+    let (mut another, mut not_local, mut gone_out, mut out, mut late) = (0, 0, 0, 0, 0);
+    for _ in 0..1_000 {
+        let setup = Setup { partitionable: true, ..lively_setup(&mut random) };
+        let mut held = fresh(&setup, random.between(1, setup.n as u32) as usize);
+        for at in 0..30 {
+            let before = held.views.unwrap();
+            let (words, controller) = read(&mut random, &setup, &held);
+            step(&setup, &mut held, &words, controller).unwrap();
+            let after = held.views.unwrap();
+            another += u32::from(!after.out && after.adopted != before.adopted);
+            not_local += u32::from(!after.out && after.adopted != held.view);
+            gone_out += u32::from(after.out && !before.out);
+            out += u32::from(before.out);
+            late += u32::from(at >= 5 && !after.out);
+        }
+    }
+    assert!([another, not_local, gone_out, out, late].into_iter().min().unwrap() > 500, "{another} {not_local} {gone_out} {out} {late}");
+}
+
 /// Setups and states of fading, damaged: each number with each of its places comes, and bytes that are still accepted.
 #[test]
 fn damaged_fading_bytes_reach_every_place() {
@@ -258,7 +281,7 @@ fn damaged_fading_bytes_reach_every_place() {
 fn place(bytes: &[u8], at: usize) -> &'static str {
     let words = words_of(bytes).unwrap();
     let n = (words[0] & 31) as usize;
-    let first = Form::of(&words).setup_length(n) + n + 3;
+    let first = Form::of(&words).first_module() + 2 * n + 3;
     match at {
         _ if at < first => "before scores",
         _ if at < first + 2 * n => "a score",

@@ -6,7 +6,7 @@ use common::{by_model, loss, play, run_both, script as script_of, setup, NO_CAST
 use harness::model::setup::Form;
 use harness::model::state::{fresh, Entry, State};
 use harness::model::step::{step, Outcome};
-use harness::model::words::{bytes_of, MAX};
+use harness::model::words::bytes_of;
 use harness::random::changes::pending_state;
 use harness::random::reads::read;
 use harness::random::scripts::{careful_script, returning_script, script, script_with_u_0};
@@ -112,15 +112,13 @@ fn a_pending_change_is_renumbered() {
         applied += u32::from(pending.left == 1);
         let renumbering = Renumbering::random(&mut random, setup.n);
         let (words, controller) = read(&mut random, &setup, &state);
-        let mut whole_read = [0; MAX];
-        whole_read[..setup.n].copy_from_slice(&words);
 
         let (moved_setup, mut moved) = (renumbering.setup(&setup), renumbering.state(&state));
         let mut unmoved_change = State { pending: state.pending, ..moved };
-        let (moved_words, moved_controller) = (renumbering.read(&whole_read), renumbering.vector(controller));
+        let (moved_words, moved_controller) = (renumbering.read(&words), renumbering.vector(controller));
         step(&setup, &mut state, &words, controller).unwrap();
-        step(&moved_setup, &mut moved, &moved_words[..setup.n], moved_controller).unwrap();
-        step(&moved_setup, &mut unmoved_change, &moved_words[..setup.n], moved_controller).unwrap();
+        step(&moved_setup, &mut moved, &moved_words, moved_controller).unwrap();
+        step(&moved_setup, &mut unmoved_change, &moved_words, moved_controller).unwrap();
         assert_eq!(renumbering.state(&state), moved);
         seen += u32::from(unmoved_change.pending.is_none() && unmoved_change != moved);
     }
@@ -131,7 +129,7 @@ fn a_pending_change_is_renumbered() {
 #[test]
 fn no_part_can_be_left_out() {
     type Slip = fn(&Script, &mut Script);
-    let slips: [(&str, Slip); 6] = [
+    let slips: [(&str, Slip); 7] = [
         ("criticalities", |script, moved| moved.setup.modules = script.setup.modules),
         ("cast", |script, moved| moved.cast = script.cast),
         ("senders of losses", |script, moved| {
@@ -162,12 +160,19 @@ fn no_part_can_be_left_out() {
                 }
             }
         }),
+        ("told views", |script, moved| {
+            for (item, moved) in script.items.iter().zip(&mut moved.items) {
+                if let (Item::Lie { told_view: old, .. }, Item::Lie { told_view, .. }) = (item, moved) {
+                    *told_view = *old;
+                }
+            }
+        }),
     ];
     let lines = |script: &Script| by_model(&bytes_of(&words(script)));
     for (name, slip) in slips {
         let mut random = Random::new(9);
         let mut found = 0;
-        for _ in 0..300 {
+        for _ in 0..500 {
             let script = script_with_u_0(&mut random);
             let renumbering = Renumbering::random(&mut random, script.setup.n);
             let mut moved = renumbering.script(&script);
@@ -191,14 +196,14 @@ fn with_u_1_a_step_may_decide_otherwise() {
     let setup = setup(&EARLY);
     let mut state = fresh(&setup, 3);
     state.previous[0] = Entry { heard: true, row: 0 };
-    let (read, controller) = ([0x50000007; 16], 0b101);
+    let (read, controller) = ([0x50000007; 3], 0b101);
     let mut moved = swapped().state(&state);
     // Row 1 of the read before says 0 of module 3, and 2 is not heard in this read.
-    let health = step(&setup, &mut state, &read[..3], controller).unwrap().health;
+    let health = step(&setup, &mut state, &read, controller).unwrap().health;
     // Row 1 of the read before, and row 2 of this read, say 1 of it; not heard is 1 in this read.
     let controller_then = swapped().vector(controller);
     let moved_setup = swapped().setup(&setup);
-    let health_then = step(&moved_setup, &mut moved, &swapped().read(&read)[..3], controller_then).unwrap().health;
+    let health_then = step(&moved_setup, &mut moved, &swapped().read(&read), controller_then).unwrap().health;
     assert_eq!((health, health_then), (0b011, 0b111));
     assert_ne!(swapped().vector(health), health_then);
 }

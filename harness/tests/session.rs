@@ -201,7 +201,7 @@ fn demand_3_with_changes() {
     assert!(due.accepted > 1_000 && due.refused > 1_000 && due.changed > 1_000 && due.changed_view > 100, "{due:?}");
 }
 
-/// All words on the bus in round k hold round k-1's syndromes; only told words differ.
+/// All words on the bus in round k hold round k-1's syndromes; only told words differ. Of view words `torn.rs` says the same.
 #[test]
 fn lemma_3() {
     let mut random = Random::new(4);

@@ -2,7 +2,9 @@
 
 from collections import namedtuple
 
+from .adoption import Adoption
 from .lines import Round
+from .localviews import with_local_views
 from .scores import Scores
 
 # How the judges see a module after a round; None where they differ.
@@ -17,10 +19,15 @@ ROUND_MS = 2.5    # a round of the backplane
 
 
 class Account:
-    """The run as its judges saw it: the rule-followers, or all modules where the cast is unknown or is everybody."""
+    """The run as its judges saw it: the rule-followers, or all modules where the cast is unknown or is everybody. Views are the local ones, by which
+    the rules go; what a partitionable setup adopts, and the bench then prints, is told by adoption."""
 
     def __init__(self, run, script=None):
         self.run = run
+        self.adoption = None
+        if script and script.partitionable:
+            self.run = with_local_views(run, script)
+            self.adoption = Adoption(run, self.run, script)
         self.script = script
         self.n = run.n
         followers = script.followers if script else []
@@ -34,6 +41,11 @@ class Account:
 
     def label(self, module):
         return self.script.label(module) if self.script else str(module)
+
+    @property
+    def local(self):
+        """What stands before the word view: where the bench prints adopted views, all that is told here is of local ones."""
+        return "local " if self.adoption else ""
 
     def rounds(self):
         """Number, round, and the round before, for every round."""
@@ -55,7 +67,7 @@ class Account:
                     one({round_.rows[i - 1][0][j] for i in self.judges}))
 
     def differ(self, round_):
-        """Whether the judges differ in health or view after this round."""
+        """Whether the judges differ in health or local view after this round."""
         return len({round_.rows[i - 1] for i in self.judges}) > 1
 
     def differing_rounds(self):

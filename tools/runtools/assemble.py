@@ -7,6 +7,7 @@ A line holds one statement; everything from a # on is a comment.
     reward limit 3
     fading factor 0.5 limit 3.0                in place of both: scores that fade; 1e-3 and 0x1.8p-1 are numbers too
     return limit 5                             0 if it is left out: no module comes back into the view
+    partitionable                              if it is left out, no view words are sent and none is adopted
     module 1 x-axis place 4 criticality 1      one line for each module in turn; the name may be left out,
     module 2 place 1 criticality 1 mark        and may later stand in place of the number; mark is the send mark
     ...
@@ -15,6 +16,8 @@ A line holds one statement; everything from a # on is a comment.
     loss x-axis to 3 4                         receivers: all, all but a list, or a list
     lie 2 to 3 says 1011                       module 2 is in the cast: module 3 hears this syndrome, module 1 leftmost
     lie 2 to 4 word 0x5000000F                 any told word, in hexadecimal
+    lie 2 to 3 says 1011 view 1111             in a partitionable setup every lie tells a view word too,
+    lie 2 to 4 says 1011 view word 0xA000001F  or any word in its place
     play 2                                     events count for the first round of the next play
     word 0x90000000                            a raw word, and
     bytes 0x9000                               one to three bytes at the end, both only with --unchecked
@@ -29,18 +32,19 @@ from . import words as w
 NAME = re.compile(r"[A-Za-z][A-Za-z0-9_-]*\Z")
 DECIMAL = re.compile(r"[+-]?([0-9]+\.?[0-9]*|\.[0-9]+)([eE][+-]?[0-9]+)?\Z")
 HEXADECIMAL = re.compile(r"[+-]?0x[0-9A-Fa-f]+(\.[0-9A-Fa-f]*)?(p[+-]?[0-9]+)?\Z")
-RESERVED = {"modules", "penalty", "reward", "fading", "factor", "return", "limit", "module", "place", "criticality", "mark", "cast", "none",
-            "all", "but", "loss", "lie", "to", "says", "word", "play", "bytes"}
+RESERVED = {"modules", "penalty", "reward", "fading", "factor", "return", "limit", "partitionable", "module", "place", "criticality", "mark", "cast",
+            "none", "all", "but", "loss", "lie", "to", "says", "word", "view", "play", "bytes"}
 FORMS = {
     "modules": "modules N",
     "penalty": "penalty limit P",
     "reward": "reward limit R",
     "fading": "fading factor F limit L",
     "return": "return limit Q",
+    "partitionable": "partitionable, alone",
     "module": "module NUMBER [NAME] place L criticality C [mark]",
     "cast": "cast none, cast all, cast all but MODULES or cast MODULES",
     "loss": "loss SENDER to RECEIVERS",
-    "lie": "lie SENDER to RECEIVERS says VECTOR, or ... word 0xHEX",
+    "lie": "lie SENDER to RECEIVERS says VECTOR, or ... word 0xHEX; where the setup is partitionable then view VECTOR, or view word 0xHEX",
     "play": "play ROUNDS",
     "word": "word 0xHEX",
     "bytes": "bytes 0xHEX",
@@ -64,6 +68,7 @@ class Source:
         self.head = None
         self.chosen = None    # counts or fading
         self.return_limit = None
+        self.partitionable = False
         self.names = {}
         self.words = []
         self.lines = []
@@ -156,18 +161,35 @@ def choose(source, form):
 
 
 def read_return_limit(source, tokens):
-    """The return limit stands in the head, so this line puts no word of its own."""
     if len(tokens) != 2 or tokens[0] != "limit":
         return False
+    check_head_line(source, "the return limit", source.return_limit is not None)
+    source.return_limit = ranged(source, tokens[1], "return limit")
+    put_head(source)
+    return True
+
+
+def read_partitionable(source, tokens):
+    if tokens:
+        return False
+    check_head_line(source, "'partitionable'", source.partitionable)
+    source.partitionable = True
+    put_head(source)
+    return True
+
+
+def check_head_line(source, what, twice):
+    """The return limit and 'partitionable' stand in the head, so their lines put no words of their own."""
     if source.head is None:
         source.fail("the number of modules must stand before this")
-    if source.return_limit is not None:
-        source.fail("the return limit stands twice")
+    if twice:
+        source.fail(f"{what} stands twice")
     if len(source.words) > w.first_module(source.words) and not source.unchecked:
-        source.fail("the return limit must stand before module 1")
-    source.return_limit = ranged(source, tokens[1], "return limit")
-    source.words[source.head] = w.head_word(source.n, source.return_limit)
-    return True
+        source.fail(f"{what} must stand before module 1")
+
+
+def put_head(source):
+    source.words[source.head] = w.head_word(source.n, source.return_limit or 0, source.partitionable)
 
 
 def read_module(source, tokens):
@@ -209,12 +231,22 @@ def read_loss(source, tokens):
 
 
 def read_lie(source, tokens):
-    if len(tokens) < 5 or tokens[1] != "to" or tokens[-2] not in ("says", "word"):
+    at = next((i for i, token in enumerate(tokens) if token in ("says", "word")), 0)
+    told, view = tokens[at:at + 2], tokens[at + 2:]
+    if at < 3 or tokens[1] != "to" or len(told) < 2 or view and not (view[0] == "view" and len(view) == 2 + (view[1:2] == ["word"])):
         return False
-    lie = w.event_word(w.LIE, one_module(source, tokens[0], 31), modules_mask(source, tokens[2:-2]))
-    told = syndrome(source, tokens[-1]) if tokens[-2] == "says" else raw_word(source, tokens[-1])
-    source.put(lie, told)
+    lie = w.event_word(w.LIE, one_module(source, tokens[0], 31), modules_mask(source, tokens[2:at]))
+    if bool(view) != source.partitionable and not source.unchecked:
+        source.fail("a view is told only where the setup is partitionable" if view else
+                    "the setup is partitionable, so a lie tells a view too: view VECTOR, or view word 0xHEX")
+    words = [told_word(source, told[0] == "says", told[1], w.BUS)]
+    words += [told_word(source, len(view) == 2, view[-1], w.VIEW)] if view else []
+    source.put(lie, *words)
     return True
+
+
+def told_word(source, as_vector, token, kind):
+    return vector_word(source, token, kind) if as_vector else raw_word(source, token)
 
 
 def read_play(source, tokens):
@@ -244,6 +276,7 @@ READERS = {
     "reward": read_limit(w.REWARD_LIMIT, "reward limit"),
     "fading": read_fading,
     "return": read_return_limit,
+    "partitionable": read_partitionable,
     "module": read_module,
     "cast": read_cast,
     "loss": read_loss,
@@ -322,12 +355,14 @@ def modules_mask(source, tokens):
     return w.all_modules(source.n) & ~(modules_mask(source, tokens[2:]) if len(tokens) > 2 else 0)
 
 
-def syndrome(source, token):
+def vector_word(source, token, kind):
+    """A syndrome (kind 5) or a view (kind 10)."""
+    word, what = ("says", "syndrome") if kind == w.BUS else ("view", "view")
     if source.n is None:
-        source.fail("'says' needs the number of modules before it")
+        source.fail(f"'{word}' needs the number of modules before it")
     if not re.match(r"[01]+\Z", token) or len(token) != source.n:
-        source.fail(f"a syndrome has one digit 0 or 1 for each of {source.n} modules, module 1 leftmost, and not '{token}'")
-    return w.make(w.BUS, w.vector_mask(token))
+        source.fail(f"a {what} has one digit 0 or 1 for each of {source.n} modules, module 1 leftmost, and not '{token}'")
+    return w.make(kind, w.vector_mask(token))
 
 
 def raw_word(source, token):

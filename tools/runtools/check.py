@@ -1,4 +1,5 @@
-"""The check of a run script: number, index and reason of a refusal, in document 01's order; number 2 as document 02's E6 has it, 22 after its E9."""
+"""The check of a run script: number, index and reason of a refusal, in document 01's order; number 2 as document 02's E6 and E11 have it, 14 as its
+E11 does, 22 after its E9."""
 
 import math
 from collections import namedtuple
@@ -17,7 +18,7 @@ MEANING = {
     6: "a send mark on module 1, or with a read place at or above the module's own number",
     12: "a run word is wrong: its kind (the cast stands first and nowhere else), a spare bit, the sender, the mask or the play count",
     13: "a lie by a module outside the cast",
-    14: "the cast or a told word is missing, or events are never played, or nothing is played",
+    14: "the cast, a told word or a told view word is missing, or events are never played, or nothing is played",
     15: "over 100,000 rounds",
     16: "the script has over 65,536 bytes",
     22: "the fading form is wrong: a spare bit, the factor or the limit",
@@ -122,7 +123,8 @@ def run_refusal(words):
     if reason:
         return Refusal(12, first, reason)
     cast, rounds, ending = w.mask(words[first]), 0, "nothing is played"
-    for at, word, told in w.run_items(words, first + 1):
+    for item in w.run_items(words, first + 1):
+        at, word = item.at, item.word
         reason = run_word_reason(word, n)
         if reason:
             return Refusal(12, at, reason)
@@ -136,9 +138,18 @@ def run_refusal(words):
             if w.kind(word) == w.LIE:
                 if not cast >> (w.sender(word) - 1) & 1:
                     return Refusal(13, at, f"module {w.sender(word)} lies but is not in the cast")
-                if told is None:
-                    ending = "the told word of the last lie is missing"
+                if not w.is_whole(item, words):
+                    ending = missing_reason(item, words)
     return Refusal(14, len(words), ending) if ending else None
+
+
+def missing_reason(item, words):
+    """What the last lie lacks."""
+    if item.told is not None:
+        return "the told view word of the last lie is missing"
+    if w.read_head(words[0]).partitionable:
+        return "the told word and the told view word of the last lie are missing"
+    return "the told word of the last lie is missing"
 
 
 def cast_reason(word, n):

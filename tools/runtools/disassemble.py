@@ -24,7 +24,7 @@ def disassemble(data):
 
 
 def readable_words(words, refused):
-    """How many words of a refused script have a readable form: those before the refused one, and no lie without its told word."""
+    """How many words of a refused script have a readable form: those before the refused one, and no lie without what is told."""
     if refused.number in (1, 2, 3, 16):
         return 0
     if refused.number == 22:
@@ -33,14 +33,13 @@ def readable_words(words, refused):
     if refused.number != 14:
         return refused.index
     items = list(w.run_items(words, w.setup_length(words) + 1))
-    cut = bool(items) and w.kind(items[-1][1]) == w.LIE and items[-1][2] is None
-    return len(words) - cut
+    return items[-1].at if items and not w.is_whole(items[-1], words) else len(words)
 
 
 def setup_lines(words):
     if not words:
         return []
-    return_limit, _, n = w.read_head(words[0])
+    return_limit, _, partitionable, n = w.read_head(words[0])
     lines = [f"modules {n}"]
     if w.fades(words):
         # the shortest decimals that are read back as the same bits
@@ -49,6 +48,7 @@ def setup_lines(words):
         lines += [f"penalty limit {w.value(word)}" for word in words[1:2]]
         lines += [f"reward limit {w.value(word)}" for word in words[2:3]]
     lines += [f"return limit {return_limit}"] if return_limit else []
+    lines += ["partitionable"] if partitionable else []
     for word in words[w.modules_at(words)]:
         module = w.read_module(word)
         mark = " mark" if module.mark else ""
@@ -61,29 +61,28 @@ def run_lines(words, end):
     if not end:
         return []
     n, lines, played = w.read_head(words[0]).modules, [], 0
-    for _, word, told in w.run_items(words[:end], w.setup_length(words) + 1):
+    for _, word, *told in w.run_items(words[:end], w.setup_length(words) + 1):
         if w.kind(word) == w.PLAY:
             count = w.value(word)
             lines.append(f"play {count}  # {rounds_text(played + 1, played + count)}")
             played += count
         else:
-            lines.append(event_text(word, told, n))
+            lines.append(event_text(word, *told, n))
     return lines
 
 
-def event_text(word, told, n):
+def event_text(word, told, view, n):
     what = "loss" if w.kind(word) == w.LOSS else "lie"
     text = f"{what} {w.sender(word)} to {modules_text(w.mask(word), n)}"
-    if told is None:
+    return text if told is None else f"{text} {told_text(told, view, n)}"
+
+
+def told_text(told, view, n):
+    """A told word that is heard as its syndrome, a told view word that is heard as its view, any other as it is."""
+    text = f"says {w.vector_text(told, n)}" if w.is_heard(told, n) else f"word 0x{told:08X}"
+    if view is None:
         return text
-    return f"{text} {told_text(told, n)}"
-
-
-def told_text(told, n):
-    """A told word that is heard as its syndrome, any other as it is."""
-    if w.is_heard(told, n):
-        return f"says {w.vector_text(told, n)}"
-    return f"word 0x{told:08X}"
+    return f"{text} view " + (w.vector_text(view, n) if w.is_heard(view, n, w.VIEW) else f"word 0x{view:08X}")
 
 
 def modules_text(mask, n):

@@ -37,11 +37,13 @@ def sentences(account, part):
     said = [(about + ".", False), (limit_sentence(account), False), (agreement_sentence(account), bool(account.faults())),
             (leaving_sentence(account), False)]
     returned = return_sentence(account)
-    return said + [(returned, False)] if returned else said
+    said += [(returned, False)] if returned else []
+    return said + [(adoption_sentence(account), bool(account.adoption.wrong)), (out_sentence(account), False)] if account.adoption else said
 
 
 def limits_text(script):
     back = f", return limit {script.return_limit:,}" if script.return_limit else ""
+    back += "; partitionable" if script.partitionable else ""
     if script.fading:
         return "fading: factor {!r}, limit {!r}".format(*script.fading) + back
     return f"penalty limit {script.penalty_limit:,}, reward limit {script.reward_limit:,}{back}"
@@ -57,7 +59,7 @@ def agreement_sentence(account):
     who = "rule-followers" if account.of_followers else "modules"
     differing = account.differing_rounds()
     if not differing:
-        return f"All {who} gave the same health and view in every round."
+        return f"All {who} gave the same health and {account.local}view in every round."
     faults = account.faults()
     rounds = rounds_text(faults or differing, 6)
     if faults:
@@ -67,13 +69,32 @@ def agreement_sentence(account):
 
 def leaving_sentence(account):
     left = view_texts(account, account.leavings(), FROM)
-    return f"Left the view: {'; '.join(left) or 'nobody'}."
+    return f"Left the {account.local}view: {'; '.join(left) or 'nobody'}."
 
 
 def return_sentence(account):
     """Nothing where nobody came back."""
     back = view_texts(account, account.returns(), INTO)
-    return f"Came back into the view: {'; '.join(back)}." if back else ""
+    return f"Came back into the {account.local}view: {'; '.join(back)}." if back else ""
+
+
+def adoption_sentence(account):
+    """Whether the printed views are the adopted ones, and whether two judges adopted different ones."""
+    if account.adoption.wrong:
+        number, module, *_ = account.adoption.wrong[0]
+        return (f"FAULT: printed views are not the adopted ones, first in round {number} of module {whole(account.label(module))} "
+                "(is it the script of this run?).")
+    who = "rule-followers" if account.of_followers else "modules"
+    differing = account.adoption.differing_rounds(account.judges)
+    return f"The {who} adopted different views in {rounds_text(differing, 6)}." if differing else f"No two {who} adopted different views in a round."
+
+
+def out_sentence(account):
+    by_round = {}
+    for module, out in sorted(account.adoption.out.items()):
+        by_round.setdefault(out.number, []).append(whole(account.label(module)))
+    left = (f"{', '.join(modules)} in{NO_BREAK}round{NO_BREAK}{number}" for number, modules in sorted(by_round.items()))
+    return f"Took themselves out: {'; '.join(left) or 'nobody'}."
 
 
 # what to say where the judges differ: of the first of them, of the last, and of all if some are left out

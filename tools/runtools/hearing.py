@@ -76,7 +76,7 @@ def altered(events, n):
     rows = {}
     for sender, found in events.items():
         rows.update(((sender, receiver), None) for receiver in found.losses)
-        rows.update(((sender, receiver), w.value(told) if w.is_heard(told, n) else None) for receiver, told in found.lies)
+        rows.update(((sender, lie.receiver), w.value(lie.word) if w.is_heard(lie.word, n) else None) for lie in found.lies)
     return rows
 
 

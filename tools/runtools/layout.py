@@ -6,6 +6,7 @@ from . import marks, svg
 
 WIDE, NARROW = 26, 20    # width of a column of one round, and of a range of rounds
 SCORE = 15               # height of a third band, for scores
+VIEWS = 16               # height of a last band, for the views that a module holds
 STRIP = 18
 MARGIN = 20
 MOST_WIDTH = 1040        # of the columns of a panel
@@ -16,13 +17,19 @@ NO_BREAK = "\u00a0"
 
 
 def width_of(column):
-    """Wide enough for its scores."""
+    """Wide enough for its scores and for the letters of its views."""
     least = WIDE if column.first == column.last else NARROW
-    return max([least, *(math.ceil(svg.text_width(score_text(scores), 10)) + 4 for scores in column.scores)])
+    texts = [score_text(scores) for scores in column.scores] + [views.letters for views in column.views]
+    return max([least, *(math.ceil(svg.text_width(text, 10)) + 4 for text in texts)])
 
 
 def row_height(account):
-    return marks.BAND + marks.JUDGED + (SCORE if account.scores else 0)
+    return marks.BAND + marks.JUDGED + (SCORE if account.scores else 0) + (VIEWS if account.adoption else 0)
+
+
+def strips_height(account):
+    """Of the rows above the modules: fault limit and agreement, and what was adopted where the setup is partitionable."""
+    return STRIP * (3 if account.adoption else 2)
 
 
 def score_text(scores):

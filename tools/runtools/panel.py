@@ -1,20 +1,21 @@
-"""A panel of a picture: one line of columns, with a row for the fault limit, one for agreement, and one for each module."""
+"""A panel of a picture: one line of columns, with a row for the fault limit, one for agreement, one for what was adopted where the setup is
+partitionable, and one for each module."""
 
 from . import marks, svg
-from .columns import label
+from .columns import DIFFERENT, label
 from .disassemble import modules_text, told_text
-from .layout import MARGIN, STRIP, module_label, row_height, score_text, width_of
-from .words import mask_of, why_unheard
+from .layout import MARGIN, STRIP, VIEWS, module_label, row_height, score_text, strips_height, width_of
+from .words import VIEW, mask_of, why_unheard
 
 
 def panel_height(account, row):
-    return header_height(row) + 4 + 2 * STRIP + 4 + account.n * row_height(account) + 20
+    return header_height(row) + 4 + strips_height(account) + 4 + account.n * row_height(account) + 20
 
 
 def panel(account, row, left, y):
     """The panel whose columns begin at left and whose labels begin at y."""
     top = y + header_height(row) + 4
-    cells_top = top + 2 * STRIP + 4
+    cells_top = top + strips_height(account) + 4
     height = row_height(account)
     bottom = cells_top + account.n * height
     parts = row_labels(account, left, top, cells_top)
@@ -46,6 +47,8 @@ def row_labels(account, left, top, cells_top):
     parts = [svg.text(right, top - 6, "round", 11, text_anchor="end"),
              svg.text(right, top + 13, "fault limit", 11, text_anchor="end"),
              svg.text(right, top + STRIP + 13, "agreement", 11, text_anchor="end")]
+    if account.adoption:
+        parts.append(svg.text(right, top + 2 * STRIP + 13, "adopted", 11, text_anchor="end"))
     for j in range(1, account.n + 1):
         y = cells_top + (j - 1) * row_height(account)
         breaker = account.script is not None and j in account.script.cast
@@ -69,6 +72,8 @@ def column_parts(account, column, x, top, cells_top):
             drawn.append(marks.events(happened, account.n, x, y, width))
         if column.scores:
             drawn += score_band(score_text(column.scores[j - 1]), x, y + marks.BAND + marks.JUDGED, width)
+        if column.views:
+            drawn.append(views_band(column.views[j - 1], x, y + height - VIEWS, width))
         parts.append(svg.group(drawn, cell_title(account, column, j, cell)))
     parts.append(svg.line(x, cells_top, x, cells_top + account.n * height, stroke="#9A9A9A", stroke_width=0.7))
     if folded:
@@ -81,6 +86,13 @@ def score_band(text, x, y, width):
     return [border, svg.text(x + width / 2, y + 11, text, 10, text_anchor="middle")] if text else [border]
 
 
+def views_band(views, x, y, width):
+    """The letters of a module's views, white on black where it is out."""
+    border = svg.line(x, y, x + width, y, stroke="#D0D0D0", stroke_width=0.7)
+    ground = svg.rect(x, y, width, VIEWS, fill="#000") if views.out else border
+    return ground + svg.text(x + width / 2, y + 12, views.letters, 10, text_anchor="middle", fill="#fff" if views.out else None)
+
+
 def header(column, middle, top):
     if lies_across(column):
         return svg.text(middle, top - 6, label(column), 11, text_anchor="middle")
@@ -88,13 +100,18 @@ def header(column, middle, top):
 
 
 def strips(column, x, width, top):
-    """The cells of the fault limit and of agreement."""
-    return [strip("in" if column.kept else "out", not column.kept, 10, x, width, top),
-            agreement(column.differ, x, width, top + STRIP)]
+    """The cells of the fault limit, of agreement, and of what was adopted."""
+    drawn = [strip("in" if column.kept else "out", not column.kept, 10, x, width, top),
+             agreement(column.differ, x, width, top + STRIP)]
+    return drawn + [adopted(column.adopted, x, width, top + 2 * STRIP)] if column.adopted else drawn
 
 
 def agreement(differ, x, width, y):
     return strip("≠" if differ else "=", differ, 13, x, width, y)
+
+
+def adopted(sign, x, width, y):
+    return strip(sign, sign == DIFFERENT, 13, x, width, y)
 
 
 def strip(word, dark, size, x, width, y):
@@ -116,15 +133,23 @@ def broken_line(account, row, left, top, bottom):
 def cell_title(account, column, module, cell):
     """What a browser shows under the pointer."""
     said = [f"round {label(column)}, module {module_label(account, module)}: {marks.state(cell)}{score_title(column, module)}"]
+    if column.views:
+        views = column.views[module - 1]
+        said.append(f"it holds the local view {views.local} and the adopted view {views.adopted}" + (", and is out" if views.out else ""))
     found = column.events.get(module)
     if found:
         if found.losses:
             said.append(f"loss to {modules_text(mask_of(found.losses), account.n)}")
-        for word in sorted({told for _, told in found.lies}):
-            receivers = mask_of(receiver for receiver, told in found.lies if told == word)
-            why = why_unheard(word, account.n)
-            said.append(f"lie to {modules_text(receivers, account.n)} {told_text(word, account.n)}" + (f", not heard: {why}" if why else ""))
+        for told in sorted({lie[1:] for lie in found.lies}):
+            receivers = mask_of(lie.receiver for lie in found.lies if lie[1:] == told)
+            said.append(f"lie to {modules_text(receivers, account.n)} {told_text(*told, account.n)}{unheard_text(*told, account.n)}")
     return "\n".join(said)
+
+
+def unheard_text(told, view, n):
+    """Why a told word, or a told view word, is not heard; nothing where it is."""
+    why, why_view = why_unheard(told, n), None if view is None else why_unheard(view, n, VIEW)
+    return (f", not heard: {why}" if why else "") + (f", view not heard: {why_view}" if why_view else "")
 
 
 def score_title(column, module):

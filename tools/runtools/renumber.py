@@ -1,7 +1,7 @@
-"""A script for the same cards in other slots, after document 02's E8, in the form in which it came: text or bytes.
+"""A script for the same cards in other slots, after document 02's E8 and E11, in the form in which it came: text or bytes.
 
 Module 1 gets the first of the numbers given, module 2 the second, and so on. Its criticality and its name go with a module; cast, senders,
-receivers and the rows in told words are renumbered.
+receivers, the rows in told words and the views in told view words are renumbered.
 """
 
 import re
@@ -30,7 +30,7 @@ class Renumbering:
         return w.mask_of(map(self.module, w.modules_of(mask)))
 
     def told(self, word):
-        """A told word of any kind: the row in its N low bits is renumbered, the other bits stay."""
+        """A told word or told view word of any kind: the row or view in its N low bits is renumbered, the other bits stay."""
         row = word & w.all_modules(self.n)
         return word ^ row | self.mask(row)
 
@@ -86,13 +86,12 @@ def renumbered_words(words, renumbering):
     made = words[:w.first_module(words)] + [w.module_word(number, *w.read_module(word)[1:]) for number, word in enumerate(modules, 1)]
     cast = w.setup_length(words)
     made.append(w.make(w.CAST, renumbering.mask(w.mask(words[cast]))))
-    for _, word, told in w.run_items(words, cast + 1):
+    for _, word, *told in w.run_items(words, cast + 1):
         if w.kind(word) == w.PLAY:
             made.append(word)
         else:
             made.append(w.event_word(w.kind(word), renumbering.module(w.sender(word)), renumbering.mask(w.mask(word))))
-        if told is not None:
-            made.append(renumbering.told(told))
+        made += [renumbering.told(word) for word in told if word is not None]
     return made
 
 
@@ -145,12 +144,13 @@ def renumbered_tokens(tokens, renumbering):
     if keyword in ("cast", "loss"):
         return [keyword, *modules(tokens[1:])]
     if keyword == "lie":
-        return [keyword, *modules(tokens[1:-2]), tokens[-2], told_token(*tokens[-2:], renumbering)]
+        at = next(i for i, token in enumerate(tokens) if token in ("says", "word"))
+        return [keyword, *modules(tokens[1:at]), *(told_token(token, renumbering) for token in tokens[at:])]
     return tokens
 
 
-def told_token(form, token, renumbering):
-    """After 'says' a vector, after 'word' a word in hexadecimal."""
-    if form == "says":
-        return "".join(renumbering.moved(token))
-    return f"0x{renumbering.told(int(token, 16)):08X}"
+def told_token(token, renumbering):
+    """What stands from 'says' or 'word' on: words of the language, vectors, and words in hexadecimal."""
+    if token.startswith("0x"):
+        return f"0x{renumbering.told(int(token, 16)):08X}"
+    return "".join(renumbering.moved(token)) if token[0] in "01" else token

@@ -6,18 +6,22 @@ from . import check
 from . import words as w
 from .assemble import ScriptError, assemble
 
+# a receiver that gets a told word, and in a partitionable setup a told view word (else None), in place of what the sender hands out
+Lie = namedtuple("Lie", "receiver word view")
+
+
 class Events(namedtuple("Events", "losses lies")):
-    """What happens to a sender's word in a round: receivers that it is lost to, and receivers that get a told word instead, each with it."""
+    """What happens to a sender's word, and its view word, in a round: receivers that it is lost to, and a Lie for each that it is replaced to."""
 
     def told(self, why, n):
         """Receivers of a told word that is not heard for this cause, or that is heard where the cause is None."""
-        return [receiver for receiver, word in self.lies if w.why_unheard(word, n) == why]
+        return [lie.receiver for lie in self.lies if w.why_unheard(lie.word, n) == why]
 
 
 class Script:
     def __init__(self, data, names=None):
         words = w.to_words(data)
-        self.return_limit, _, self.n = w.read_head(words[0])
+        self.return_limit, _, self.partitionable, self.n = w.read_head(words[0])
         # either fading, or both limits of counts
         self.fading = w.read_fading(words) if w.fades(words) else None
         self.penalty_limit, self.reward_limit = (None, None) if self.fading else map(w.value, words[1:3])
@@ -31,7 +35,7 @@ class Script:
     def _read_run(self, words):
         """Events count for the next round played; a later one for the same sender and receiver replaces an earlier."""
         pending = {}
-        for _, word, told in w.run_items(words, w.setup_length(words) + 1):
+        for _, word, *told in w.run_items(words, w.setup_length(words) + 1):
             if w.kind(word) == w.PLAY:
                 if pending:
                     self.events[self.rounds + 1] = by_sender(pending)
@@ -39,7 +43,7 @@ class Script:
                 self.rounds += w.value(word)
             else:
                 for receiver in w.modules_of(w.mask(word)):
-                    pending[w.sender(word), receiver] = told
+                    pending[w.sender(word), receiver] = Lie(receiver, *told) if w.kind(word) == w.LIE else None
 
     @property
     def u(self):
@@ -56,14 +60,14 @@ class Script:
 
 
 def by_sender(pending):
-    """What is pending for sender and receiver (None for a loss, else the told word), by sender."""
+    """What is pending for sender and receiver (None for a loss, else the Lie), by sender."""
     found = {}
-    for (sender, receiver), told in sorted(pending.items(), key=lambda item: item[0]):
+    for (sender, receiver), lie in sorted(pending.items(), key=lambda item: item[0]):
         events = found.setdefault(sender, Events([], []))
-        if told is None:
+        if lie is None:
             events.losses.append(receiver)
         else:
-            events.lies.append((receiver, told))
+            events.lies.append(lie)
     return found
 
 

@@ -1,9 +1,10 @@
-"""The words of a run script: kinds, fields and masks, after document 01, with the head as document 02's E6 has it and fading as its E9 does."""
+"""The words of a run script: kinds, fields and masks, after document 01, with the head as document 02's E6 and E11 have it, fading as its E9 does
+and told view words as its E11 does."""
 
 import struct
 from collections import namedtuple
 
-FADING, HEAD, PENALTY_LIMIT, REWARD_LIMIT, MODULE, BUS, CAST, LOSS, LIE, PLAY = range(10)
+FADING, HEAD, PENALTY_LIMIT, REWARD_LIMIT, MODULE, BUS, CAST, LOSS, LIE, PLAY, VIEW = range(11)
 
 MOST_MODULES = 16
 MOST_BYTES = 65_536
@@ -20,7 +21,7 @@ RANGES = {
     "play count": Range(1, 1_000, 28),
 }
 
-Head = namedtuple("Head", "return_limit spare modules")
+Head = namedtuple("Head", "return_limit spare partitionable modules")
 Fading = namedtuple("Fading", "factor limit")
 ModuleWord = namedtuple("ModuleWord", "number mark place criticality")
 
@@ -38,13 +39,13 @@ def make(kind_, bits):
     return kind_ << 28 | bits
 
 
-def head_word(modules, return_limit):
-    return make(HEAD, return_limit << 8 | modules)
+def head_word(modules, return_limit, partitionable=False):
+    return make(HEAD, return_limit << 8 | partitionable << 5 | modules)
 
 
 def read_head(word):
-    """Q in bits 27..8, spare bits 7..5, N in bits 4..0."""
-    return Head(word >> 8 & 0xF_FFFF, word >> 5 & 7, word & 31)
+    """Q in bits 27..8, spare bits 7..6, in bit 5 whether the setup is partitionable, N in bits 4..0."""
+    return Head(word >> 8 & 0xF_FFFF, word >> 6 & 3, bool(word >> 5 & 1), word & 31)
 
 
 def fades(words):
@@ -126,15 +127,16 @@ def vector_mask(text):
 WRONG_KIND, STRAY_BITS = "wrong kind", "stray bits"
 
 
-def why_unheard(word, n):
-    """Rule 2, with the cause as document 02's E5 has it: None for a word of kind 5 without bits at N or above, which is heard."""
-    if kind(word) != BUS:
+def why_unheard(word, n, due=BUS):
+    """Rule 2, with the cause as document 02's E5 has it: None for a word of the kind that is due without bits at N or above, which is heard.
+    Due is kind 5 for a syndrome, and kind 10 for a view word (E11)."""
+    if kind(word) != due:
         return WRONG_KIND
     return STRAY_BITS if value(word) >> n else None
 
 
-def is_heard(word, n):
-    return why_unheard(word, n) is None
+def is_heard(word, n, due=BUS):
+    return why_unheard(word, n, due) is None
 
 
 def to_words(data):
@@ -155,15 +157,24 @@ def in_range(what, number):
     return RANGES[what].low <= number <= RANGES[what].high
 
 
+# a word of a run at its index; of a lie its told word and, in a partitionable setup, its told view word (None if the script ends before it)
+Item = namedtuple("Item", "at word told view")
+
+
 def run_items(words, start):
-    """The words of a run from index start on: index, word, and after a lie its told word (None if the script ends)."""
+    """The words of a run from index start on, as an Item each; told words stand with their lie."""
+    told_words = 2 if read_head(words[0]).partitionable else 1
     at = start
     while at < len(words):
-        told = None
+        told = [None, None]
         if kind(words[at]) == LIE:
-            told = words[at + 1] if at + 1 < len(words) else None
-            yield at, words[at], told
-            at += 2
-        else:
-            yield at, words[at], None
-            at += 1
+            found = words[at + 1:at + 1 + told_words]
+            told[:len(found)] = found
+        yield Item(at, words[at], *told)
+        at += 1 + (told_words if kind(words[at]) == LIE else 0)
+
+
+def is_whole(item, words):
+    """Whether a lie has all that is told with it; every other item is whole."""
+    due = item.view if read_head(words[0]).partitionable else item.told
+    return kind(item.word) != LIE or due is not None

@@ -33,12 +33,17 @@ MOST_FACTOR, MOST_LIMIT = 0x3FF00000_00000000, 0x412E8480_00000000
 
 
 def stored(*folders):
-    """Name, bytes and bench output of every stored script."""
-    for folder in folders or ("vectors", "e04", "e06", "e08", "e09", "own-scripts"):
+    """Name, bytes and bench output of every stored script; without folders of all of them."""
+    for folder in folders or ("vectors", "e04", "e06", "e08", "e09", "e11", "own-scripts"):
         path = os.path.join(ROOT, "harness", "data", folder)
         for name in sorted(os.listdir(path)):
             if name.endswith(".bin"):
                 yield name, read(os.path.join(path, name)), read(os.path.join(path, name[:-4] + ".out")).decode()
+
+
+def partitionable():
+    """The same of the scripts that came with document 02's E11."""
+    return stored("e11")
 
 
 def read(path):

@@ -60,7 +60,7 @@ class Counting(unittest.TestCase):
 
     def test_structs_count_with_those_in_them(self):
         lines = believed.struct_lines({("presence", "State")})
-        self.assertEqual(list(lines), ["accounts::Counters", "changes::Pending", "presence::State", "rules::Reading", "setup::Limits", "setup::Setup"])
+        self.assertEqual(list(lines), ["accounts::Counters", "changes::Pending", "presence::State", "rules::Reading", "setup::Limits", "setup::Setup", "views::Views"])
         with self.assertRaisesRegex(ValueError, "no struct Nothing"):
             believed.struct_lines({("presence", "Nothing")})
 

@@ -49,8 +49,8 @@ def without(data, loaded, left_out):
         for sender, events in loaded.events.get(number, {}).items():
             if (sender, number) not in left_out:
                 words += [w.event_word(w.LOSS, sender, w.mask_of([receiver])) for receiver in events.losses]
-                for receiver, told in events.lies:
-                    words += [w.event_word(w.LIE, sender, w.mask_of([receiver])), told]
+                for receiver, *told in events.lies:
+                    words += [w.event_word(w.LIE, sender, w.mask_of([receiver])), *(word for word in told if word is not None)]
         words.append(w.make(w.PLAY, 1))
     return w.to_bytes(words)
 

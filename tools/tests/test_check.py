@@ -24,7 +24,8 @@ class Check(unittest.TestCase):
         rest = assemble(SHEET).data()[4:]
         cases = [(0x10000004, None), (0x10000104, None), (0x1F424004, None),
                  (0x1F424104, "the return limit is 1000001, not within 0 to 1,000,000"), (0x1FFFFF04, "the return limit is 1048575, not within 0 to 1,000,000"),
-                 (0x10000024, "spare bits are set"), (0x10000044, "spare bits are set"), (0x10000084, "spare bits are set"),
+                 (0x10000024, None), (0x1F424024, None), (0x10000044, "spare bits are set"), (0x10000084, "spare bits are set"),
+                 (0x10000064, "spare bits are set"), (0x100000A4, "spare bits are set"), (0x100000E4, "spare bits are set"),
                  (0x10000011, "the number of modules is 17, not within 2 to 16"), (0x10000501, "the number of modules is 1, not within 2 to 16"),
                  (0x20000504, "a script begins with the number of modules")]
         for head, reason in cases:
@@ -76,6 +77,26 @@ class Check(unittest.TestCase):
             self.assertEqual(check.refusal(data[:4 * length])[:2], (14, length))
             self.assertEqual(check.refusal(data[:4])[:2], (3, 0))
         self.assertIn("has 7 words", check.refusal(fading[:4]).reason)
+
+    def test_what_is_told_with_a_lie(self):
+        # cast 2, lie by 2 to all, and what follows; by its head the setup is partitionable or not
+        setup = "20000001 30000003 40880001 41080001 41880001 42080001 60000002"
+        missing = "the told {} of the last lie {}"
+        view, word = missing.format("view word", "is missing"), missing.format("word", "is missing")
+        both = missing.format("word and the told view word", "are missing")
+        cases = [("10000024", "8100000F", (14, 9, both)), ("10000024", "8100000F 5000000F", (14, 10, view)),
+                 ("10000024", "8100000F 5000000F A000000F", (14, 11, "the events at the end are never played")),
+                 ("10000024", "8100000F 5000000F A000000F 90000001", None), ("10000024", "8100000F 90000001 90000000 90000001", None),
+                 ("10000024", "8100000F 8100000F 8100000F 90000001", None), ("10000024", "8100000F FFFFFFFF FFFFFFFF 90000001", None),
+                 ("10000024", "90000001 8100000F 5000000F", (14, 11, view)),
+                 ("10000024", "90000001 7100000F 8100000F 90000001 90000001", (14, 13, "the events at the end are never played")),
+                 ("10000024", "8100000F 5000000F A000000F A000000F 90000001", (12, 11, "here a loss, a lie or a play is due")),
+                 ("10000024", "8080000F 5000000F", (13, 8, "module 1 lies but is not in the cast")),
+                 ("10000004", "8100000F", (14, 9, word)), ("10000004", "8100000F 5000000F 90000001", None),
+                 ("10000004", "8100000F 5000000F A000000F 90000001", (12, 10, "here a loss, a lie or a play is due"))]
+        for head, run, refused in cases:
+            with self.subTest(f"{head} {run}"):
+                self.assertEqual(check.refusal(bytes.fromhex(f"{head} {setup} {run}")), refused)
 
     def test_the_order_of_refusals_with_fading(self):
         # wrong, right, and the refusal if what stands before is right and all that follows is wrong

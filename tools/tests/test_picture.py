@@ -3,7 +3,7 @@ import time
 import unittest
 import xml.etree.ElementTree as xml
 
-from common import FADING_SHEET, SHEET, printed, read, root, stored, tool
+from common import FADING_SHEET, SHEET, partitionable, printed, read, root, stored, tool
 
 from runtools import check, marks, script, svg
 from runtools.account import Account, Cell
@@ -116,7 +116,7 @@ class Picture(unittest.TestCase):
         self.assertFalse(re.search(r"<script|<image|href|@import", drawn))
 
     def test_stored_runs(self):
-        for name, data, output in stored("vectors", "e06", "e09"):
+        for name, data, output in [*stored("vectors", "e06", "e09"), *partitionable()]:
             if check.refusal(data) is None:
                 with self.subTest(name):
                     loaded = script.load(data, name)

@@ -9,8 +9,10 @@ import unittest
 from common import FADING_SHEET, SHEET, bench, needs_bench, read, root, stored, tool
 
 from runtools import check, script
+from runtools.account import Account
 from runtools.assemble import ScriptError, assemble
 from runtools.disassemble import disassemble
+from runtools.lines import read_run
 from runtools.renumber import NotRenumbered, renumber
 
 RACK = """\
@@ -103,6 +105,19 @@ class StoredScripts(unittest.TestCase):
             count += 1
         self.assertGreater(count, 150)
 
+    def test_of_a_partitionable_script_the_adopted_views_are_renumbered(self):
+        count = 0
+        for name, data, printed, numbers in with_random_numbers():
+            moved = script.load(renumber(data, numbers), name)
+            if moved.partitionable:
+                account = Account(read_run(renumbered_lines(printed, numbers).splitlines(True)), moved)
+                before = Account(read_run(printed.splitlines(True)), script.load(data, name))
+                self.assertEqual(account.adoption.wrong, [], name)
+                self.assertEqual({numbers[j - 1]: out.number for j, out in before.adoption.out.items()},
+                                 {j: out.number for j, out in account.adoption.out.items()})
+                count += 1
+        self.assertGreaterEqual(count, 5)
+
     def test_forth_and_back_gives_the_same_bytes(self):
         for name, data, _, numbers in with_random_numbers():
             back = [numbers.index(number) + 1 for number in range(1, len(numbers) + 1)]
@@ -164,6 +179,15 @@ play 2  # rounds 1 to 2
         self.assertEqual(script.load(made.encode(), "text").fading, (0.75, 4.0))
 
 
+    def test_told_views_are_renumbered(self):
+        text = RACK.replace("# the cards", "partitionable  # since June").replace("says 0011", "says 0011  view 1110")
+        text = text.replace("0x5123abc1", "0x5123abc1 view word 0x0000f0f1")
+        made = renumber(text.encode(), [3, 1, 2, 4]).decode()
+        self.assertIn("\npartitionable  # since June\n", made)
+        self.assertIn("\nlie   1 to 3 2 says 0101  view 1110\nlie joystick to all word 0x5123ABC4 view word 0x0000F0F4   # stray bits\n", made)
+        self.assertEqual(assemble(made).data(), renumber(assemble(text).data(), [3, 1, 2, 4]))
+
+
 class Words(unittest.TestCase):
     def told(self, word, numbers):
         text = SHEET.replace("cast none", "cast 1").replace("loss 2 to all", f"lie 1 to all word 0x{word:08X}")
@@ -173,6 +197,14 @@ class Words(unittest.TestCase):
         # whatever kind it is of, and whatever stands above the row
         self.assertEqual([self.told(word, [2, 3, 4, 1]) for word in (0x50000001, 0x50000008, 0x90000003, 0xFFFFFFF4, 0x00000010)],
                          ["50000002", "50000001", "90000006", "FFFFFFF8", "00000010"])
+
+    def test_so_of_a_told_view_word(self):
+        setup = SHEET.replace("module 1", "partitionable\nmodule 1", 1).replace("cast none", "cast 1")
+        words = [("A0000001", "A0000002"), ("A0000008", "A0000001"), ("50000003", "50000006"), ("FFFFFFF4", "FFFFFFF8"), ("00000010", "00000010")]
+        for word, moved in words:
+            text = setup.replace("loss 2 to all", f"lie 1 to all says 1000 view word 0x{word}")
+            made = renumber(assemble(text).data(), [2, 3, 4, 1])
+            self.assertEqual((made[:4].hex(), made[36:44].hex().upper()), ("10000024", "50000002" + moved))
 
     def test_a_cast_a_sender_and_receivers(self):
         text = SHEET.replace("cast none", "cast 1 2").replace("loss 2 to all", "loss 4 to 1 3\nlie 2 to 4 says 1000")

@@ -176,6 +176,52 @@ class Language(unittest.TestCase):
         both = FADING_SHEET.replace("module 1", "penalty limit 1\nmodule 1")
         self.assertEqual(assemble(both, unchecked=True).data()[24:28].hex(), "20000001")
 
+    PARTITIONABLE = SHEET.split("cast")[0].replace("module 1", "partitionable\nmodule 1")
+
+    def test_partitionable_is_bit_5_of_the_head(self):
+        self.assertEqual([self.head("partitionable"), self.head("partitionable\nreturn limit 5"), self.head("return limit 5\npartitionable")],
+                         ["10000024", "10000524", "10000524"])
+        first = SHEET.replace("modules 4", "modules 4\npartitionable")
+        self.assertEqual(assemble(first).data(), assemble(SHEET.replace("module 1", "partitionable\nmodule 1")).data())
+        faded_ = FADING_SHEET.replace("module 1", "partitionable\nmodule 1")
+        self.assertEqual(assemble(faded_).data(), bytes.fromhex("10000024") + assemble(FADING_SHEET).data()[4:])
+        self.assertEqual(disassemble(assemble(faded_).data()), faded_)
+
+    def test_told_view_words(self):
+        run = ("cast 2\nlie 2 to all says 1011 view 1110 # module 4 left out\nlie 2 to 4 word 0x8123abcd view word 0xffffffff\n"
+               "lie 2 to 1 says 1111 view word 0xA000001F\nlie 2 to 1 word 0x5000000F view 0000\nplay 1")
+        self.assertEqual(self.words(run, self.PARTITIONABLE), ["60000002", "8100000F", "5000000D", "A0000007", "81000008", "8123ABCD", "FFFFFFFF",
+                                                              "81000001", "5000000F", "A000001F", "81000001", "5000000F", "A0000000", "90000001"])
+
+    def test_a_told_view_that_is_heard_is_written_as_its_view(self):
+        run = ("cast 2\n\nlie 2 to all says 1011 view 1110\nlie 2 to 4 word 0x8123ABCD view word 0xFFFFFFFF\n"
+               "lie 2 to 1 says 1111 view word 0xA000001F\nlie 2 to 1 word 0x5000001F view 0000\nloss 2 to 3\nplay 1  # round 1\n")
+        self.assertEqual(disassemble(assemble(self.PARTITIONABLE + run).data()), self.PARTITIONABLE + run)
+
+    def test_unchecked_lies_with_and_without_a_view(self):
+        lies = "cast 2\nlie 2 to 1 says 1111\nlie 2 to 1 says 1111 view 1111\n"
+        words = ["60000002", "81000001", "5000000F", "81000001", "5000000F", "A000000F"]
+        self.assertEqual(self.words(lies, unchecked=True), words)
+        self.assertEqual(self.words(lies, self.PARTITIONABLE, unchecked=True), words)
+
+    def test_a_lie_that_lacks_its_view_is_raw_words(self):
+        for told, said in (["81000001"], "the told word and the told view word of the last lie are missing"), \
+                          (["81000001", "5000000F"], "the told view word of the last lie is missing"):
+            data = assemble(self.PARTITIONABLE + "cast 2\nlie 2 to 1 says 1111 view 1111\nplay 1").data() + bytes.fromhex("".join(told))
+            text = disassemble(data)
+            self.assertEqual(text, f"# refused 14 at {len(data) // 4}: {said}\n# this text assembles with --unchecked only\n" + self.PARTITIONABLE
+                             + "cast 2\nlie 2 to 1 says 1111 view 1111\nplay 1  # round 1\n" + "".join(f"word 0x{word}\n" for word in told))
+            self.assertEqual(assemble(text, unchecked=True).data(), data)
+
+    def test_any_told_words_come_back_bit_for_bit(self):
+        chance = random.Random(11)
+        for _ in range(2_000):
+            told = [chance.choice([chance.getrandbits(32), 0x50000000 | chance.getrandbits(5), 0xA0000000 | chance.getrandbits(5)]) for _ in range(4)]
+            words = ["60000002", "81000001", *(f"{word:08X}" for word in told[:2]), "8100000E", *(f"{word:08X}" for word in told[2:]), "90000001"]
+            data = assemble(self.PARTITIONABLE, unchecked=True).data() + bytes.fromhex("".join(words))
+            self.assertIsNone(check.refusal(data))
+            self.assertEqual(assemble(disassemble(data)).data(), data)
+
     def test_a_refused_script_keeps_its_return_limit(self):
         for old, new, refusal in [("play 2", "play 0", "12 at 9"), ("penalty limit 1", "penalty limit 0", "4 at 1"), ("reward limit 3", "reward limit 0", "4 at 2")]:
             data = assemble(SHEET.replace("module 1", "return limit 7\nmodule 1").replace(old, new), unchecked=True).data()
@@ -229,6 +275,13 @@ class Errors(unittest.TestCase):
         ("loss 2 to all\nplay 2  # rounds 1 to 2\n", "", 8, "nothing is played (refused 14 at 8)"),
         ("play 2", "play 1000\n" * 101, 111, "over 100,000 (refused 15 at 109)"),
         ("play 2", "loss 1 to all\n" * 16380 + "play 1", 16386, "over 65,536 (refused 16 at 0)"),
+        ("modules 4", "partitionable\nmodules 4", 1, "the number of modules must stand before this"),
+        ("modules 4", "modules 4\npartitionable\npartitionable", 3, "'partitionable' stands twice"),
+        ("modules 4", "modules 4\npartitionable yes", 2, "the form is: partitionable, alone"),
+        ("cast none", "partitionable\ncast none", 8, "'partitionable' must stand before module 1"),
+        ("module 2 place", "module 2 partitionable place", 5, "'partitionable' cannot be a name"),
+        ("module 2 place", "module 2 view place", 5, "'view' cannot be a name"),
+        ("loss 2 to all", "lie 2 to all says 1111 view 1111", 10, "a view is told only where the setup is partitionable"),
         (SHEET, "# nothing\n", 1, "the script is empty (refused 1 at 0)"),
         (SHEET, "modules 4\npenalty limit 1\n", 2, "the setup of 4 modules has 7 words"),
     ]
@@ -261,8 +314,27 @@ class Errors(unittest.TestCase):
         (FADING_SHEET.split("module 4 ")[1], "place 4 criticality 1\n", 6, "the cast is missing (refused 14 at 10)"),
     ]
 
+    LIE = "says 1011 view 1111"
+    PARTITIONABLE_SHEET = SHEET.replace("module 1", "partitionable\nmodule 1").replace("cast none\n\nloss 2 to all", f"cast 2\n\nlie 2 to all {LIE}")
+    PARTITIONABLE_CASES = [
+        (LIE, "says 1011", 11, "the setup is partitionable, so a lie tells a view too: view VECTOR, or view word 0xHEX"),
+        (LIE, "word 0x5000000F", 11, "the setup is partitionable, so a lie tells a view too"),
+        (LIE, "says 1011 view", 11, "the form is: lie SENDER to RECEIVERS says VECTOR"),
+        (LIE, "says 1011 view word", 11, "the form is: lie SENDER to RECEIVERS says VECTOR"),
+        (LIE, "says 1011 view 1111 1111", 11, "the form is: lie SENDER to RECEIVERS says VECTOR"),
+        (LIE, "says 1011 views 1111", 11, "the form is: lie SENDER to RECEIVERS says VECTOR"),
+        (LIE, "view 1111 says 1011", 11, "after 'all' only 'but' and a list of modules can stand"),
+        (LIE, "says 1011 view 111", 11, "a view has one digit 0 or 1 for each of 4 modules, module 1 leftmost, and not '111'"),
+        (LIE, "says 101 view 1111", 11, "a syndrome has one digit 0 or 1 for each of 4 modules"),
+        (LIE, "says 1011 view 0xA000000F", 11, "a view has one digit 0 or 1 for each of 4 modules"),
+        (LIE, "says 1011 view word 1111", 11, "a raw word is 0x and eight hexadecimal digits, and not '1111'"),
+        ("cast 2", "cast 1", 11, "module 2 lies but is not in the cast (refused 13 at 8)"),
+        ("play 2", "play 2\nlie 2 to 1 says 1111 view 1111", 13, "never played (refused 14 at 15)"),
+        ("partitionable\n", "", 10, "a view is told only where the setup is partitionable"),
+    ]
+
     def test_errors_name_the_line_and_what_is_wrong(self):
-        for sheet, cases in ((SHEET, self.CASES), (FADING_SHEET, self.FADING_CASES)):
+        for sheet, cases in ((SHEET, self.CASES), (FADING_SHEET, self.FADING_CASES), (self.PARTITIONABLE_SHEET, self.PARTITIONABLE_CASES)):
             for old, new, line, part in cases:
                 with self.subTest(part):
                     self.assertIn(old, sheet)
@@ -330,6 +402,8 @@ class Command(unittest.TestCase):
         self.assertIn(b"penalty limit 1", ran.stdout)
         self.assertIn(b"return limit 5", ran.stdout)
         self.assertIn(b"fading factor 0.5 limit 3.0", ran.stdout)
+        self.assertIn(b"partitionable  ", ran.stdout)
+        self.assertIn(b"lie 2 to 3 says 1011 view 1111 ", ran.stdout)
 
     @needs_bench
     def test_the_bench_plays_what_is_assembled(self):

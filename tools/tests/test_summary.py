@@ -1,7 +1,7 @@
 import tempfile
 import unittest
 
-from common import FADING_SHEET, SHEET, printed, read, root, stored, tool
+from common import FADING_SHEET, SHEET, partitionable, printed, read, root, stored, tool
 
 from runtools import check, script
 from runtools.account import Account, ranges_text
@@ -75,7 +75,7 @@ Left the view:
         self.assertIn("all modules, so there is no rule-follower", told(output, SETUP + "cast all\nplay 1"))
 
     def test_no_stored_run_has_a_fault(self):
-        for name, data, output in stored("vectors", "e06", "e09"):
+        for name, data, output in [*stored("vectors", "e06", "e09"), *partitionable()]:
             if check.refusal(data) is None:
                 with self.subTest(name):
                     account = Account(read_run(output.splitlines(True)), script.load(data, name))
@@ -206,7 +206,15 @@ class Events(unittest.TestCase):
         text = SETUP + "cast 2\nloss 1 to all\nplay 3\nloss 2 to 1 3\nlie 2 to 1 4 says 1111\nloss 2 to 4\nplay 2"
         loaded = script.load(text.encode(), "text")
         self.assertEqual(loaded.rounds, 5)
-        self.assertEqual(loaded.events, {1: {1: ([1, 2, 3, 4], [])}, 4: {2: ([3, 4], [(1, 0x5000000F)])}})
+        self.assertEqual(loaded.events, {1: {1: ([1, 2, 3, 4], [])}, 4: {2: ([3, 4], [(1, 0x5000000F, None)])}})
+
+    def test_a_told_view_goes_with_its_told_word(self):
+        setup = SETUP.replace("module 1", "partitionable\nmodule 1")
+        text = setup + "cast 2\nlie 2 to all says 1111 view 1110\nlie 2 to 3 says 1011 view word 0x00000000\nloss 2 to 4\nplay 1"
+        loaded = script.load(text.encode(), "text")
+        self.assertEqual(loaded.events, {1: {2: ([4], [(1, 0x5000000F, 0xA0000007), (2, 0x5000000F, 0xA0000007), (3, 0x5000000D, 0)])}})
+        self.assertTrue(loaded.partitionable)
+        self.assertFalse(script.load(SHEET.encode(), "text").partitionable)
 
     def test_u(self):
         self.assertEqual(script.load(SHEET.encode(), "text").u, 0)

@@ -1,8 +1,8 @@
--- What a module's state remembers of a session: after alignment every entry of step k is of round k - u, and a word sent in a round holds the
--- syndrome of the round before.
+-- What a module's state remembers of a session: after alignment every entry of step k is of round k - u; a word sent in a round holds the syndrome of
+-- the round before, and a view word the local view.
 use Prim.Native.Nat.{ℕ, zero, suc, _+_, _-_, _<_}
 use mathlib.Core.Path.{_≡_, sym, ap, ap₂, _∙_}
-use mathlib.Core.Bool.{true, false, cond, not}
+use mathlib.Core.Bool.{Bool, true, false, cond, not}
 use mathlib.Core.Logic.{_⊎_, inl, inr, ⊎-elim}
 use mathlib.Core.List.{List}
 use native.Mathlib.Omega.{arith}
@@ -12,23 +12,23 @@ use borrow.Author.Tests.{lt-ltb, eqb-true, not-false}
 use Rattle.words.specs.Word.{wordAt}
 use Rattle.words.specs.Bits.{bit, full}
 use Rattle.words.specs.Count.{any}
-use Rattle.words.proofs.Truth.{which}
+use Rattle.words.proofs.Truth.{which, cond-true, cond-false}
 use Rattle.words.proofs.BitLaws.{bit-pack, bit-full, full-lt}
 use Rattle.words.proofs.CountLaws.{any-none}
 use Rattle.words.proofs.ArrayLaws.{array-at}
-use Rattle.words.proofs.ByteLaws.{word-of}
 use Rattle.rules.specs.Lag.{skewed}
 use Rattle.rules.specs.Hearing.{busWord, entryOf}
 use Rattle.rules.specs.Alignment.{fromPrevious}
 use Rattle.rules.specs.Syndrome.{outgoingOf}
+use Rattle.views.specs.ViewWord.{viewWord}
 use Rattle.presence.specs.Opening.{fresh}
-use Rattle.presence.specs.Step.{skewOf, placeOf, markOf, ownSyndrome, alignedFor, outgoingFor, afterRound}
+use Rattle.presence.specs.Step.{skewOf, placeOf, markOf, ownSyndrome, alignedFor, outgoingFor, outgoingView, afterRound}
 use Rattle.rules.specs.declared.Entry.{Entry}
 use Rattle.presence.specs.declared.State.{State}
 use Rattle.rules.proofs.ReceptionLaws.{below-kind, row-of-bus, bus-heard, entry-row, reading-heard, reading-row}
 use Rattle.rules.proofs.AlignmentLaws.{aligned-heard, aligned-row}
-use Rattle.agreement.specs.Session.{Session, Accepted, size, u, bitIn, wordIn, readRound, readBits, readBytes, state, handed, sent}
-use Rattle.agreement.proofs.Steps.{reading, small, held, state-zero, state-suc, handed-suc, syndrome-suc}
+use Rattle.agreement.specs.Session.{Session, Accepted, size, u, bitIn, wordIn, readRound, readBits, readBytes, state, handed, sent, viewWordHanded, viewWordSent, viewOf}
+use Rattle.agreement.proofs.Steps.{reading, read-word, small, held, state-zero, state-suc, handed-suc, view-handed-suc, syndrome-suc}
 
 -- rule 1, by cases
 lag-cases : (n : ℕ) (places : List ℕ)
@@ -59,12 +59,12 @@ module _ (S : Session) (ok : Accepted S) where
   module _ (i : ℕ) (below : i < size S) where
     -- ---- this read, and the one before: each entry is of the round that rule 3 gives
 
-    read-zero : (j : ℕ) → readRound S i 0 j ≡ 0
+    pub read-zero : (j : ℕ) → readRound S i 0 j ≡ 0
     unfolding readRound
     read-zero j = ⊎-elim (λ (t : ltb j (getD (S .setup .places) i 0) ≡ true). rw t) (λ (f : ltb j (getD (S .setup .places) i 0) ≡ false). rw f) (which _)
 
     read-entry : (k j : ℕ) → j < size S → entryOf (size S) (bit (readBits S i k) j) (wordAt (readBytes S i k) j) ≡ entry S (readRound S i k j) i j
-    read-entry k j hj = ap₂ (λ b w. entryOf (size S) b w) (bit-pack (size S) _ j hj) (word-of (size S) _ j hj)
+    read-entry k j hj = ap₂ (λ b w. entryOf (size S) b w) (bit-pack (size S) _ j hj) (read-word S i k j hj)
 
     this-heard : (k j : ℕ) → j < size S → bit (reading S i k .heard) j ≡ entry S (readRound S i k j) i j .heard
     this-heard k j hj = reading-heard (size S) _ _ j hj ∙ ap (λ (e : Entry). e .heard) (read-entry k j hj)
@@ -88,7 +88,7 @@ module _ (S : Session) (ok : Accepted S) where
 
     -- ---- rule 3: after alignment every entry is of the deciding round
 
-    own-place : (k : ℕ) → placeOf (state S i k) ≡ getD (S .setup .places) i 0
+    pub own-place : (k : ℕ) → placeOf (state S i k) ≡ getD (S .setup .places) i 0
     unfolding placeOf
     own-place k =
         let h = held S ok i below k in
@@ -101,7 +101,7 @@ module _ (S : Session) (ok : Accepted S) where
     pub own-size : (k : ℕ) → state S i k .setup .n ≡ size S
     own-size k = held S ok i below k .size-is
 
-    one-round : {A : Type 0} (k j : ℕ) → j < size S → (f : ℕ → A) (old new : A) → old ≡ f (readRound S i k j) → new ≡ f (readRound S i (suc k) j)
+    pub one-round : {A : Type 0} (k j : ℕ) → j < size S → (f : ℕ → A) (old new : A) → old ≡ f (readRound S i k j) → new ≡ f (readRound S i (suc k) j)
         → cond (fromPrevious (skewed (size S) (S .setup .places)) (getD (S .setup .places) i 0) j) old new ≡ f (suc k - u S)
     unfolding readRound
     one-round k j hj f old new p q =
@@ -192,4 +192,37 @@ module _ (S : Session) (ok : Accepted S) where
         ⊎-elim
         (λ (t : bit (S .setup .marks) i ≡ true). let h = handed-is k in cc)
         (λ (f : bit (S .setup .marks) i ≡ false). let h = unmarked k f in cc)
+        (which _)
+
+    -- ---- a view word sent in a round holds the local view of the round before (lemma 12 of document 002); without head bit 5 it is 0
+
+    abbrev heldWord : ℕ → ℕ
+    heldWord k = cond (S .setup .partitionable) (viewWord (viewOf S i k)) 0
+
+    view-handed-is : (k : ℕ) → viewWordHanded S i (suc k) ≡ cond (bit (S .setup .marks) i) (heldWord k) (heldWord (suc k))
+    unfolding outgoingView
+    view-handed-is k =
+        let m = own-mark k in
+        let p = held S ok i below k .partitionable-is in
+        view-handed-suc S ok i below k ∙ go _ _ p _ _ m
+      where
+        go : (b b′ : Bool) → b ≡ b′ → (m m′ : Bool) → m ≡ m′
+            → cond b (viewWord (cond m (viewOf S i k) (viewOf S i (suc k)))) 0 ≡ cond m′ (cond b′ (viewWord (viewOf S i k)) 0) (cond b′ (viewWord (viewOf S i (suc k))) 0)
+        go b true e m true f = rw (e, f)
+        go b true e m false f = rw (e, f)
+        go b false e m true f = rw e
+        go b false e m false f = rw e
+
+    view-unmarked : (k : ℕ) → bit (S .setup .marks) i ≡ false → viewWordHanded S i k ≡ heldWord k
+    unfolding viewWordHanded fresh
+    view-unmarked zero f = sym (ap (λ (st : State). cond (S .setup .partitionable) (viewWord (st .counters .view)) 0) (state-zero S ok i below))
+    view-unmarked (suc k) f = view-handed-is k ∙ cond-false _ _ f
+
+    pub view-sent-is : (k : ℕ) → viewWordSent S i (suc k) ≡ heldWord k
+    unfolding viewWordSent
+    view-sent-is k =
+        let e : suc k - 1 ≡ k = omega arith in
+        ⊎-elim
+        (λ (t : bit (S .setup .marks) i ≡ true). cond-true _ _ t ∙ view-handed-is k ∙ cond-true _ _ t)
+        (λ (f : bit (S .setup .marks) i ≡ false). cond-false _ _ f ∙ ap (viewWordHanded S i) e ∙ view-unmarked k f)
         (which _)

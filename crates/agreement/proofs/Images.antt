@@ -1,7 +1,7 @@
 -- An image in a life is the image of the state of a life: reading it back gives that state.
 use Prim.Native.Nat.{ℕ, zero, suc, _+_, _-_, _*_, _^_, _≤_, _<_}
 use mathlib.Core.Path.{_≡_, refl, sym, ap, ap₂, _∙_, subst}
-use mathlib.Core.Bool.{Bool, true, cond}
+use mathlib.Core.Bool.{Bool, true, false, cond}
 use mathlib.Core.List.{List, [], _∷_}
 use native.Mathlib.Omega.{arith}
 use lib.ListN.{length}
@@ -10,10 +10,9 @@ use Rattle.words.specs.Word.{wordAt}
 use Rattle.words.specs.Bits.{full}
 use Rattle.words.proofs.Truth.{cond-both}
 use Rattle.words.proofs.BitLaws.{pack-lt}
-use Rattle.words.proofs.ByteLaws.{bytes-length}
 use Rattle.words.specs.Verdict.{accepted, isAccepted}
 use Rattle.setup.specs.Layout.{frontWords}
-use Rattle.setup.specs.Setup.{frontIn, frontOf, setupOf}
+use Rattle.setup.specs.Setup.{partitionableIn, frontIn, frontOf, setupOf}
 use Rattle.setup.specs.Check.{setupVerdict}
 use Rattle.setup.specs.RoundTrip.{ShapedSetup}
 use Rattle.words.specs.declared.Verdict.{Verdict}
@@ -22,34 +21,50 @@ use Rattle.setup.proofs.SetupRoundTrip.{round-trip as setups}
 use Rattle.rules.specs.Hearing.{busWord}
 use Rattle.changes.specs.Pending.{pendingOf}
 use Rattle.changes.specs.declared.Pending.{Pending}
+use Rattle.views.specs.ViewWord.{viewWord, readWords}
+use Rattle.views.specs.Views.{fullViews, freshViews}
 use Rattle.image.specs.Layout.{imageLength}
 use Rattle.image.specs.Check.{leftIn, imageLengthIn, checkImage}
 use Rattle.presence.specs.Opening.{fresh, openOf}
 use Rattle.presence.specs.Step.{markOf}
 use Rattle.presence.specs.Change.{withPending, changeOf}
 use Rattle.presence.specs.Image.{imageOf, stateOf, stateLength, roomFor}
-use Rattle.calls.specs.Calls.{Called, handedOut, openCall, stepCall, changeCall, outgoingCall}
+use Rattle.calls.specs.Calls.{Called, handedOut, viewHandedOut, openCall, stepCall, changeCall, outgoingCall, outgoingViewCall}
 use Rattle.presence.specs.RoundTrip.{Shaped}
 use Rattle.calls.specs.Refusals.{sizeOf}
 use Rattle.presence.specs.declared.State.{State}
 use Rattle.presence.specs.declared.Stepped.{Stepped}
 use Rattle.calls.specs.declared.WordAnswer.{WordAnswer}
 use Rattle.presence.proofs.StateChangeLaws.{change-refused, change-taken}
-use Rattle.calls.proofs.ModuleCallLaws.{read-sized, left-is, handed-out}
+use Rattle.calls.proofs.ModuleCallLaws.{read-sized, left-is, handed-out, view-handed-out}
 use Rattle.presence.proofs.RoundTrip.{round-trip as states}
 use Rattle.calls.proofs.CallAnswers.{open-writes, step-writes, change-writes, change-passed, change-passes, save-writes}
 use Rattle.calls.proofs.Refusals.{open-accepted, step-accepted, save-accepted}
 use Rattle.page.proofs.PageRefusals.{refusals, open-accepted as page-open-accepted, step-accepted as page-step-accepted}
 use Rattle.page.proofs.Promise.{promise}
-use Rattle.agreement.specs.Session.{Offer, Session, Accepted, size, RuleFollower, readBits, readBytes, answerAt, state, ready, health, handed, Common, Bound}
+use Rattle.agreement.specs.Session.{Offer, Session, Accepted, size, RuleFollower, readBits, readBytes, answerAt, state, ready, health, handed, viewWordHanded, Common, Bound}
 use Rattle.agreement.specs.Life.{Life, opens, steps, changes}
 use Rattle.agreement.specs.Demand.{KeptTo}
 use Rattle.agreement.specs.Images.{ImageLife, opens as image-opens, steps as image-steps, changes as image-changes, skips, page-opens, page-steps, saves, refused, SetUp, lengthWith, Opens, Kept, ImageAgreement, Demand3C}
-use Rattle.agreement.proofs.Steps.{reading, Held, ready-held, state-zero, taken, life, life-held}
+use Rattle.agreement.proofs.Steps.{reading, read-length, Held, ready-held, state-zero, taken, life, life-held}
 use Rattle.agreement.proofs.Demand.{when-between, demand-3}
 
+-- the view word of a fresh module is that of the full view, marked or not
+full-either : (mark : Bool) (n : ℕ) → cond mark (full n) (full n) ≡ full n
+full-either true n = refl
+full-either false n = refl
+
+full-handed : (b mark : Bool) (n : ℕ) → cond b (viewWord (cond mark (freshViews b n .earlier) (full n))) 0 ≡ cond b (viewWord (full n)) 0
+unfolding freshViews fullViews
+full-handed true mark n = ap viewWord (full-either mark n)
+full-handed false mark n = refl
+
+fresh-view : (s : Setup) (own : ℕ) → viewHandedOut (fresh s own) ≡ cond (s .partitionable) (viewWord (full (s .n))) 0
+unfolding viewHandedOut fresh
+fresh-view s own = full-handed (s .partitionable) (markOf (fresh s own)) (s .n)
+
 module _ (S : Session) (setup : List ℕ) (set-up : SetUp S setup) where
-  ok : Accepted S
+  pub ok : Accepted S
   ok =
       ap (λ (s : Setup). setupVerdict s .number) (set-up .same)
       ∙ ap (λ (v : Verdict). v .number) (setups .read-accepted setup (set-up .accepted) .0)
@@ -165,7 +180,20 @@ module _ (S : Session) (setup : List ℕ) (set-up : SetUp S setup) where
         ∙ ap busWord (cond-both (λ v. v ≡ full (size S)) (markOf (fresh (S .setup) (i + 1))) (full (size S)) (full (size S)) refl refl)
     handed-is (suc k) =
         let e = taken S ok i below (suc k) (ready S i k) (ready-held S ok i below k) in
-        ap (λ (t : Stepped). handedOut (t .state)) e ∙ sym (handed-out (ready S i k) (reading S i (suc k)) _) ∙ ap (λ (t : Stepped). t .word) (sym e)
+        ap (λ (t : Stepped). handedOut (t .state)) e ∙ sym (handed-out (ready S i k) (reading S i (suc k)) _ _) ∙ ap (λ (t : Stepped). t .word) (sym e)
+
+    -- and so is the view word
+    view-handed-is : (k : ℕ) → viewHandedOut (state S i k) ≡ viewWordHanded S i k
+    unfolding state viewWordHanded
+    view-handed-is zero = ap viewHandedOut (state-zero S ok i below) ∙ fresh-view (S .setup) (i + 1)
+    view-handed-is (suc k) =
+        let e = taken S ok i below (suc k) (ready S i k) (ready-held S ok i below k) in
+        ap (λ (t : Stepped). viewHandedOut (t .state)) e ∙ sym (view-handed-out (ready S i k) (reading S i (suc k)) _ _)
+        ∙ ap (λ (t : Stepped). t .second) (sym e)
+
+    view-same : (st : State) (p : Pending) → viewHandedOut (withPending st p) ≡ viewHandedOut st
+    unfolding viewHandedOut markOf
+    view-same st p = refl
 
     -- what is pending has no part in it
     handed-same : (st : State) (p : Pending) → handedOut (withPending st p) ≡ handedOut st
@@ -195,26 +223,34 @@ module _ (S : Session) (setup : List ℕ) (set-up : SetUp S setup) where
       unfolding stateOf setupOf
       sized = holding .size-is
 
-      read-whole : length (readBytes S i (suc k)) ≡ sizeOf image * 4
-      read-whole = bytes-length (size S) _ ∙ ap (λ (n : ℕ). n * 4) (sym sized)
+      parted : partitionableIn (wordAt image 0) ≡ S .setup .partitionable
+      unfolding stateOf setupOf
+      parted = holding .partitionable-is
+
+      read-whole : length (readBytes S i (suc k)) ≡ readWords (partitionableIn (wordAt image 0)) (sizeOf image) * 4
+      read-whole = read-length S i (suc k) ∙ ap₂ (λ (b : Bool) (n : ℕ). readWords b n * 4) (sym parted) (sym sized)
 
       bits-below : readBits S i (suc k) < 2 ^ sizeOf image
       bits-below = subst (λ (n : ℕ). readBits S i (suc k) < 2 ^ n) (sym sized) (pack-lt (size S) _)
 
       -- the lengths of the session are those that the image asks for
       room : (left : ℕ) → lengthWith S left ≡ stateLength (stateOf image) left
-      room left = ap₂ (λ (b : Bool) (n : ℕ). imageLength (frontWords b) n left) (sym (holding .fades-is)) (sym (holding .size-is))
+      room left =
+          let f = holding .fades-is in
+          let n = holding .size-is in
+          let p = holding .partitionable-is in
+          λ x. imageLength (frontWords (sym f x)) (sym n x) left (sym p x)
 
-      room-in : (left : ℕ) → lengthWith S left ≡ imageLength (frontIn (wordAt image)) (sizeOf image) left
+      room-in : (left : ℕ) → lengthWith S left ≡ imageLength (frontIn (wordAt image)) (sizeOf image) left (partitionableIn (wordAt image 0))
       unfolding stateOf
       room-in left = room left ∙ sym (read-sized image left)
 
       room-left : lengthWith S (stateOf image .pending .left) ≡ imageLengthIn image
-      room-left = room-in (stateOf image .pending .left) ∙ ap (imageLength (frontIn (wordAt image)) (sizeOf image)) (left-is image)
+      room-left = room-in (stateOf image .pending .left) ∙ ap (λ (m : ℕ). imageLength (frontIn (wordAt image)) (sizeOf image) m (partitionableIn (wordAt image 0))) (left-is image)
 
-      room-after : lengthWith S (stateOf image .pending .left - 1) ≡ imageLength (frontIn (wordAt image)) (sizeOf image) (leftIn image - 1)
+      room-after : lengthWith S (stateOf image .pending .left - 1) ≡ imageLength (frontIn (wordAt image)) (sizeOf image) (leftIn image - 1) (partitionableIn (wordAt image 0))
       room-after =
-          room-in (stateOf image .pending .left - 1) ∙ ap (λ (m : ℕ). imageLength (frontIn (wordAt image)) (sizeOf image) (m - 1)) (left-is image)
+          room-in (stateOf image .pending .left - 1) ∙ ap (λ (m : ℕ). imageLength (frontIn (wordAt image)) (sizeOf image) (m - 1) (partitionableIn (wordAt image 0))) (left-is image)
 
       room-changed : (new : List ℕ) (lead : ℕ) (out : List ℕ) → changeOf (stateOf image) (setupOf new) lead .number ≡ 0 → length out ≡ lengthWith S lead
           → roomFor (changeOf (stateOf image) (setupOf new) lead .state) out ≡ true
@@ -234,6 +270,14 @@ module _ (S : Session) (setup : List ℕ) (set-up : SetUp S setup) where
           (ap handedOut (when-between S i k h (stateOf image) os (life S ok i below k h os (stateOf image) lives))
           ∙ handed-same (state S i k) (stateOf image .pending) ∙ handed-is k)
 
+      outgoing-view : outgoingViewCall image ≡ record { number = 0; index = 0; word = viewWordHanded S i k }
+      unfolding outgoingViewCall told
+      outgoing-view =
+          ap (λ (v : Verdict). told v (viewHandedOut (stateOf image))) passes
+          ∙ ap (told accepted)
+          (ap viewHandedOut (when-between S i k h (stateOf image) os (life S ok i below k h os (stateOf image) lives))
+          ∙ view-same (state S i k) (stateOf image .pending) ∙ view-handed-is k)
+
       kept : Kept S i k os image h
       kept =
           record {
@@ -247,13 +291,14 @@ module _ (S : Session) (setup : List ℕ) (set-up : SetUp S setup) where
                 let z = save-accepted image out good (e ∙ room-left) in
                 (z, save-writes image out z ∙ ap imageOf st-is ∙ sym (is .written));
             outgoing = outgoing;
+            outgoing-view = outgoing-view;
           }
 
     opens-so : Opens S setup i
     opens-so =
         let most : i + 1 ≤ sizeOf setup = omega (arith, setup-size) in
-        let room : lengthWith S 0 ≡ imageLength (frontIn (wordAt setup)) (sizeOf setup) 0 =
-        ap (λ (s : Setup). imageLength (frontOf s) (s .n) 0) (set-up .same) ∙ sym (read-sized setup 0)
+        let room : lengthWith S 0 ≡ imageLength (frontIn (wordAt setup)) (sizeOf setup) 0 (partitionableIn (wordAt setup 0)) =
+        ap (λ (s : Setup). imageLength (frontOf s) (s .n) 0 (s .partitionable)) (set-up .same) ∙ sym (read-sized setup 0)
         in
         record {
           alone = λ out e. open-accepted setup (i + 1) out (set-up .accepted) (omega arith) most (e ∙ room);

@@ -4,6 +4,7 @@ pub mod Agreement
 pub mod Offers
 pub mod Steps
 pub mod Aligned
+pub mod VotedViews
 pub mod Shared
 pub mod Meets
 pub mod Ledger

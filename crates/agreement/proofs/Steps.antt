@@ -1,19 +1,23 @@
 -- The steps of a session: every one is accepted, and gives what rules 1 to 8 make of its read. A module's life is its steps and its changes.
 use Prim.Native.Nat.{ℕ, zero, suc, _+_, _*_, _^_, _≤_, _<_}
-use mathlib.Core.Path.{_≡_, refl, sym, ap, _∙_, subst}
+use mathlib.Core.Path.{_≡_, refl, sym, ap, ap₂, _∙_, subst}
+use mathlib.Core.Bool.{Bool, true, false, cond}
 use mathlib.Core.List.{List, [], _∷_, _++_}
 use native.Mathlib.Omega.{arith}
-use lib.ListN.{length}
+use lib.ListN.{length, length-append}
+use Rattle.words.specs.Word.{wordAt}
+use Rattle.words.proofs.Truth.{cond-true, cond-both}
 use Rattle.words.proofs.BitLaws.{pack-lt}
-use Rattle.words.proofs.ByteLaws.{bytes-length}
+use Rattle.words.proofs.ByteLaws.{bytes-length, word-of, word-front, word-after}
 use Rattle.setup.specs.Limits.{fades}
 use Rattle.setup.proofs.SetupLaws.{SetupFits, verdict-fits}
 use Rattle.rules.specs.Hearing.{readingOf, causesOf}
 use Rattle.changes.specs.Books.{counted, booksAfter}
-use Rattle.changes.proofs.TurnLaws.{turned-size, turned-q, turned-marks, turned-places, turned-fades}
+use Rattle.changes.proofs.TurnLaws.{turned-size, turned-q, turned-partitionable, turned-marks, turned-places, turned-fades}
+use Rattle.views.specs.ViewWord.{readWords, viewsSeen}
 use Rattle.presence.specs.Valid.{Valid}
 use Rattle.presence.specs.Opening.{fresh, openOf}
-use Rattle.presence.specs.Step.{placeOf, markOf, ownSyndrome, alignedFor, judgementFor, outgoingFor, booksOf, afterRound, acceptedStep}
+use Rattle.presence.specs.Step.{placeOf, markOf, ownSyndrome, readLength, alignedFor, judgementFor, outgoingFor, booksOf, votedViews, viewsFor, outgoingView, afterRound, acceptedStep}
 use Rattle.presence.specs.Change.{withPending, changeOf}
 use Rattle.rules.specs.declared.Reading.{Reading}
 use Rattle.presence.specs.declared.State.{State}
@@ -22,7 +26,7 @@ use Rattle.presence.specs.declared.Stepped.{Stepped}
 use Rattle.presence.proofs.ValidLaws.{StateFits, fits-valid, fresh-fits, after-fits}
 use Rattle.presence.proofs.StateStepLaws.{step-accepts, step-refused, open-accepts}
 use Rattle.presence.proofs.StateChangeLaws.{change-refused}
-use Rattle.agreement.specs.Session.{Offer, made, Session, Accepted, size, readBits, readBytes, answerAt, state, ready, health, handed}
+use Rattle.agreement.specs.Session.{Offer, made, Session, Accepted, Partitionable, size, wordIn, viewWordIn, readRound, readBits, syndromeBytes, viewBytes, readBytes, answerAt, state, ready, health, handed, viewWordHanded, viewOf}
 use Rattle.agreement.specs.Life.{Life, opens, steps, changes, refused-step, refused-change, refused-opening}
 use Rattle.agreement.specs.Demand.{ByRules}
 use Rattle.agreement.proofs.Offers.{made-fits, made-only, made-join, shift, join-end}
@@ -31,15 +35,43 @@ use Rattle.agreement.proofs.Offers.{made-fits, made-only, made-join, sh
 abbrev pub reading : Session → ℕ → ℕ → Reading
 reading S i k = readingOf (size S) (readBytes S i k) (readBits S i k)
 
+-- its view words
+abbrev pub seen : Session → ℕ → ℕ → List ℕ
+seen S i k = viewsSeen (S .setup .partitionable) (size S) (readBytes S i k) (readBits S i k)
+
 -- its causes
 abbrev pub causes : Session → ℕ → ℕ → List ℕ
 causes S i k = causesOf (size S) (readBytes S i k) (readBits S i k)
+
+-- the first N words of a read are its syndromes, whether view words follow or not
+pub read-word : (S : Session) (i k j : ℕ) → j < size S → wordAt (readBytes S i k) j ≡ wordIn S (readRound S i k j) i j
+read-word S i k j h =
+    let l = bytes-length (size S) (λ j. wordIn S (readRound S i k j) i j) in
+    cond-both (λ (read : List ℕ). wordAt read j ≡ wordIn S (readRound S i k j) i j) (S .setup .partitionable) _ _
+    (word-front (syndromeBytes S i k) (viewBytes S i k) j (omega arith) ∙ word-of (size S) _ j h) (word-of (size S) _ j h)
+
+-- and where they follow, they are the next N
+pub read-view : (S : Session) → Partitionable S → (i k j : ℕ) → j < size S → wordAt (readBytes S i k) (size S + j) ≡ viewWordIn S (readRound S i k j) i j
+read-view S p i k j h =
+    ap (λ (read : List ℕ). wordAt read (size S + j)) (cond-true (syndromeBytes S i k ++ viewBytes S i k) (syndromeBytes S i k) p)
+    ∙ word-after (syndromeBytes S i k) (viewBytes S i k) (size S) j (bytes-length (size S) _) ∙ word-of (size S) _ j h
+
+pub read-length : (S : Session) (i k : ℕ) → length (readBytes S i k) ≡ readWords (S .setup .partitionable) (size S) * 4
+read-length S i k = go (S .setup .partitionable)
+  where
+    go : (b : Bool) → length (cond b (syndromeBytes S i k ++ viewBytes S i k) (syndromeBytes S i k)) ≡ readWords b (size S) * 4
+    go true =
+        let a : length (syndromeBytes S i k) ≡ size S * 4 = bytes-length (size S) _ in
+        let b : length (viewBytes S i k) ≡ size S * 4 = bytes-length (size S) _ in
+        length-append (syndromeBytes S i k) (viewBytes S i k) ∙ omega arith
+    go false = bytes-length (size S) _
 
 -- what every state of a session is: of the setup it was opened from, P, R and the criticalities can be new
 pub record Held (S : Session) (i : ℕ) (st : State) : Type 0 where
   pub fits : StateFits st
   pub size-is : st .setup .n ≡ size S
   pub q-is : st .setup .q ≡ S .setup .q
+  pub partitionable-is : st .setup .partitionable ≡ S .setup .partitionable
   pub fades-is : fades (st .setup .limits) ≡ fades (S .setup .limits)
   pub marks-are : st .setup .marks ≡ S .setup .marks
   pub places-are : st .setup .places ≡ S .setup .places
@@ -61,22 +93,27 @@ module _ (S : Session) (ok : Accepted S) where
     opened = open-accepts (S .setup) (i + 1) setup-fits (omega arith) (omega arith)
 
     -- a step on a read of the session
-    pub taken : (k : ℕ) (st : State) → Held S i st → answerAt S i k st ≡ acceptedStep st (reading S i k) (causes S i k)
+    pub taken : (k : ℕ) (st : State) → Held S i st → answerAt S i k st ≡ acceptedStep st (reading S i k) (seen S i k) (causes S i k)
     taken k st h =
         let e : st .setup .n ≡ size S = h .size-is in
-        let l : length (readBytes S i k) ≡ st .setup .n * 4 = bytes-length (size S) _ ∙ ap (λ (n : ℕ). n * 4) (sym e) in
+        let p : st .setup .partitionable ≡ S .setup .partitionable = h .partitionable-is in
+        let l : length (readBytes S i k) ≡ readLength st = read-length S i k ∙ ap₂ (λ (b : Bool) (n : ℕ). readWords b n * 4) (sym p) (sym e) in
         let b : readBits S i k < 2 ^ st .setup .n = subst (λ (n : ℕ). readBits S i k < 2 ^ n) (sym e) (pack-lt (size S) _) in
         step-accepts st (readBytes S i k) (readBits S i k) (h .fits) l b
-        ∙ ap (λ (n : ℕ). acceptedStep st (readingOf n (readBytes S i k) (readBits S i k)) (causesOf n (readBytes S i k) (readBits S i k))) e
+        ∙ ap₂ (λ (b : Bool) (n : ℕ). acceptedStep st (readingOf n (readBytes S i k) (readBits S i k)) (viewsSeen b n (readBytes S i k) (readBits S i k))
+        (causesOf n (readBytes S i k) (readBits S i k))) p e
 
-    after-held : (k : ℕ) (st : State) → Held S i st → Held S i (afterRound st (reading S i k))
+    after-held : (k : ℕ) (st : State) → Held S i st → Held S i (afterRound st (reading S i k) (seen S i k))
     unfolding afterRound booksAfter counted
     after-held k st h =
         record {
-          fits = subst (λ (n : ℕ). StateFits (afterRound st (readingOf n (readBytes S i k) (readBits S i k)))) (h .size-is)
-              (after-fits st (readBytes S i k) (readBits S i k) (h .fits));
+          fits =
+              subst (λ (b : Bool). StateFits (afterRound st (reading S i k) (viewsSeen b (size S) (readBytes S i k) (readBits S i k)))) (h .partitionable-is)
+              (subst (λ (n : ℕ). StateFits (afterRound st (readingOf n (readBytes S i k) (readBits S i k)) (viewsSeen (st .setup .partitionable) n (readBytes S i k) (readBits S i k))))
+              (h .size-is) (after-fits st (readBytes S i k) (readBits S i k) (h .fits)));
           size-is = turned-size (booksOf st) ∙ h .size-is;
           q-is = turned-q (booksOf st) ∙ h .q-is;
+          partitionable-is = turned-partitionable (booksOf st) ∙ h .partitionable-is;
           fades-is = turned-fades (booksOf st) (h .fits .pending) ∙ h .fades-is;
           marks-are = turned-marks (booksOf st) ∙ h .marks-are;
           places-are = turned-places (booksOf st) ∙ h .places-are;
@@ -90,6 +127,7 @@ module _ (S : Session) (ok : Accepted S) where
           fits = made-fits os st (h .fits);
           size-is = ap (λ (x : State). x .setup .n) e ∙ h .size-is;
           q-is = ap (λ (x : State). x .setup .q) e ∙ h .q-is;
+          partitionable-is = ap (λ (x : State). x .setup .partitionable) e ∙ h .partitionable-is;
           fades-is = ap (λ (x : State). fades (x .setup .limits)) e ∙ h .fades-is;
           marks-are = ap (λ (x : State). x .setup .marks) e ∙ h .marks-are;
           places-are = ap (λ (x : State). x .setup .places) e ∙ h .places-are;
@@ -109,6 +147,7 @@ module _ (S : Session) (ok : Accepted S) where
           fits = fresh-fits (S .setup) (i + 1) setup-fits (omega arith) (omega arith);
           size-is = refl;
           q-is = refl;
+          partitionable-is = refl;
           fades-is = refl;
           marks-are = refl;
           places-are = refl;
@@ -126,12 +165,12 @@ module _ (S : Session) (ok : Accepted S) where
       abbrev pub before-step : State
       before-step = withPending (state S i k) (ready S i k .pending)
 
-      step-is : answerAt S i (suc k) (ready S i k) ≡ acceptedStep before-step (reading S i (suc k)) (causes S i (suc k))
+      step-is : answerAt S i (suc k) (ready S i k) ≡ acceptedStep before-step (reading S i (suc k)) (seen S i (suc k)) (causes S i (suc k))
       step-is =
           taken (suc k) (ready S i k) (ready-held k)
-          ∙ ap (λ (st : State). acceptedStep st (reading S i (suc k)) (causes S i (suc k))) (ready-is S i k)
+          ∙ ap (λ (st : State). acceptedStep st (reading S i (suc k)) (seen S i (suc k)) (causes S i (suc k))) (ready-is S i k)
 
-      pub state-suc : state S i (suc k) ≡ afterRound before-step (reading S i (suc k))
+      pub state-suc : state S i (suc k) ≡ afterRound before-step (reading S i (suc k)) (seen S i (suc k))
       unfolding state acceptedStep
       state-suc = ap (λ (t : Stepped). t .state) step-is
 
@@ -143,6 +182,17 @@ module _ (S : Session) (ok : Accepted S) where
       pub handed-suc : handed S i (suc k) ≡ outgoingFor (state S i k) (reading S i (suc k))
       unfolding handed acceptedStep judgementFor alignedFor ownSyndrome placeOf outgoingFor markOf
       handed-suc = ap (λ (t : Stepped). t .word) step-is
+
+      -- and neither does what is made of the view words
+      pub views-suc : state S i (suc k) .views ≡ viewsFor (state S i k) (seen S i (suc k))
+      unfolding afterRound viewsFor votedViews placeOf
+      views-suc = ap (λ (st : State). st .views) state-suc
+
+      pub view-handed-suc : viewWordHanded S i (suc k) ≡ outgoingView (state S i k) (viewOf S i (suc k))
+      unfolding viewWordHanded acceptedStep outgoingView markOf
+      view-handed-suc =
+          ap (λ (t : Stepped). t .second) step-is
+          ∙ ap (λ (st : State). outgoingView (state S i k) (st .counters .view)) (sym state-suc)
 
       pub syndrome-suc : state S i (suc k) .latest ≡ judgementFor (state S i k) (reading S i (suc k)) .syndrome
       unfolding afterRound judgementFor alignedFor ownSyndrome placeOf

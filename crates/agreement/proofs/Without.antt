@@ -14,7 +14,7 @@ use Rattle.presence.specs.declared.State.{State}
 use Rattle.agreement.specs.Session.{Offer, made, Session, Accepted, size, answerAt, state, ready, health, Common}
 use Rattle.agreement.specs.Life.{Life, opens, steps}
 use Rattle.agreement.specs.Existence.{NoChanges}
-use Rattle.agreement.proofs.Steps.{reading, ready-is, state-zero, state-suc, life}
+use Rattle.agreement.proofs.Steps.{reading, seen, ready-is, state-zero, state-suc, life}
 
 -- nothing stands before or after in a list that joins to none
 no-offer : (before later : List Offer) (o : Offer) → before ++ (o ∷ later) ≡ [] → ⊥
@@ -29,13 +29,13 @@ nothing-done (x ∷ done) os e =
     absurd (omega arith)
 
 -- a round of a state with nothing pending
-still-setup : (st : State) (this : Reading) → afterRound (withPending st nothing) this .setup ≡ st .setup
+still-setup : (st : State) (this : Reading) (views : List ℕ) → afterRound (withPending st nothing) this views .setup ≡ st .setup
 unfolding afterRound booksAfter counted turned nothing
-still-setup st this = refl
+still-setup st this views = refl
 
-still-none : (st : State) (this : Reading) → afterRound (withPending st nothing) this .pending ≡ nothing
+still-none : (st : State) (this : Reading) (views : List ℕ) → afterRound (withPending st nothing) this views .pending ≡ nothing
 unfolding afterRound booksAfter counted turned countedDown nothing
-still-none st this = refl
+still-none st this views = refl
 
 module _ (S : Session) (none : NoChanges S) where
   pub common-without : (last : ℕ) → Common S last
@@ -47,18 +47,18 @@ module _ (S : Session) (none : NoChanges S) where
 
   -- the next step, and that nothing is ever pending
   module _ (ok : Accepted S) (i : ℕ) (below : i < size S) where
-    pub round-without : (k : ℕ) → state S i (suc k) ≡ afterRound (state S i k) (reading S i (suc k))
+    pub round-without : (k : ℕ) → state S i (suc k) ≡ afterRound (state S i k) (reading S i (suc k)) (seen S i (suc k))
     round-without k =
         state-suc S ok i below k
-        ∙ ap (λ (st : State). afterRound st (reading S i (suc k))) (sym (ready-is S i k) ∙ ready-without i k)
+        ∙ ap (λ (st : State). afterRound st (reading S i (suc k)) (seen S i (suc k))) (sym (ready-is S i k) ∙ ready-without i k)
 
     pub plain : (k : ℕ) → (state S i k .setup ≡ S .setup) × (state S i k .pending ≡ nothing)
     unfolding fresh
     plain zero = let e = state-zero S ok i below in (ap (λ (st : State). st .setup) e, ap (λ (st : State). st .pending) e)
     plain (suc k) =
         let (a, b) = plain k in
-        let e = round-without k ∙ ap (λ (st : State). afterRound st (reading S i (suc k))) (λ t. withPending (state S i k) (b t)) in
-        (ap (λ (st : State). st .setup) e ∙ still-setup (state S i k) _ ∙ a, ap (λ (st : State). st .pending) e ∙ still-none (state S i k) _)
+        let e = round-without k ∙ ap (λ (st : State). afterRound st (reading S i (suc k)) (seen S i (suc k))) (λ t. withPending (state S i k) (b t)) in
+        (ap (λ (st : State). st .setup) e ∙ still-setup (state S i k) _ _ ∙ a, ap (λ (st : State). st .pending) e ∙ still-none (state S i k) _ _)
 
   -- the life without refused calls
   pub life-without : (i k : ℕ) → Life S i k [] (state S i k) (health S i k)

@@ -3,7 +3,7 @@
 -- Computed in proofs/ChangeCases.antt.
 use Prim.Native.Nat.{ℕ, _+_}
 use mathlib.Core.Path.{_≡_}
-use mathlib.Core.Bool.{Bool, true, cond, not, _&&_, _||_}
+use mathlib.Core.Bool.{Bool, true, false, cond, not, _&&_, _||_}
 use mathlib.Core.List.{List, [], _∷_, _++_}
 use lib.Dec.{eqb, leb}
 use lib.ListN.{getD}
@@ -23,7 +23,7 @@ use Rattle.agreement.specs.Stars.{Case, case, test, right, digits, bound
 -- these Q, P and R, and a criticality for every module
 abbrev pub fourWith : ℕ → ℕ → ℕ → ℕ → Setup
 fourWith q p r k =
-    record { n = 4; q = q; limits = Counts p r; marks = 0; places = array 4 (λ j. 4); criticality = array 4 (λ j. k) }
+    record { n = 4; q = q; partitionable = false; limits = Counts p r; marks = 0; places = array 4 (λ j. 4); criticality = array 4 (λ j. k) }
 
 -- a change to this setup, so many rounds ahead
 abbrev pub offerOf : Setup → ℕ → Offer
@@ -36,6 +36,7 @@ offeringRun s offers hears rows = record {
   cast = 0;
   controller = λ k i j. not (leb k 2 && eqb j 1) && hears k i j;
   word = λ k i j. busWord (cond (leb k 3) (getD (15 ∷ 15 ∷ 13 ∷ 13 ∷ []) k 15) (rows k j));
+  view = λ k i j. 0;
   offers = offers;
 }
 

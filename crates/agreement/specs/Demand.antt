@@ -54,7 +54,8 @@ module _ (S : Session) where
         → ((l : ℕ) → l < size S → l ≢ j → halfHeard S (k - 2 * u S - 1 - u S - 1) l ≡ false)
         → (i h : ℕ) (os : List Offer) (st : State) → RuleFollower S i → Life S i k os st h → bit h j ≡ true
 
--- For every session with an accepted setup, whatever its cast, its controller bits, its words and the changes offered.
+-- For every session with an accepted setup, partitionable or not, whatever its cast, its controller bits, its words, its view words and the changes
+-- offered.
 pub record Demand3 : Type 0 where
   -- all modules, in any session: it need not be bound, nor its changes common
   pub served : (S : Session) → Accepted S → (i : ℕ) → i < size S → Served S i

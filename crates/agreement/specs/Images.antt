@@ -12,10 +12,10 @@ use Rattle.setup.specs.Check.{checkSetup}
 use Rattle.image.specs.Layout.{imageLength}
 use Rattle.presence.specs.Change.{changeOf}
 use Rattle.presence.specs.Image.{imageOf, stateOf}
-use Rattle.calls.specs.Calls.{openCall, stepCall, changeCall, saveCall, outgoingCall}
+use Rattle.calls.specs.Calls.{openCall, stepCall, changeCall, saveCall, outgoingCall, outgoingViewCall}
 use Rattle.page.specs.Calls.{pageOpenCall, pageStepCall}
 use Rattle.page.specs.Refusals.{Refused}
-use Rattle.agreement.specs.Session.{Offer, Session, size, u, RuleFollower, round, readBits, readBytes, handed, Common, Bound, unheard, halfHeard}
+use Rattle.agreement.specs.Session.{Offer, Session, size, u, RuleFollower, round, readBits, readBytes, handed, viewWordHanded, Common, Bound, unheard, halfHeard}
 use Rattle.agreement.specs.Life.{Life}
 use Rattle.agreement.specs.Demand.{KeptTo}
 
@@ -59,7 +59,7 @@ pub record SetUp (S : Session) (setup : List ℕ) : Type 0 where
 
 -- how long an image of the session is, with so many rounds left until a pending change takes effect
 abbrev pub lengthWith : Session → ℕ → ℕ
-lengthWith S left = imageLength (frontOf (S .setup)) (size S) left
+lengthWith S left = imageLength (frontOf (S .setup)) (size S) left (S .setup .partitionable)
 
 -- An opening into an output of the right length is accepted, without a page and with one.
 pub record Opens (S : Session) (setup : List ℕ) (i : ℕ) : Type 0 where
@@ -83,6 +83,8 @@ pub record Kept (S : Session) (i k : ℕ) (os : List Offer) (image : List ℕ) (
   -- The word that presence_outgoing gives is the one handed out in step k, of which `sent` and `Bound` speak: a caller who puts it on the bus
   -- in its round has met what binds a rule-follower.
   pub outgoing : outgoingCall image ≡ record { number = 0; index = 0; word = handed S i k }
+  -- and so is the view word that presence_outgoing_view gives, of which `viewWordSent` and `BoundViews` speak; 0 where the setup is not partitionable
+  pub outgoing-view : outgoingViewCall image ≡ record { number = 0; index = 0; word = viewWordHanded S i k }
 
 -- ---- what holds of rule-followers after round k, as `Agreement` says it of states
 

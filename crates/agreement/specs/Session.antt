@@ -1,11 +1,12 @@
 -- A session: an accepted setup, any cast, for each round, sender and rule-follower a controller bit and a word of any bits, and the changes of limits
--- that each module is offered between its steps. (document 01, "A session"; the fault limit as document 02, E4, has it; changes by document 02, E10)
+-- that each module is offered between its steps; where the setup is partitionable, beside each word a view word. (document 01, "A session"; the fault
+-- limit as document 02, E4, has it; changes by document 02, E10; view words by document 02, E11)
 -- A module is its number less one here: i, j and l stand for modules i + 1, j + 1 and l + 1.
--- Rounds are 1, 2 and on. Round 0 stands for every round before 1, in which all hear all, with all-ones words: so a difference of
+-- Rounds are 1, 2 and on. Round 0 stands for every round before 1, in which all hear all, with all-ones words and full views: so a difference of
 -- rounds such as k - u - 1, which stops at 0, is right as it stands.
 use Prim.Native.Nat.{ℕ, zero, suc, _+_, _-_, _≤_, _<_}
 use mathlib.Core.Path.{_≡_}
-use mathlib.Core.Bool.{Bool, true, cond, not}
+use mathlib.Core.Bool.{Bool, true, cond, not, _&&_}
 use mathlib.Core.List.{List, [], _∷_, _++_}
 use lib.Dec.{ltb}
 use lib.ListN.{getD}
@@ -15,6 +16,7 @@ use Rattle.setup.specs.Check.{setupVerdict}
 use Rattle.setup.specs.declared.Setup.{Setup}
 use Rattle.rules.specs.Lag.{lag}
 use Rattle.rules.specs.Hearing.{busWord, entryOf}
+use Rattle.views.specs.ViewWord.{viewWord, viewWordHeard}
 use Rattle.presence.specs.Opening.{openOf}
 use Rattle.presence.specs.Step.{stepOf}
 use Rattle.presence.specs.Change.{changeOf}
@@ -41,6 +43,8 @@ pub record Session : Type 0 where
   pub controller : ℕ → ℕ → ℕ → Bool
   -- the word, of any bits, by the same
   pub word : ℕ → ℕ → ℕ → ℕ
+  -- the view word, of any bits, by the same. It is looked at only where the setup is partitionable.
+  pub view : ℕ → ℕ → ℕ → ℕ
   -- by round k and module: the changes, refused ones too, that it is offered after its step k - 1, for k = 1 its opening, and before its step k, in
   -- their order. What stands for round 0 is not looked at.
   pub offers : ℕ → ℕ → List Offer
@@ -49,6 +53,10 @@ module _ (S : Session) where
   -- the setup is one that opening accepts
   abbrev pub Accepted : Type 0
   Accepted = setupVerdict (S .setup) .number ≡ 0
+
+  -- its head bit 5 is set: each module also sends a view word (document 02, E11)
+  abbrev pub Partitionable : Type 0
+  Partitionable = S .setup .partitionable ≡ true
 
   -- N
   abbrev pub size : ℕ
@@ -79,7 +87,17 @@ module _ (S : Session) where
   wordIn zero i j = busWord (full size)
   wordIn (suc k) i j = S .word (suc k) i j
 
-  -- round k as it is heard, by rule 2 on these bits and words
+  -- the view word that receiver i has of sender j in round k; before round 1 it is that of the full view
+  unfoldable pub viewWordIn : ℕ → ℕ → ℕ → ℕ
+  viewWordIn zero i j = viewWord (full size)
+  viewWordIn (suc k) i j = S .view (suc k) i j
+
+  -- Receiver i hears the view word of sender j in round k. "One controller bit covers a module's two words, and either word, if of another form, is
+  -- missing by itself."
+  unfoldable pub hearsView : ℕ → ℕ → ℕ → Bool
+  hearsView k i j = bitIn k i j && viewWordHeard size (viewWordIn k i j)
+
+  -- round k as it is heard, by rule 2 on these bits and words; of view words the rules and the fault limit see nothing
   abbrev pub round : ℕ → Round
   round k = record { hears = λ i j. entryOf size (bitIn k i j) (wordIn k i j) .heard; word = wordIn k }
 
@@ -94,8 +112,16 @@ module _ (S : Session) where
   readBits i k = pack size (λ j. bitIn (readRound i k j) i j)
 
   -- the words of the same read, as the bytes that its step is lent
+  abbrev pub syndromeBytes : ℕ → ℕ → List ℕ
+  syndromeBytes i k = bytesOf size (λ j. wordIn (readRound i k j) i j)
+
+  -- its view words, each of the same round as the word of the same sender: "aligned and delayed like syndromes"
+  abbrev pub viewBytes : ℕ → ℕ → List ℕ
+  viewBytes i k = bytesOf size (λ j. viewWordIn (readRound i k j) i j)
+
+  -- the whole read: N words, and where the setup is partitionable "2N words, syndromes first"
   abbrev pub readBytes : ℕ → ℕ → List ℕ
-  readBytes i k = bytesOf size (λ j. wordIn (readRound i k j) i j)
+  readBytes i k = cond (S .setup .partitionable) (syndromeBytes i k ++ viewBytes i k) (syndromeBytes i k)
 
   -- ---- what a module makes of it: opened with its own number, then one step a round, after the changes that it is offered before it
 
@@ -146,6 +172,22 @@ module _ (S : Session) where
   -- The one thing that binds a session, up to round `last`: a heard word of a rule-follower is the one it handed out for that round.
   abbrev pub Bound : ℕ → Type 0
   Bound last = (k i l : ℕ) → 0 < k → k ≤ last → RuleFollower i → RuleFollower l → round k .hears i l ≡ true → wordIn k i l ≡ sent l k
+
+  -- the view word that module i hands out in step k, its second word; before the first step that of the full view. There is none, 0, where the setup
+  -- is not partitionable.
+  unfoldable pub viewWordHanded : ℕ → ℕ → ℕ
+  viewWordHanded i zero = cond (S .setup .partitionable) (viewWord (full size)) 0
+  viewWordHanded i (suc k) = answerAt i (suc k) (ready i k) .second
+
+  -- the view word that module i sends in round k, handed out in the same step as its word
+  unfoldable pub viewWordSent : ℕ → ℕ → ℕ
+  viewWordSent i k = cond (bit (S .setup .marks) i) (viewWordHanded i k) (viewWordHanded i (k - 1))
+
+  -- The same of view words, where the setup is partitionable: a heard view word of a rule-follower is the one it handed out for that round. Neither demand
+  -- 3 nor what is promised of adopted views asks for it.
+  abbrev pub BoundViews : ℕ → Type 0
+  BoundViews last =
+      Partitionable → (k i l : ℕ) → 0 < k → k ≤ last → RuleFollower i → RuleFollower l → hearsView k i l ≡ true → viewWordIn k i l ≡ viewWordSent l k
 
   -- ---- the fault limit, by round
 

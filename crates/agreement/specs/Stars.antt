@@ -22,7 +22,7 @@ use Rattle.accounts.specs.Round.{countersOf}
 use Rattle.presence.specs.Opening.{fresh}
 use Rattle.rules.specs.declared.Judgement.{Judgement}
 use Rattle.accounts.specs.declared.Counters.{Counters}
-use Rattle.agreement.specs.Session.{Session, size, u, follows, round, wordIn, state, health, sent, Bound, kept}
+use Rattle.agreement.specs.Session.{Session, Partitionable, size, u, follows, round, wordIn, viewWordIn, hearsView, state, health, sent, viewWordSent, Bound, BoundViews, kept}
 use Rattle.agreement.specs.Demand.{KeptTo}
 
 -- ---- the table: what the definitions give, and what document 01 says
@@ -65,11 +65,12 @@ sheet = setupOf sheetBytes
 -- the sheet's limits and criticality with other send marks and read places, for n modules
 abbrev pub like : ℕ → ℕ → List ℕ → Setup
 like n marks places =
-    record { n = n; q = 0; limits = Counts 1 3; marks = marks; places = array n (λ j. getD places j 0); criticality = array n (λ j. 1) }
+    record { n = n; q = 0; partitionable = false; limits = Counts 1 3; marks = marks; places = array n (λ j. getD places j 0); criticality = array n (λ j. 1) }
 
 -- the rule-breakers, as a vector; who hears whom by round, receiver and sender; and the row sent by round and sender; no change is offered
 abbrev pub castSession : ℕ → Setup → (ℕ → ℕ → ℕ → Bool) → (ℕ → ℕ → ℕ) → Session
-castSession cast s hears rows = record { setup = s; cast = cast; controller = hears; word = λ k i j. busWord (rows k j); offers = λ k i. [] }
+castSession cast s hears rows =
+    record { setup = s; cast = cast; controller = hears; word = λ k i j. busWord (rows k j); view = λ k i j. 0; offers = λ k i. [] }
 
 -- the same where all follow the rules
 abbrev pub session : Setup → (ℕ → ℕ → ℕ → Bool) → (ℕ → ℕ → ℕ) → Session
@@ -83,6 +84,14 @@ bound S last =
     (λ i. all (size S)
     (λ l. not (follows S i && (follows S l && round S (suc k) .hears i l)) || eqb (wordIn S (suc k) i l) (sent S l (suc k)))))
 
+-- every view word of a rule-follower that a rule-follower heard is the one that was sent, up to round `last`
+unfoldable pub boundViews : Session → ℕ → Bool
+boundViews S last =
+    all last
+    (λ k. all (size S)
+    (λ i. all (size S)
+    (λ l. not (follows S i && (follows S l && hearsView S (suc k) i l)) || eqb (viewWordIn S (suc k) i l) (viewWordSent S l (suc k)))))
+
 -- the limit was kept in every round from 1 to k
 unfoldable pub keptTo : Session → ℕ → Bool
 keptTo S k = all k (λ ρ. kept S (suc ρ))
@@ -91,10 +100,11 @@ keptTo S k = all k (λ ρ. kept S (suc ρ))
 abbrev pub keptForStep : Session → ℕ → Bool
 keptForStep S k = keptTo S (k - u S)
 
--- What these three tests mean: each passes exactly if what it stands for holds.
+-- What these tests mean: each passes exactly if what it stands for holds.
 pub record TestsMean : Type 0 where
-  -- the session is bound up to round k
+  -- the session is bound up to round k, in its words and, where it is partitionable, in its view words
   pub bound-means : (S : Session) (k : ℕ) → (bound S k ≡ true) ↔ Bound S k
+  pub views-mean : (S : Session) → Partitionable S → (k : ℕ) → (boundViews S k ≡ true) ↔ BoundViews S k
   -- the limit is kept for every ρ from 1 to k
   pub kept-means : (S : Session) (k : ℕ) → (keptTo S k ≡ true) ↔ ((ρ : ℕ) → 0 < ρ → ρ ≤ k → kept S ρ ≡ true)
   -- it is kept for every ρ from 1 to k - u
@@ -284,6 +294,7 @@ twoWords = record {
   cast = 3;
   controller = allHeard;
   word = λ k i j. busWord (cond (eqb k 2 && (eqb i 2 && leb j 1)) 0 (full 16));
+  view = λ k i j. 0;
   offers = λ k i. [];
 }
 

@@ -1,7 +1,7 @@
 -- A backplane put together from what the functions of a round answer.
 use Prim.Native.Nat.{ℕ, _+_, _<_, _≤_}
 use mathlib.Core.Path.{_≡_, ap, ap₂, _∙_}
-use mathlib.Core.Bool.{Bool, true, cond, _&&_}
+use mathlib.Core.Bool.{Bool, true, false, cond, _&&_}
 use mathlib.Core.List.{List, _++_}
 use native.Mathlib.Omega.{arith}
 use native.Mathlib.Nat.{le-refl}
@@ -13,13 +13,14 @@ use Rattle.words.specs.Table.{updated}
 use Rattle.words.proofs.TableLaws.{updated-above, getD-there}
 use Rattle.setup.specs.declared.Setup.{Setup}
 use Rattle.rules.specs.Lag.{skewed}
+use Rattle.views.specs.ViewWord.{readWords}
 use Rattle.presence.specs.Opening.{blank}
 use Rattle.presence.specs.declared.State.{State}
 use Rattle.script.specs.declared.Events.{Events}
 use Rattle.agreement.specs.Fault.{followsIn, keptOver}
 use Rattle.bus.specs.Bus.{faultless, arrived}
 use Rattle.bus.specs.Senders.{hearingOf, sendersIn}
-use Rattle.backplane.specs.Play.{openedStates, opened, sentWords, steppedStates, answeredHealth, earlier, followersView, countingView, played}
+use Rattle.backplane.specs.Play.{openedStates, opened, sentWords, sentViews, steppedStates, answeredHealth, earlier, followersView, countingView, played}
 use Rattle.bus.specs.declared.Bus.{Bus}
 use Rattle.bus.specs.declared.Hearing.{Hearing}
 use Rattle.backplane.specs.declared.Backplane.{Backplane}
@@ -37,6 +38,11 @@ front-fits front rest e = rw (length-append front rest) (omega (arith, e))
 
 pub front-taken : {k : ℕ} (front rest : List ℕ) → length front ≡ k → take k (front ++ rest) ≡ front
 front-taken front rest e = rw (← e) (take-append-seam front rest)
+
+-- a read has at most 32 words
+pub read-most : (partitionable : Bool) (n : ℕ) → n ≤ 16 → readWords partitionable n ≤ 32
+read-most true n h = omega arith
+read-most false n h = omega arith
 
 -- opened
 module _ (s : Setup) (cast : ℕ) where
@@ -92,17 +98,17 @@ module _ (b : Backplane) (e : Events) where
   limitOf view h h′ = keptOver (b .setup .n) (followsIn (b .cast)) (bit view) (sendersIn h) (sendersIn h′)
 
   abbrev this : Bus
-  this = arrived (b .setup .n) (sentWords (b .setup .n) (b .states)) e
+  this = arrived (b .setup .n) (sentWords (b .setup .n) (b .states)) (sentViews (b .setup .n) (b .states)) e
 
-  pub play-made : {stepped : List State} {answered : List ℕ} {sent : List ℕ} {bus : Bus} {hearing then : Hearing} {view : ℕ} {kept : Bool}
-      → sent ≡ sentWords (b .setup .n) (b .states) → bus ≡ arrived (b .setup .n) sent e
+  pub play-made : {stepped : List State} {answered : List ℕ} {sent views : List ℕ} {bus : Bus} {hearing then : Hearing} {view : ℕ} {kept : Bool}
+      → sent ≡ sentWords (b .setup .n) (b .states) → views ≡ sentViews (b .setup .n) (b .states) → bus ≡ arrived (b .setup .n) sent views e
       → stepped ≡ steppedStates (b .setup) (b .states) bus (b .bus) → answered ≡ answeredHealth (b .setup) (b .states) bus (b .bus) → hearing ≡ hearingOf (b .setup .n) (b .cast) bus
       → view ≡ countingView b stepped → then ≡ earlier b → kept ≡ limitOf view hearing then
       → next stepped answered bus hearing kept ≡ played b e
   unfolding played
-  play-made {stepped} {answered} {sent} {bus} {hearing} {then} {view} {kept} e0 e1 e2 e3 e4 v e5 e6 =
+  play-made {stepped} {answered} {sent} {views} {bus} {hearing} {then} {view} {kept} e0 e0′ e1 e2 e3 e4 v e5 e6 =
       let n = b .setup .n in
-      let q : bus ≡ this = e1 ∙ ap (λ (x : List ℕ). arrived n x e) e0 in
+      let q : bus ≡ this = e1 ∙ ap₂ (λ (x y : List ℕ). arrived n x y e) e0 e0′ in
       let h : hearing ≡ hearingOf n (b .cast) this = e4 ∙ ap (hearingOf n (b .cast)) q in
       let w : view ≡ countingView b (states this) = v ∙ ap (countingView b) (e2 ∙ ap states q) in
       ap₂ (λ (x : List State) (y : List ℕ). next x y bus hearing kept) (e2 ∙ ap states q) (e3 ∙ ap health q)

@@ -11,6 +11,7 @@ use Rattle.words.proofs.Truth.{cond-true, cond-false}
 use Rattle.words.proofs.ArrayLaws.{array-at}
 use Rattle.words.specs.Verdict.{isAccepted}
 use Rattle.words.specs.declared.Verdict.{Verdict}
+use Rattle.presence.specs.Shown.{shownView}
 use Rattle.script.specs.Check.{checkScript}
 use Rattle.script.specs.Cursor.{advanced}
 use Rattle.script.specs.declared.Cursor.{Cursor}
@@ -76,7 +77,7 @@ next-over s r {c} e t =
 -- ---- the lines
 
 pub wrote-printed : {old new : List ℕ} {at r : ℕ} (b : Backplane) {view : List ℕ} → b .setup .n ≤ 16
-    → view ≡ array (b .setup .n) (λ i. stateAt (b .states) i .counters .view)
+    → view ≡ array (b .setup .n) (λ i. shownView (stateAt (b .states) i))
     → Wrote old at (linesOf (b .setup .n) (b .round) (b .kept) (λ i. getD (b .health) i 0) (λ i. getD view i 0) (b .setup .n)) new r
     → Wrote old at (printed b) new r
 unfolding printed

@@ -8,10 +8,10 @@ use native.Mathlib.Omega.{arith}
 use native.Mathlib.Nat.{le-refl}
 use lib.Dec.{eqb, ltb}
 use lib.ListN.{getD, length, replicate, length-replicate}
-use borrow.Author.Tests.{eqb-true, eq-eqb, ne-eqb, ltb-true, lt-ltb}
+use borrow.Author.Tests.{eqb-true, eq-eqb, ne-eqb, ltb-true, lt-ltb, not-true}
 use Rattle.words.specs.Bits.{bit, b2n}
 use Rattle.words.specs.Count.{all}
-use Rattle.words.proofs.Truth.{and-l, and-r, and-true, and-false-r, cond-true}
+use Rattle.words.proofs.Truth.{clash, and-l, and-r, and-true, and-false-r, cond-true, cond-false}
 use Rattle.words.proofs.BitLaws.{bit-full}
 use Rattle.words.proofs.ArrayLaws.{array-at}
 use Rattle.words.proofs.CountLaws.{all-at}
@@ -24,29 +24,31 @@ use Rattle.setup.specs.declared.Setup.{Setup}
 use Rattle.rules.specs.Lag.{skewed}
 use Rattle.accounts.specs.declared.Counters.{Counters}
 use Rattle.presence.specs.Opening.{blank, openOf}
+use Rattle.presence.specs.Shown.{shownView}
 use Rattle.presence.specs.declared.State.{State}
 use Rattle.script.specs.Check.{checkScript}
 use Rattle.script.specs.Cursor.{advanced, cursorAt}
 use Rattle.script.specs.Told.{castOf}
 use Rattle.script.specs.Rounds.{roundsOf}
-use Rattle.script.specs.Effect.{fateIn, toldIn}
+use Rattle.script.specs.Effect.{fateIn, toldIn, toldViewIn}
 use Rattle.script.specs.declared.Cursor.{Cursor}
 use Rattle.script.specs.declared.Events.{Events}
 use Rattle.script.proofs.CastLaws.{only-cast, plays-all}
 use Rattle.agreement.specs.Fault.{followsIn, firstFollower, keptOver, limit}
-use Rattle.agreement.specs.Session.{Offer, Session, Accepted, size, u, follows, bitIn, wordIn, round, state, health, viewOf, keptBy, kept}
+use Rattle.agreement.specs.Session.{Offer, Session, Accepted, size, u, follows, RuleFollower, Partitionable, bitIn, wordIn, viewWordIn, viewWordSent, BoundViews, round, state, health, viewOf, keptBy, kept}
 use Rattle.agreement.specs.Life.{Life}
 use Rattle.agreement.specs.Demand.{KeptTo}
 use Rattle.agreement.specs.Existence.{Choice, NoChanges}
-use Rattle.agreement.proofs.Steps.{small, setup-fits}
+use Rattle.agreement.proofs.Steps.{small, setup-fits, held}
 use Rattle.agreement.proofs.Demand.{demand-3}
 use Rattle.agreement.proofs.Without.{common-without, life-without}
 use Rattle.agreement.proofs.Existence.{existence}
+use Rattle.adoption.proofs.AdoptedViews.{adopted-views}
 use Rattle.bus.specs.Bus.{faultless, arrived}
 use Rattle.bus.specs.Senders.{hearingOf, sendersIn}
-use Rattle.backplane.specs.Play.{stateAt, openedStates, opened, sentWords, steppedStates, answeredHealth, earlier, followersView, countingView, played}
+use Rattle.backplane.specs.Play.{stateAt, openedStates, opened, sentWords, sentViews, steppedStates, answeredHealth, earlier, followersView, countingView, played}
 use Rattle.backplane.specs.Run.{begun, goesOn, nextOf, later, runAt}
-use Rattle.backplane.specs.Session.{PlayedBy, HasSession, Carries, Hears, Holds, PlaysSession, InAgrees}
+use Rattle.backplane.specs.Session.{PlayedBy, HasSession, Carries, Hears, Holds, PlaysSession, InAgrees, ShownAlike}
 use Rattle.backplane.specs.declared.Backplane.{Backplane}
 use Rattle.backplane.proofs.StartLaws.{accepts, setup-read}
 use Rattle.backplane.proofs.SessionLaws.{Tells, hears-bus, limit-as, carries, states-as, health-as}
@@ -65,29 +67,42 @@ module _ (S : Session) (ok : Accepted S) (none : NoChanges S) where
     before : Hears S (k - 1) (b .before)
 
   carries-first : Carries S 0 (faultless n)
-  unfolding faultless bitIn wordIn
+  unfolding faultless bitIn wordIn viewWordIn
   carries-first = record {
     bits = λ i j hi hj. ap (λ (x : ℕ). bit x j) (array-at n _ i hi (small S ok)) ∙ bit-full n j hj;
     words = λ i j hi hj. let s = small S ok in table-at _ (i * 16 + j) (omega arith);
+    views = λ p i j hi hj. let s = small S ok in table-at _ (i * 16 + j) (omega arith);
   }
+
+  -- the view that a line shows, of states after round k
+  shown-as : (k : ℕ) (states : List State) → ((i : ℕ) → i < n → stateAt states i ≡ state S i k)
+      → (i : ℕ) → i < n → shownView (stateAt states i) ≡ cond (S .setup .partitionable) (state S i k .views .adopted) (viewOf S i k)
+  unfolding shownView
+  shown-as k states are i hi =
+      ap shownView (are i hi)
+      ∙ ap (λ (b : Bool). cond b (state S i k .views .adopted) (viewOf S i k)) (held S ok i hi k .partitionable-is)
 
   shows-first : (b : Backplane) → b ≡ opened (S .setup) (S .cast) → Shows 0 b
   unfolding opened openedStates state health all
-  shows-first b e = subst (Shows 0) (sym e) (record {
-    holds =
-        record {
-          setup = refl;
-          round = refl;
-          states = λ i hi. updated-at n _ (replicate 16 _) i blank hi (rw (length-replicate {A = State} 16 _) (small S ok));
-          health = λ i hi. array-at n _ i hi (small S ok);
-          bus = carries-first;
-          hearing = hears-bus S ok 0 (faultless n) carries-first;
-          kept = refl;
-        };
-    cast = refl;
-    entries = updated-length n _ (replicate 16 _) ∙ length-replicate {A = State} 16 (openOf (S .setup) 1 .state);
-    before = hears-bus S ok 0 (faultless n) carries-first;
-  })
+  shows-first b e =
+      let are : (i : ℕ) → i < n → stateAt (openedStates (S .setup)) i ≡ state S i 0 = λ i hi.
+      updated-at n _ (replicate 16 _) i blank hi (rw (length-replicate {A = State} 16 _) (small S ok)) in
+      subst (Shows 0) (sym e) (record {
+        holds =
+            record {
+              setup = refl;
+              round = refl;
+              states = are;
+              shown = shown-as 0 (openedStates (S .setup)) are;
+              health = λ i hi. array-at n _ i hi (small S ok);
+              bus = carries-first;
+              hearing = hears-bus S ok 0 (faultless n) carries-first;
+              kept = refl;
+            };
+        cast = refl;
+        entries = updated-length n _ (replicate 16 _) ∙ length-replicate {A = State} 16 (openOf (S .setup) 1 .state);
+        before = hears-bus S ok 0 (faultless n) carries-first;
+      })
 
   -- how round k + 1 - u - 1 was heard
   earlier-hears : (k : ℕ) (b : Backplane) → Shows k b → Hears S (suc k - u S - 1) (earlier b)
@@ -124,8 +139,9 @@ module _ (S : Session) (ok : Accepted S) (none : NoChanges S) where
   unfolding played steppedStates all keptBy
   shows-next k b e h t =
       let s = h .holds .setup in
-      let this = arrived (b .setup .n) (sentWords (b .setup .n) (b .states)) e in
-      let q : this ≡ arrived n (sentWords n (b .states)) e = ap (λ (x : Setup). arrived (x .n) (sentWords (x .n) (b .states)) e) s in
+      let this = arrived (b .setup .n) (sentWords (b .setup .n) (b .states)) (sentViews (b .setup .n) (b .states)) e in
+      let q : this ≡ arrived n (sentWords n (b .states)) (sentViews n (b .states)) e =
+      ap (λ (x : Setup). arrived (x .n) (sentWords (x .n) (b .states)) (sentViews (x .n) (b .states)) e) s in
       let c : Carries S (suc k) this = subst (Carries S (suc k)) (sym q) (carries S ok k (b .states) (h .holds .states) e t) in
       let heard : Hears S (suc k) (hearingOf (b .setup .n) (b .cast) this) =
       subst (Hears S (suc k)) (sym (ap₂ (λ (x : Setup) (y : ℕ). hearingOf (x .n) y this) s (h .cast))) (hears-bus S ok (suc k) this c) in
@@ -145,6 +161,7 @@ module _ (S : Session) (ok : Accepted S) (none : NoChanges S) where
               setup = s;
               round = ap (λ (x : ℕ). x + 1) (h .holds .round) ∙ omega arith;
               states = are;
+              shown = shown-as (suc k) after are;
               health = λ i hi.
                   ap (λ (x : Setup). getD (answeredHealth x (b .states) this (b .bus)) i 0) s
                   ∙ health-as S ok k (b .states) (h .holds .states) this (b .bus) c (h .holds .bus) none i hi;
@@ -180,6 +197,7 @@ module _ (s : List ℕ) (e : checkScript s .number ≡ 0) where
     controller = λ k i j. not (eqb (fateIn s k i j) 7);
     lies = lies;
     told = toldIn s;
+    told-view = toldViewIn s;
     offers = λ k i. [];
     cast-only = lies-cast;
   }
@@ -205,9 +223,27 @@ has-session s e =
         told = λ k i j hi hj f. P .told k i j (told-lies s e k i j hi hj f);
         as-sent = λ k i j hj f. P .as-sent k i j hj (no-lie s e (suc k) i j f);
         bound = P .bound;
+        told-view = λ p k i j hi hj f. P .told-view k i j (told-lies s e k i j hi hj f);
+        as-sent-view = λ p k i j hj f. P .as-sent-view k i j hj (no-lie s e (suc k) i j f);
+        bound-views = P .bound-views;
         no-changes = λ k i. ap (λ (f : ℕ → ℕ → List Offer). f (suc k) i) (P .offers);
       },
     )
+
+-- what is sent binds the view words, since only the cast is told any
+pub views-bound : (s : List ℕ) → checkScript s .number ≡ 0 → (S : Session) → size S ≤ 16 → S .cast ≡ castOf s
+    → (Partitionable S → (k i j : ℕ) → j < size S → fateIn s (suc k) i j ≢ 8 → S .view (suc k) i j ≡ viewWordSent S j (suc k))
+    → (last : ℕ) → BoundViews S last
+unfolding viewWordIn
+views-bound s e S few c sends last p zero i l pos hk fi fl t = absurd (omega arith)
+views-bound s e S few c sends last p (suc k) i l pos hk fi fl t =
+    sends p k i l (fl .below)
+    (λ f.
+    let hi = fi .below in
+    let hl = fl .below in
+    let r : (i * 16 + l) % 16 ≡ l = omega arith in
+    let told : bit (castOf s) l ≡ true = rw r at (only-cast s e (suc k) (i * 16 + l) (omega arith) f) in
+    clash (bit (S .cast) l) (ap (λ (x : ℕ). bit x l) c ∙ told) (not-true _ (fl .true-to)))
 
 -- ---- the run is the session, round by round
 
@@ -228,6 +264,8 @@ module _ (s : List ℕ) (e : checkScript s .number ≡ 0) (S : Session) (P : Pla
         lost = λ i j hi hj. P .controller (suc k) i j;
         told = λ i j hi hj f. P .told (suc k) i j (omega arith) (omega arith) f;
         as-sent = λ i j hi hj f. P .as-sent k i j hj f;
+        told-view = λ p i j hi hj f. P .told-view p (suc k) i j (omega arith) (omega arith) f;
+        as-sent-view = λ p i j hi hj f. P .as-sent-view p k i j hj f;
       }
 
   -- the next round is played, since the script has one
@@ -267,14 +305,28 @@ in-agrees s e S P k pos hk t =
     let h = plays-session s e S P k hk in
     let lives : (i : ℕ) → Life S i k [] (state S i k) (health S i k) = λ i. life-without S (P .no-changes) i k in
     let A = demand-3 .agreement S (P .accepted) k (P .bound k) (common-without S (P .no-changes) k) k pos (le-refl k) (kept-to S k (sym (h .kept) ∙ t)) in
+    let view : (i i′ : ℕ) → RuleFollower S i → RuleFollower S i′ → viewOf S i k ≡ viewOf S i′ k = λ i i′ fi fi′.
+    let (_, c, _) = A .agree i i′ _ _ [] [] _ _ fi fi′ (lives i) (lives i′) in ap (λ (x : Counters). x .view) c in
     record {
       same = λ i i′ fi fi′.
-          let (q, c, _) = A .agree i i′ _ _ [] [] _ _ fi fi′ (lives i) (lives i′) in (
+          let (q, _, _) = A .agree i i′ _ _ [] [] _ _ fi fi′ (lives i) (lives i′) in (
             h .health i (fi .below) ∙ q ∙ sym (h .health i′ (fi′ .below)),
             ap (λ (x : State). x .counters .view) (h .states i (fi .below))
-                ∙ ap (λ (x : Counters). x .view) c
+                ∙ view i i′ fi fi′
                 ∙ ap (λ (x : State). x .counters .view) (sym (h .states i′ (fi′ .below))),
           );
+      same-printed = λ f i i′ fi fi′.
+          h .shown i (fi .below) ∙ cond-false _ _ f ∙ view i i′ fi fi′ ∙ sym (h .shown i′ (fi′ .below) ∙ cond-false _ _ f);
       charged = λ j hj un i fi. ap (λ (x : ℕ). bit x j) (h .health i (fi .below)) ∙ A .charged j hj un i _ [] _ fi (lives i);
       cleared = λ j fj here alike i fi. ap (λ (x : ℕ). bit x j) (h .health i (fi .below)) ∙ A .cleared j fj here alike i _ [] _ fi (lives i);
     }
+
+-- ---- what is adopted from the same view words is the same: adoption's theorem
+
+pub shown-alike : ShownAlike
+shown-alike s e S P p k hk one i i′ fi fi′ o o′ =
+    let h = plays-session s e S P (suc k) hk in
+    let life : (j : ℕ) → Life S j (suc k) [] (state S j (suc k)) (health S j (suc k)) = λ j. life-without S (P .no-changes) j (suc k) in
+    h .shown i (fi .below) ∙ cond-true _ _ p
+    ∙ adopted-views .one-view S (P .accepted) p k i i′ _ _ [] [] _ _ one fi fi′ (life i) (life i′) o o′
+    ∙ sym (h .shown i′ (fi′ .below) ∙ cond-true _ _ p)

@@ -1,4 +1,4 @@
--- A whole backplane, round by round. (document 01, "What runs" and "Bench sheet")
+-- A whole backplane, round by round. (document 01, "What runs" and "Bench sheet"; view words by document 02, E11)
 use Prim.Native.Nat.{ℕ, _+_, _%_, _≤_, _<_}
 use mathlib.Core.Path.{_≡_}
 use mathlib.Core.Bool.{true, cond, _&&_}
@@ -11,6 +11,7 @@ use Rattle.words.specs.Table.{updated}
 use Rattle.setup.specs.declared.Setup.{Setup}
 use Rattle.rules.specs.Lag.{skewed}
 use Rattle.rules.specs.Hearing.{busWord}
+use Rattle.views.specs.ViewWord.{viewWord}
 use Rattle.presence.specs.Valid.{Valid}
 use Rattle.presence.specs.Opening.{blank, openOf}
 use Rattle.presence.specs.Step.{stepOf}
@@ -60,11 +61,16 @@ opened s cast =
 unfoldable pub sentWords : ℕ → List State → List ℕ
 sentWords n states = array n (λ j. busWord (stateAt states j .latest % kindUnit))
 
--- the step of module i + 1, on its read by rule 3 of this round's bus and the one before
+-- "Each module also sends its local view as a second word, .. delayed like syndromes": the view words of a round hold the local views of the round before,
+-- those of marked modules too. Where the setup is not partitionable nobody reads them. (A view has no bit at 28 or above either.)
+unfoldable pub sentViews : ℕ → List State → List ℕ
+sentViews n states = array n (λ j. viewWord (stateAt states j .counters .view % kindUnit))
+
+-- the step of module i + 1, on its read by rule 3 of this round's bus and the one before; view words are read where the setup is partitionable
 unfoldable pub stepAt : Setup → List State → Bus → Bus → ℕ → Stepped
 stepAt s states this before i =
     let place = getD (s .places) i 0 in
-    stepOf (stateAt states i) (wordsRead (s .n) place i (this .words) (before .words))
+    stepOf (stateAt states i) (wordsRead (s .partitionable) (s .n) place i (this .words) (before .words) (this .views) (before .views))
     (bitsRead (s .n) place (getD (this .bits) i 0) (getD (before .bits) i 0))
 
 -- the states that the steps of all modules hand back
@@ -79,7 +85,7 @@ answeredHealth s states this before = array (s .n) (λ i. stepAt s states this b
 unfoldable pub earlier : Backplane → Hearing
 earlier b = cond (skewed (b .setup .n) (b .setup .places)) (b .before) (b .hearing)
 
--- the rule-followers' view in these states, which is that of the lowest of them
+-- the rule-followers' view in these states, which is the local view of the lowest of them: "the fault limit go by the syndromes alone"
 unfoldable pub followersView : ℕ → ℕ → List State → ℕ
 followersView n cast states = stateAt states (firstFollower n (followsIn cast)) .counters .view
 
@@ -89,11 +95,11 @@ unfoldable pub countingView : Backplane → List State → ℕ
 countingView b after =
     cond (skewed (b .setup .n) (b .setup .places)) (followersView (b .setup .n) (b .cast) after) (followersView (b .setup .n) (b .cast) (b .states))
 
--- The next round with these events: rule-breakers step like the rest, only what they are told to send differs.
+-- The next round with these events: rule-breakers step like the rest, only what they are told to send differs, words and view words.
 unfoldable pub played : Backplane → Events → Backplane
 played b e =
     let n = b .setup .n in
-    let this = arrived n (sentWords n (b .states)) e in
+    let this = arrived n (sentWords n (b .states)) (sentViews n (b .states)) e in
     let hearing = hearingOf n (b .cast) this in
     let states = steppedStates (b .setup) (b .states) this (b .bus) in
     record {

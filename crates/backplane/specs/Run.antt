@@ -8,6 +8,7 @@ use Rattle.words.specs.Word.{wordAt}
 use Rattle.words.specs.Verdict.{isAccepted}
 use Rattle.setup.specs.Setup.{blankSetup}
 use Rattle.setup.specs.Check.{setupPart, readSetup}
+use Rattle.presence.specs.Shown.{shownView}
 use Rattle.script.specs.Words.{castAt, castIn, mostRounds}
 use Rattle.script.specs.Check.{checkScript}
 use Rattle.script.specs.Events.{none}
@@ -54,6 +55,6 @@ runAt s k = later s (begun s) k
 
 -- ---- what is printed of a round
 
--- one line for each module: round, module, health, view, `in` or `out`
+-- one line for each module: round, module, health, view, `in` or `out`; the view is the adopted one where the setup is partitionable (document 02, E11)
 unfoldable pub printed : Backplane → List ℕ
-printed b = linesOf (b .setup .n) (b .round) (b .kept) (λ i. getD (b .health) i 0) (λ i. stateAt (b .states) i .counters .view) (b .setup .n)
+printed b = linesOf (b .setup .n) (b .round) (b .kept) (λ i. getD (b .health) i 0) (λ i. shownView (stateAt (b .states) i)) (b .setup .n)

@@ -1,5 +1,5 @@
--- Document 01's bench sheet: what the bench writes for its ten words, byte by byte; then a script that is refused and one over the fault limit.
--- (document 01, "Bench sheet") Computed in proofs/Sheet.antt.
+-- Document 01's bench sheet: what the bench writes for its ten words, byte by byte; then a script that is refused, one over the fault limit, and one with
+-- a torn cable. (document 01, "Bench sheet"; document 02, E11) Computed in proofs/Sheet.antt.
 use Prim.Native.Nat.{ℕ}
 use Prim.Native.Char.{code}
 use Prim.Native.String.{String, [] as []ˢ, _∷_ as _∷ˢ_}
@@ -54,6 +54,35 @@ halfHeardWords =
     0x1000_0003 ∷ 0x2000_0001 ∷ 0x3000_0003 ∷ 0x4086_0001 ∷ 0x4106_0001 ∷ 0x4186_0001
     ∷ 0x6000_0000 ∷ 0x7080_0002 ∷ 0x9000_0001 ∷ []
 
+-- ---- a torn cable (document 02, E11)
+
+-- one round in which cards 1 and 2 on one part of the cable, and 3, 4 and 5 on the other, hear nothing of each other
+abbrev pub tornRound : List ℕ
+tornRound = 0x7080_001C ∷ 0x7100_001C ∷ 0x7180_0003 ∷ 0x7200_0003 ∷ 0x7280_0003 ∷ 0x9000_0001 ∷ []
+
+-- a partitionable setup of five cards: one round with the cable whole, six with it torn, four with it whole again
+abbrev pub tornWords : List ℕ
+tornWords =
+    (0x1000_0025 ∷ 0x2000_0001 ∷ 0x3000_0003 ∷ 0x408A_0001 ∷ 0x410A_0001 ∷ 0x418A_0001 ∷ 0x420A_0001 ∷ 0x428A_0001 ∷ 0x6000_0000 ∷ 0x9000_0001 ∷ [])
+    ++ (tornRound ++ (tornRound ++ (tornRound ++ (tornRound ++ (tornRound ++ (tornRound ++ (0x9000_0004 ∷ [])))))))
+
+-- Its lines, round by round; the last word of each is the limit's. Cards 1 and 2 take themselves out in round 2, since two of five are not more than half,
+-- and show the full view for good. In round 5 cards 3, 4 and 5 adopt the local view that they sent, of themselves alone.
+abbrev pub tornLines : List String
+tornLines =
+    "1 1 11111 11111 in" ∷ "1 2 11111 11111 in" ∷ "1 3 11111 11111 in" ∷ "1 4 11111 11111 in" ∷ "1 5 11111 11111 in"
+    ∷ "2 1 11111 11111 out" ∷ "2 2 11111 11111 out" ∷ "2 3 11111 11111 out" ∷ "2 4 11111 11111 out" ∷ "2 5 11111 11111 out"
+    ∷ "3 1 11000 11111 out" ∷ "3 2 11000 11111 out" ∷ "3 3 00111 11111 out" ∷ "3 4 00111 11111 out" ∷ "3 5 00111 11111 out"
+    ∷ "4 1 11000 11111 out" ∷ "4 2 11000 11111 out" ∷ "4 3 00111 11111 out" ∷ "4 4 00111 11111 out" ∷ "4 5 00111 11111 out"
+    ∷ "5 1 11000 11111 out" ∷ "5 2 11000 11111 out" ∷ "5 3 00111 00111 out" ∷ "5 4 00111 00111 out" ∷ "5 5 00111 00111 out"
+    ∷ "6 1 11000 11111 out" ∷ "6 2 11000 11111 out" ∷ "6 3 00111 00111 out" ∷ "6 4 00111 00111 out" ∷ "6 5 00111 00111 out"
+    ∷ "7 1 11000 11111 out" ∷ "7 2 11000 11111 out" ∷ "7 3 00111 00111 out" ∷ "7 4 00111 00111 out" ∷ "7 5 00111 00111 out"
+    ∷ "8 1 11000 11111 out" ∷ "8 2 11000 11111 out" ∷ "8 3 00111 00111 out" ∷ "8 4 00111 00111 out" ∷ "8 5 00111 00111 out"
+    ∷ "9 1 11111 11111 out" ∷ "9 2 11111 11111 out" ∷ "9 3 11111 00111 out" ∷ "9 4 11111 00111 out" ∷ "9 5 11111 00111 out"
+    ∷ "10 1 11111 11111 out" ∷ "10 2 11111 11111 out" ∷ "10 3 11111 00111 out" ∷ "10 4 11111 00111 out" ∷ "10 5 11111 00111 out"
+    ∷ "11 1 11111 11111 out" ∷ "11 2 11111 11111 out" ∷ "11 3 11111 00111 out" ∷ "11 4 11111 00111 out" ∷ "11 5 11111 00111 out"
+    ∷ []
+
 -- what the bench writes for each, and it writes nothing else
 pub record SheetWritten : Type 0 where
   -- for the sheet's words the sheet's lines
@@ -62,3 +91,5 @@ pub record SheetWritten : Type 0 where
   pub refused : outputOf (scriptOf (set sheetWords 9 0x9000_0000)) ≡ textOf ("refused 12 at 9" ∷ [])
   -- with three modules and one sender half heard: `out`
   pub half-heard : outputOf (scriptOf halfHeardWords) ≡ textOf ("1 1 111 111 out" ∷ "1 2 111 111 out" ∷ "1 3 111 111 out" ∷ [])
+  -- with a torn cable: adopted views, and the larger part alone goes on
+  pub torn : outputOf (scriptOf tornWords) ≡ textOf tornLines

@@ -15,6 +15,8 @@ use rules::hearing::bus_word;
 use rules::lag::is_skewed;
 use script::Events;
 use setup::Setup;
+use views::read::read_words;
+use views::word::view_word;
 use words::array::filled;
 use words::bits::full_of;
 use words::bits::pick;
@@ -24,7 +26,7 @@ ghost use Prim.Native.Nat.{ℕ, _≤_, _<_, _^_};
 ghost use Rattle.presence.specs.Valid.{Valid};
 ghost use Rattle.presence.specs.Step.{stepOf};
 ghost use Rattle.bus.specs.Bus.{wordsRead};
-ghost use Rattle.backplane.specs.Play.{stateAt, Sound, openedStates, opened, sentWords, steppedStates, answeredHealth, earlier, followersView, countingView, played};
+ghost use Rattle.backplane.specs.Play.{stateAt, Sound, openedStates, opened, sentWords, sentViews, steppedStates, answeredHealth, earlier, followersView, countingView, played};
 
 // What the steps of a round give: the states, and the health vectors answered.
 struct Steps {
@@ -61,22 +63,49 @@ fn sent_words(n: usize, states: [State; 16]) -> [u32; 16]
     sent
 }
 
-// The step of module i + 1 on its read.
+// The view words sent in the next round: all hold the local views of this one.
+fn sent_views(n: usize, states: [State; 16]) -> [u32; 16]
+    requires { ⌜ n ≤ 16 ⌝ }
+    ensures { λ r. ⌜ r ≡ sentViews n states ⌝ }
+{
+    let mut sent = [0u32; 16];
+    for j in 0..n {
+        let state = states[j];
+        sent[j] = view_word(state.view() % KIND);
+    }
+    sent
+}
+
+// The step of module i + 1 on its read, of N words or with the view words of 2N.
 fn step_one(
     state: State,
+    partitionable: bool,
     n: usize,
     place: u32,
     i: usize,
     this: &[u32; 256],
     before: &[u32; 256],
+    this_views: &[u32; 256],
+    before_views: &[u32; 256],
     bits: u32,
 ) -> Stepped
     requires { ⌜ (n ≤ 16) × (i < 16) × Valid state ⌝ }
-    ensures { λ r. ⌜ r ≡ stepOf state (wordsRead n place i (now (this .entry)) (now (before .entry))) bits ⌝ }
+    ensures { λ r. ⌜ r ≡ stepOf state
+        (wordsRead partitionable n place i (now (this .entry)) (now (before .entry)) (now («this_views» .entry)) (now («before_views» .entry))) bits ⌝ }
 {
-    let mut read = [0u8; 64];
-    let k = n * 4;
-    put_read(n, place, i, this, before, &mut read[..k]);
+    let mut read = [0u8; 128];
+    let k = read_words(partitionable, n) * 4;
+    put_read(
+        partitionable,
+        n,
+        place,
+        i,
+        this,
+        before,
+        this_views,
+        before_views,
+        &mut read[..k],
+    );
     state.stepped(&read[..k], bits)
 }
 
@@ -86,17 +115,31 @@ fn step_all(setup: Setup, held: [State; 16], this: Bus, before: Bus) -> Steps
     ensures { λ r. ⌜ (r .states ≡ steppedStates setup held this before) × (r .health ≡ answeredHealth setup held this before) ⌝ }
 {
     let n = setup.n;
+    let partitionable = setup.partitionable;
     let places = setup.places;
     let this_bits = this.bits;
     let this_words = this.words;
+    let this_views = this.views;
     let before_bits = before.bits;
     let before_words = before.words;
+    let before_views = before.views;
     let mut states = held;
     let mut health = [0u32; 16];
     for i in 0..n {
         let bits = read_bits(n, places[i], this_bits[i], before_bits[i]);
         let state = states[i];
-        let answer = step_one(state, n, places[i], i, &this_words, &before_words, bits);
+        let answer = step_one(
+            state,
+            partitionable,
+            n,
+            places[i],
+            i,
+            &this_words,
+            &before_words,
+            &this_views,
+            &before_views,
+            bits,
+        );
         let next = answer.state;
         states[i] = next;
         health[i] = answer.health;
@@ -104,7 +147,7 @@ fn step_all(setup: Setup, held: [State; 16], this: Bus, before: Bus) -> Steps
     Steps { states, health }
 }
 
-// The rule-followers' view: that of the lowest of them.
+// The rule-followers' view: the local view of the lowest of them.
 fn followers_view(n: usize, cast: u32, states: [State; 16]) -> u32
     requires { ⌜ n ≤ 16 ⌝ }
     ensures { λ r. ⌜ r ≡ followersView n cast states ⌝ }
@@ -179,7 +222,8 @@ impl Backplane {
         let n = setup.n;
         let held = self.states;
         let sent = sent_words(n, held);
-        let bus = arrived(n, sent, events);
+        let views = sent_views(n, held);
+        let bus = arrived(n, sent, views, events);
         let last = self.bus;
         let steps = step_all(setup, held, bus, last);
         let states = steps.states;

@@ -8,20 +8,21 @@ ghost use mathlib.Core.Path.{_≡_};
 ghost use Prim.Native.Nat.{_+_, _≤_, _<_};
 ghost use lib.ListN.{length};
 ghost use Rattle.words.specs.Array.{array};
+ghost use Rattle.presence.specs.Shown.{shownView};
 ghost use Rattle.text.specs.Wrote.{Wrote};
 ghost use Rattle.backplane.specs.Play.{stateAt, Sound};
 ghost use Rattle.backplane.specs.Run.{nextOf, later, printed};
 ghost use Rattle.backplane.specs.Output.{roundLines, nextLines};
 
-// The views of the modules.
+// The views of the modules that their lines show.
 fn views(n: usize, states: [State; 16]) -> [u32; 16]
     requires { ⌜ n ≤ 16 ⌝ }
-    ensures { λ r. ⌜ r ≡ array n (λ i. stateAt states i .counters .view) ⌝ }
+    ensures { λ r. ⌜ r ≡ array n (λ i. shownView (stateAt states i)) ⌝ }
 {
     let mut views = [0u32; 16];
     for i in 0..n {
         let state = states[i];
-        views[i] = state.view();
+        views[i] = state.shown();
     }
     views
 }

@@ -1,2 +1,3 @@
+pub mod ArrivalLaws
 pub mod HalfHeardLaws
 pub mod LimitLaws

@@ -2,6 +2,7 @@
 use crate::Bus;
 use rules::hearing::bus_word;
 use script::Events;
+use views::word::view_word;
 use words::array::filled;
 use words::bits::bit_at;
 use words::bits::full_of;
@@ -9,14 +10,16 @@ use words::bits::pick;
 use words::bits::with_bit;
 use words::word::put_word;
 ghost use mathlib.Core.Path.{_≡_};
-ghost use mathlib.Core.Bool.{cond, not};
-ghost use Prim.Native.Nat.{_+_, _*_, _%_, _≤_, _<_};
+ghost use mathlib.Core.Bool.{not};
+ghost use Prim.Native.Nat.{_+_, _*_, _≤_, _<_};
 ghost use lib.Dec.{eqb};
 ghost use lib.ListN.{length, getD};
 ghost use Rattle.words.specs.Bits.{pack};
 ghost use Rattle.words.specs.Array.{array};
+ghost use Rattle.words.specs.Runs.{putRun};
 ghost use Rattle.words.specs.Table.{table};
-ghost use Rattle.bus.specs.Bus.{faultless, arrived, wordsRead, bitsRead};
+ghost use Rattle.views.specs.ViewWord.{readWords};
+ghost use Rattle.bus.specs.Bus.{faultless, arriving, arrived, entryRead, wordsRead, bitsRead};
 
 // The same number 256 times.
 fn repeated(w: u32) -> [u32; 256]
@@ -29,7 +32,7 @@ fn repeated(w: u32) -> [u32; 256]
     words
 }
 
-// In rounds before 1 all hear all, with all-ones words.
+// In rounds before 1 all hear all, with all-ones words and words of the full view.
 pub fn faultless(n: usize) -> Bus
     requires { ⌜ n ≤ 16 ⌝ }
     ensures { λ r. ⌜ r ≡ faultless n ⌝ }
@@ -37,7 +40,8 @@ pub fn faultless(n: usize) -> Bus
     let ones = full_of(n);
     let bits = filled(n, ones);
     let words = repeated(bus_word(ones));
-    Bus { bits, words }
+    let views = repeated(view_word(ones));
+    Bus { bits, words, views }
 }
 
 // The controller bits of receiver i + 1: those of lost words are clear.
@@ -64,9 +68,9 @@ fn arrived_bits(n: usize, fate: &[u32; 256]) -> [u32; 16]
     bits
 }
 
-// The words at all receivers: a told word in place of the one sent.
+// The words or the view words at all receivers: a told one in place of the one sent.
 fn arrived_words(sent: [u32; 16], fate: &[u32; 256], told: &[u32; 256]) -> [u32; 256]
-    ensures { λ r. ⌜ r ≡ table (λ x. cond (eqb (getD (now (fate .entry)) x 0) 8) (getD (now (told .entry)) x 0) (getD sent (x % 16) 0)) ⌝ }
+    ensures { λ r. ⌜ r ≡ table (arriving (now (fate .entry)) (now (told .entry)) sent) ⌝ }
 {
     let mut words = [0u32; 256];
     for x in 0..256 {
@@ -75,34 +79,59 @@ fn arrived_words(sent: [u32; 16], fate: &[u32; 256], told: &[u32; 256]) -> [u32;
     words
 }
 
-// The words sent by the modules, with the events of the round.
-pub fn arrived(n: usize, sent: [u32; 16], events: Events) -> Bus
+// The words and the view words sent by the modules, with the events of the round.
+pub fn arrived(n: usize, sent: [u32; 16], sent_views: [u32; 16], events: Events) -> Bus
     requires { ⌜ n ≤ 16 ⌝ }
-    ensures { λ r. ⌜ r ≡ arrived n sent events ⌝ }
+    ensures { λ r. ⌜ r ≡ arrived n sent «sent_views» events ⌝ }
 {
     let fate = events.fate;
     let told = events.told;
+    let told_views = events.views;
     let bits = arrived_bits(n, &fate);
     let words = arrived_words(sent, &fate, &told);
-    Bus { bits, words }
+    let views = arrived_words(sent_views, &fate, &told_views);
+    Bus { bits, words, views }
 }
 
-// Rule 3: the words that module i + 1 reads, those of this round below its read place.
-pub fn put_read(
+// Rule 3: the words, or the view words, that module i + 1 reads, those of this round below its read place; from `at` on.
+fn put_words(
     n: usize,
     place: u32,
     i: usize,
     this: &[u32; 256],
     before: &[u32; 256],
     out: &mut [u8],
+    at: usize,
 )
-    requires { ⌜ (n ≤ 16) × (i < 16) × (length (now out) ≡ n * 4) ⌝ }
-    ensures { λ _. ⌜ now (out .exit) ≡ wordsRead n place i (now (this .entry)) (now (before .entry)) ⌝ }
+    requires { ⌜ (n ≤ 16) × (i < 16) × (at ≤ 16) × ((at + n) * 4 ≤ length (now out)) ⌝ }
+    ensures { λ _. ⌜ now (out .exit) ≡ putRun (now (out .entry)) at n (entryRead place i (now (this .entry)) (now (before .entry))) ⌝ }
 {
     for j in 0..n {
         let x = i * 16 + j;
         let w = pick((j as u32) < place, this[x], before[x]);
-        put_word(out, j, w);
+        put_word(out, at + j, w);
+    }
+}
+
+// The read of module i + 1: the words, and after them the view words where the setup is partitionable.
+pub fn put_read(
+    partitionable: bool,
+    n: usize,
+    place: u32,
+    i: usize,
+    this: &[u32; 256],
+    before: &[u32; 256],
+    this_views: &[u32; 256],
+    before_views: &[u32; 256],
+    out: &mut [u8],
+)
+    requires { ⌜ (n ≤ 16) × (i < 16) × (length (now out) ≡ readWords partitionable n * 4) ⌝ }
+    ensures { λ _. ⌜ now (out .exit) ≡ wordsRead partitionable n place i (now (this .entry)) (now (before .entry))
+        (now («this_views» .entry)) (now («before_views» .entry)) ⌝ }
+{
+    put_words(n, place, i, this, before, out, 0);
+    if partitionable {
+        put_words(n, place, i, this_views, before_views, out, n);
     }
 }
 

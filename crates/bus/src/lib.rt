@@ -5,10 +5,12 @@ pub mod arrivals;
 pub mod half_heard;
 pub mod limit;
 
-// A round as it reaches every receiver: its controller bits, and the words.
+// A round as it reaches every receiver: its controller bits, the words, and the view words that go with them. Where the setup is not partitionable
+// nobody reads the view words.
 pub struct Bus {
     pub bits: [u32; 16],
     pub words: [u32; 256],
+    pub views: [u32; 256],
 }
 
 // How the rule-followers hear the senders of a round: which are half heard, and which are heard by one of them at least.

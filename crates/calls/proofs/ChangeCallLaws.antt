@@ -1,5 +1,5 @@
 -- What a change from C answers and leaves in its output, by the test that decides it.
-use mathlib.Core.Path.{_≡_, refl, ap, _∙_, sym}
+use mathlib.Core.Path.{_≡_, refl, ap, ap₂, _∙_, sym}
 use mathlib.Core.Bool.{Bool, true, false, not, _&&_, _||_}
 use mathlib.Core.List.{List}
 use Prim.Native.Nat.{ℕ, _+_, _*_, _<_, _≤_}
@@ -13,7 +13,7 @@ use Rattle.words.specs.Verdict.{verdict, accepted, isAccepted, between}
 use Rattle.words.specs.declared.Verdict.{Verdict}
 use Rattle.words.proofs.Truth.{cond-true, cond-false, and-true, and-false-l, and-false-r, or-cases, or-false-l, or-false-r}
 use Rattle.words.proofs.VerdictLaws.{between-of}
-use Rattle.setup.specs.Setup.{sizeIn, fadesIn, setupOf}
+use Rattle.setup.specs.Setup.{sizeIn, partitionableIn, fadesIn, setupOf}
 use Rattle.setup.specs.Layout.{frontWords}
 use Rattle.setup.specs.Check.{checkSetup}
 use Rattle.changes.specs.Pending.{mostLead, pendingOf}
@@ -125,18 +125,25 @@ module _ (image new : List ℕ) (lead : ℕ) (out : List ℕ) where
           pub some-rounds : not (eqb left 0) || (ltb lead 1 || ltb 1000 lead) ≡ false → 0 < lead
           some-rounds f = ltb-false lead 1 (or-false-l (ltb lead 1) _ (or-false-r (not (eqb left 0)) _ f))
 
+          pub none-pending : not (eqb left 0) || (ltb lead 1 || ltb 1000 lead) ≡ false → wordAt image (leftAt 3 n) ≡ 0
+          none-pending f = sym el ∙ eqb-true left 0 (not-false (eqb left 0) (or-false-l (not (eqb left 0)) _ f))
+
           pub change-no-lead : {r : Answer} → not (eqb left 0) || (ltb lead 1 || ltb 1000 lead) ≡ true → r ≡ answer 24 0 0 → called r out ≡ changeCall image new lead out
           unfolding follows
           change-no-lead t q =
               refused-by {v = verdict 24 0}
               (changing-verdict image new lead out ∙ cond-true _ _ image-ok ∙ cond-true _ _ setup-ok ∙ cond-true _ _ same-is ∙ cond-false _ _ (not-follows t)) refl q
 
-          module _ (ff : not (eqb left 0) || (ltb lead 1 || ltb 1000 lead) ≡ false) {long : ℕ} (eg : long ≡ imageLength 3 n lead) where
+          module _ (ff : not (eqb left 0) || (ltb lead 1 || ltb 1000 lead) ≡ false) {long : ℕ} {t : Bool} (parted : t ≡ partitionableIn (wordAt image 0)) (eg : long ≡ imageLength 3 n lead t) where
+            -- how long it is, by the head
+            pub change-long : length out ≡ long → length out ≡ imageLength 3 n lead (partitionableIn (wordAt image 0))
+            change-long e = e ∙ eg ∙ ap (imageLength 3 n lead) parted
+
             room-is : hasRoom image lead out ≡ eqb (length out) long
             room-is =
                 ap (eqb (length out))
-                (ap (λ (b : Bool). imageLength (frontWords b) (sizeIn (wordAt image 0)) lead) (forms image new image-is setup-is same-is .0)
-                ∙ ap (λ (m : ℕ). imageLength 3 m lead) (sym en) ∙ sym eg)
+                (ap (λ (b : Bool). imageLength (frontWords b) (sizeIn (wordAt image 0)) lead (partitionableIn (wordAt image 0))) (forms image new image-is setup-is same-is .0)
+                ∙ ap₂ (λ (m : ℕ) (d : Bool). imageLength 3 m lead d) (sym en) (sym parted) ∙ sym eg)
 
             pub change-no-room : {r : Answer} → (length out ≡ long → ⊥) → r ≡ answer 9 0 0 → called r out ≡ changeCall image new lead out
             unfolding follows

@@ -1,22 +1,23 @@
--- An image with a change pending, by words: those of the image up to the rounds left, the lead, and the new words of the setup that was asked for.
+-- An image with a change pending, by words: those of the image up to the rounds left, the lead, the new words of the setup that was asked for, and the
+-- views of the image.
 use mathlib.Core.Path.{_≡_, refl, ap, ap₂, _∙_, sym, subst}
 use mathlib.Core.Bool.{Bool, true, false}
-use mathlib.Core.List.{List, [], _∷_, _++_}
-use Prim.Native.Nat.{ℕ, zero, suc, _+_, _*_, _^_, _<_, _≤_}
+use mathlib.Core.List.{List, [], _∷_, _++_, append-nil}
+use Prim.Native.Nat.{ℕ, zero, suc, _+_, _*_, _<_, _≤_}
 use native.Mathlib.Omega.{arith}
 use lib.ListN.{getD, length}
-use borrow.Author.Tests.{ne-eqb}
+use borrow.Author.Tests.{eq-eqb, ne-eqb}
 use Rattle.words.specs.Word.{wordAt, putWord, bytesOf}
 use Rattle.words.specs.Bits.{bit}
 use Rattle.words.specs.Runs.{Run, one, total, runsOf, putRun, putRuns}
-use Rattle.words.proofs.Truth.{cond-false, clash}
+use Rattle.words.proofs.Truth.{cond-true, cond-false, clash}
 use Rattle.words.proofs.WordLaws.{word-lt}
 use Rattle.words.proofs.ByteLaws.{bytes-ext}
 use Rattle.words.proofs.RunLaws.{Follows, runs-follow, follow-runs, runs-join, put-one, put-runs}
-use Rattle.words.proofs.RunJoinLaws.{follow-split}
+use Rattle.words.proofs.RunJoinLaws.{total-join, follow-moved, follow-split, put-join}
 use Rattle.setup.specs.Layout.{frontWords}
 use Rattle.setup.specs.Limits.{fades}
-use Rattle.setup.specs.Setup.{sizeIn, limitWord, moduleWord, fadesIn, limitsIn, limitList, frontOf, setupOf, setupRuns}
+use Rattle.setup.specs.Setup.{sizeIn, partitionableIn, limitWord, moduleWord, fadesIn, limitsIn, limitList, frontOf, setupOf, setupRuns}
 use Rattle.words.specs.Verdict.{allRight}
 use Rattle.setup.specs.Check.{limitTests, checkSetup}
 use Rattle.setup.specs.declared.Limits.{Limits}
@@ -27,14 +28,19 @@ use Rattle.changes.specs.Pending.{penaltyLimitOf, rewardLimitOf, pendingOf}
 use Rattle.changes.specs.Words.{newCount, newWord, changeRuns}
 use Rattle.changes.specs.Frame.{sameFrame}
 use Rattle.changes.proofs.PendingLaws.{frame-same}
+use Rattle.changes.proofs.ChangeWords.{change-total}
+use Rattle.views.specs.Section.{viewsCount, viewRuns}
+use Rattle.views.specs.declared.Views.{Views}
+use Rattle.views.proofs.ViewWords.{views-total}
 use Rattle.image.specs.Layout.{leftAt, imageLength}
 use Rattle.image.specs.Sections.{sectionRuns}
-use Rattle.image.specs.Check.{checkImage}
+use Rattle.image.specs.Check.{leftIn, checkImage}
 use Rattle.presence.specs.Image.{imageRuns, imageOf, stateOf}
 use Rattle.presence.specs.Change.{withPending}
 use Rattle.presence.specs.declared.State.{State}
 use Rattle.presence.proofs.RoundTrip.{written-read}
-use Rattle.presence.proofs.StateWords.{counters-total}
+use Rattle.presence.proofs.StateWords.{viewsOf, counters-total}
+use Rattle.calls.proofs.ModuleCallLaws.{left-is}
 use Rattle.calls.proofs.FrameWordLaws.{place-of, mark-of, criticality-of, number-of, held, asked, forms}
 
 -- the words of a state before those of its pending change
@@ -67,16 +73,25 @@ module _ (s x : List ℕ) (ok : checkImage s .number ≡ 0) (good : checkSetup x
   unfolding setupOf
   size = frame-same (setupOf s) (setupOf x) same .size
 
+  -- the words from the rounds left on
+  abbrev laterRuns : List Run
+  laterRuns = changeRuns (st .setup) (st .pending) ++ viewsOf st
+
+  image-follows : Follows (wordAt s) 0 (imageRuns st)
+  unfolding imageOf
+  image-follows = subst (λ (y : List ℕ). Follows (wordAt y) 0 (imageRuns st)) (written-read s ok small) (runs-follow [] 0 (imageRuns st) refl)
+
+  base-long : total (baseRuns st) ≡ leftAt 3 n
+  unfolding stateOf setupOf
+  base-long = base-total st ∙ ap (λ (i : ℕ). leftAt i n) (ap frontWords (read-fades (fadesIn (wordAt s)) (wordAt s) ∙ counts))
+
   -- the words before the rounds left are those of the image
   base-bytes : runsOf (baseRuns st) ≡ bytesOf (leftAt 3 n) (wordAt s)
   unfolding imageOf stateOf setupOf
   base-bytes =
-      let f : Follows (wordAt s) 0 (imageRuns st) = subst (λ (y : List ℕ). Follows (wordAt y) 0 (imageRuns st)) (written-read s ok small) (runs-follow [] 0 (imageRuns st) refl) in
-      let a : Follows (wordAt s) 0 (baseRuns st) = follow-split (wordAt s) 0 (baseRuns st) (changeRuns (st .setup) (st .pending)) f .0 in
-      let front : frontOf (st .setup) ≡ 3 = ap frontWords (read-fades (fadesIn (wordAt s)) (wordAt s) ∙ counts) in
-      let k : total (baseRuns st) ≡ leftAt 3 n = base-total st ∙ ap (λ (i : ℕ). leftAt i n) front in
-      follow-runs (wordAt s) 0 (baseRuns st) a ∙ bytes-ext (total (baseRuns st)) _ (wordAt s) (λ i h. ap (wordAt s) (none i))
-      ∙ ap (λ (m : ℕ). bytesOf m (wordAt s)) k
+      follow-runs (wordAt s) 0 (baseRuns st) (follow-split (wordAt s) 0 (baseRuns st) laterRuns image-follows .0)
+      ∙ bytes-ext (total (baseRuns st)) _ (wordAt s) (λ i h. ap (wordAt s) (none i))
+      ∙ ap (λ (m : ℕ). bytesOf m (wordAt s)) base-long
     where
       none : (i : ℕ) → 0 + i ≡ i
       none i = omega arith
@@ -136,16 +151,102 @@ module _ (s x : List ℕ) (ok : checkImage s .number ≡ 0) (good : checkSetup x
       let fx : frontWords (fadesIn (wordAt x)) ≡ 3 = ap frontWords counts-new in
       (omega arith, omega (arith, a .size, fs), omega (arith, b .size, fx, size))
 
-  -- as it is written
-  pub changed-image : {m at : ℕ} (o : List ℕ) {o₁ o₂ o₃ : List ℕ} → m ≡ st .setup .n → at ≡ leftAt 3 m → length o ≡ imageLength 3 m lead
-      → o₁ ≡ putRun o 0 at (wordAt s) → o₂ ≡ putWord o₁ at lead → o₃ ≡ putRun o₂ (at + 1) (m + 2) (λ j. wordAt x (1 + j)) → o₃ ≡ imageOf next
-  unfolding imageOf stateOf setupOf runsOf putRuns total
-  changed-image {m} {at} o {o₁} {o₂} {o₃} em ea l e₁ e₂ e₃ =
-      let k : at ≡ leftAt 3 n = ea ∙ ap (leftAt 3) em in
-      let runs : List Run = record { count = leftAt 3 n; word = wordAt s } ∷ one lead ∷ record { count = n + 2; word = λ j. wordAt x (1 + j) } ∷ [] in
-      let none : 0 + leftAt 3 n ≡ leftAt 3 n = omega arith in
-      let written : o₃ ≡ putRuns o 0 runs = rw (none, e₃, em, put-one o₁ at lead e₂, e₁, k) in
-      let whole : length o ≡ total runs * 4 = l ∙ ap (λ (i : ℕ). imageLength 3 i lead) em ∙ omega (arith, many) in
-      written ∙ put-runs [] o 0 runs refl whole
-      ∙ ap₂ (λ (a b : List ℕ). a ++ b) (sym base-bytes) (sym change-bytes)
-      ∙ sym (runs-join (baseRuns st) (changeRuns (setupOf s) (pendingOf (setupOf x) lead)))
+  -- nothing was pending
+  module _ {m : ℕ} (em : m ≡ st .setup .n) (no-rounds : wordAt s (leftAt 3 m) ≡ 0) where
+    size-is : m ≡ n
+    unfolding stateOf setupOf
+    size-is = em
+
+    none : wordAt s (leftAt 3 n) ≡ 0
+    none = ap (λ (i : ℕ). wordAt s (leftAt 3 i)) (sym size-is) ∙ no-rounds
+
+    none-left : st .pending .left ≡ 0
+    none-left = left-is s ∙ ap (λ (b : Bool). wordAt s (leftAt (frontWords b) n)) counts ∙ none
+
+    -- the views are copied from behind the rounds left, where there are any
+    abbrev viewsKept : Bool → List Run
+    viewsKept true = record { count = n + 4; word = λ j. wordAt s (leftAt 3 n + 1 + j) } ∷ []
+    viewsKept false = []
+
+    kept-total : (b : Bool) → total (viewsKept b) ≡ viewsCount b n
+    unfolding total
+    kept-total true = omega arith
+    kept-total false = refl
+
+    views-follow : Follows (wordAt s) (leftAt 3 n + 1) (viewsOf st)
+    views-follow =
+        let later = follow-split (wordAt s) 0 (baseRuns st) laterRuns image-follows .1 in
+        let change = change-total (st .setup) (st .pending) in
+        let no-new : newCount (st .setup .n) (st .pending .left) ≡ 0 = cond-true _ _ (eq-eqb (st .pending .left) 0 none-left) in
+        follow-moved (wordAt s) (viewsOf st) (omega (arith, base-long))
+        (follow-split (wordAt s) (0 + total (baseRuns st)) (changeRuns (st .setup) (st .pending)) (viewsOf st) later .1)
+
+    view-bytes : runsOf (viewsOf st) ≡ runsOf (viewsKept (partitionableIn (wordAt s 0)))
+    unfolding stateOf setupOf runsOf
+    view-bytes = go (partitionableIn (wordAt s 0)) (st .views) views-follow
+      where
+        go : (b : Bool) (v : Views) → Follows (wordAt s) (leftAt 3 n + 1) (viewRuns b n (st .counters .view) v)
+            → runsOf (viewRuns b n (st .counters .view) v) ≡ runsOf (viewsKept b)
+        go true v f =
+            follow-runs (wordAt s) (leftAt 3 n + 1) (viewRuns true n (st .counters .view) v) f
+            ∙ ap (λ (m : ℕ). bytesOf m (λ j. wordAt s (leftAt 3 n + 1 + j))) (views-total true n (st .counters .view) v)
+            ∙ sym (append-nil _)
+        go false v f = refl
+
+    -- the new words and the views
+    later-bytes : runsOf ((one lead ∷ record { count = n + 2; word = λ j. wordAt x (1 + j) } ∷ []) ++ viewsKept (partitionableIn (wordAt s 0)))
+        ≡ runsOf (changeRuns (setupOf s) (pendingOf (setupOf x) lead) ++ viewsOf st)
+    later-bytes =
+        runs-join (one lead ∷ record { count = n + 2; word = λ j. wordAt x (1 + j) } ∷ []) (viewsKept (partitionableIn (wordAt s 0)))
+        ∙ ap₂ (λ (a b : List ℕ). a ++ b) (sym change-bytes) (sym view-bytes)
+        ∙ sym (runs-join (changeRuns (setupOf s) (pendingOf (setupOf x) lead)) (viewsOf st))
+
+    -- as it is written, before the views
+    module _ {at : ℕ} (ea : at ≡ leftAt 3 m) where
+      place-is : at ≡ leftAt 3 n
+      place-is = ea ∙ ap (leftAt 3) size-is
+
+      written : (o : List ℕ) {o₁ o₂ o₃ o₄ : List ℕ} → length o ≡ imageLength 3 m lead (partitionableIn (wordAt s 0)) → o₁ ≡ putRun o 0 at (wordAt s) → o₂ ≡ putWord o₁ at lead
+          → o₃ ≡ putRun o₂ (at + 1) (m + 2) (λ j. wordAt x (1 + j)) → o₄ ≡ putRuns o₃ (leftAt 3 n + 1 + (n + 2)) (viewsKept (partitionableIn (wordAt s 0))) → o₄ ≡ imageOf next
+      unfolding imageOf stateOf setupOf runsOf putRuns total
+      written o {o₁} {o₂} {o₃} {o₄} l e₁ e₂ e₃ e₄ =
+          let k = place-is in
+          let p = partitionableIn (wordAt s 0) in
+          let front : List Run = record { count = leftAt 3 n; word = wordAt s } ∷ one lead ∷ record { count = n + 2; word = λ j. wordAt x (1 + j) } ∷ [] in
+          let begin : 0 + leftAt 3 n ≡ leftAt 3 n = omega arith in
+          let first : o₃ ≡ putRuns o 0 front = rw (begin, e₃, em, put-one o₁ at lead e₂, e₁, k) in
+          let place : leftAt 3 n + 1 + (n + 2) ≡ 0 + total front = omega arith in
+          let put : o₄ ≡ putRuns o 0 (front ++ viewsKept p) =
+          e₄ ∙ ap₂ (λ (q : List ℕ) (i : ℕ). putRuns q i (viewsKept p)) first place ∙ sym (put-join o 0 front (viewsKept p))
+          in
+          let whole : length o ≡ total (front ++ viewsKept p) * 4 =
+          l ∙ ap (λ (i : ℕ). imageLength 3 i lead p) em ∙ omega (arith, many, total-join front (viewsKept p), kept-total p)
+          in
+          put ∙ put-runs [] o 0 (front ++ viewsKept p) refl whole
+          ∙ ap₂ (λ (a b : List ℕ). a ++ b) (sym base-bytes) later-bytes
+          ∙ sym (runs-join (baseRuns st) (changeRuns (setupOf s) (pendingOf (setupOf x) lead) ++ viewsOf st))
+
+      -- the views that are copied stand in the image
+      pub kept-room : partitionableIn (wordAt s 0) ≡ true → (at + 1 + (m + 4)) * 4 ≤ length s
+      kept-room t =
+          let left : leftIn s ≡ 0 = ap (λ (b : Bool). wordAt s (leftAt (frontWords b) n)) counts ∙ none in
+          let long : length s ≡ imageLength 3 n 0 true = held s x ok good .size ∙ (λ i. imageLength (frontWords (counts i)) n (left i) (t i)) in
+          omega (arith, long, place-is, size-is)
+
+      -- with views, and without
+      pub changed-image : (o : List ℕ) {o₁ o₂ o₃ o₄ : List ℕ} → partitionableIn (wordAt s 0) ≡ true
+          → length o ≡ imageLength 3 m lead (partitionableIn (wordAt s 0)) → o₁ ≡ putRun o 0 at (wordAt s) → o₂ ≡ putWord o₁ at lead
+          → o₃ ≡ putRun o₂ (at + 1) (m + 2) (λ j. wordAt x (1 + j)) → o₄ ≡ putRun o₃ (at + 3 + m) (m + 4) (λ j. wordAt s (at + 1 + j)) → o₄ ≡ imageOf next
+      unfolding putRuns
+      changed-image o {o₃ = o₃} t l e₁ e₂ e₃ e₄ =
+          let place : at + 3 + m ≡ leftAt 3 n + 1 + (n + 2) = omega (arith, place-is, size-is) in
+          written o l e₁ e₂ e₃
+          (e₄ ∙ (λ i. putRun o₃ (place i) (size-is i + 4) (λ j. wordAt s (place-is i + 1 + j)))
+          ∙ ap (λ (b : Bool). putRuns o₃ (leftAt 3 n + 1 + (n + 2)) (viewsKept b)) (sym t))
+
+      pub changed-viewless : (o : List ℕ) {o₁ o₂ o₃ : List ℕ} → partitionableIn (wordAt s 0) ≡ false
+          → length o ≡ imageLength 3 m lead (partitionableIn (wordAt s 0)) → o₁ ≡ putRun o 0 at (wordAt s) → o₂ ≡ putWord o₁ at lead
+          → o₃ ≡ putRun o₂ (at + 1) (m + 2) (λ j. wordAt x (1 + j)) → o₃ ≡ imageOf next
+      unfolding putRuns
+      changed-viewless o {o₃ = o₃} f l e₁ e₂ e₃ =
+          written o l e₁ e₂ e₃ (ap (λ (b : Bool). putRuns o₃ (leftAt 3 n + 1 + (n + 2)) (viewsKept b)) (sym f))

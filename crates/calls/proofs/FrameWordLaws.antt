@@ -16,7 +16,7 @@ use Rattle.words.proofs.BitLaws.{bit-pack, pack-ext}
 use Rattle.words.proofs.ArrayLaws.{array-at}
 use Rattle.words.proofs.CountLaws.{all-at, all-intro}
 use Rattle.setup.specs.Layout.{frontWords}
-use Rattle.setup.specs.Setup.{headWord, returnLimitIn, sizeIn, placeUnit, markIn, placeIn, criticalityIn, fadesIn, frontIn, setupOf}
+use Rattle.setup.specs.Setup.{headWord, returnLimitIn, partitionableIn, sizeIn, placeUnit, markIn, placeIn, criticalityIn, fadesIn, frontIn, setupOf}
 use Rattle.setup.specs.Check.{checkSetup}
 use Rattle.setup.specs.declared.Setup.{Setup}
 use Rattle.setup.proofs.WordFields.{head-made}
@@ -89,7 +89,7 @@ module _ (s x : List ℕ) (ok : checkImage s .number ≡ 0) (good : checkSetup x
   frame-heads eu ev f =
       refuted (sameFrame old new) (λ e.
       let h = frame-same old new e in
-      f (eu ∙ sym (head-made (wordAt s 0) (held .front .head) .1) ∙ ap₂ headWord (h .q) (h .size)
+      f (eu ∙ sym (head-made (wordAt s 0) (held .front .head) .1) ∙ (λ i. headWord (h .q i) (h .partitionable i) (h .size i))
       ∙ head-made (wordAt x 0) (asked .front .head) .1 ∙ sym ev))
 
   -- neither fades, and the heads are the same
@@ -126,6 +126,7 @@ module _ (s x : List ℕ) (ok : checkImage s .number ≡ 0) (good : checkSetup x
           counts-new = read-fades (fadesIn (wordAt x)) (wordAt x) ∙ fx;
           size = size;
           q = ap returnLimitIn head;
+          partitionable = ap partitionableIn head;
           marks = marks-same f;
           places = λ j h.
               place-of s (held .front .most) fs j h ∙ upper-place (wordAt x (3 + j)) (wordAt s (3 + j)) (f j h) ∙ sym (place-of x few fx j (in-new j h));

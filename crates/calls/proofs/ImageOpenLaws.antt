@@ -25,7 +25,7 @@ use Rattle.doubles.specs.Array.{zeros}
 use Rattle.doubles.proofs.DoubleArrayLaws.{zeros-at}
 use Rattle.setup.specs.Layout.{frontWords, setupWords, setupLength}
 use Rattle.setup.specs.Limits.{fades}
-use Rattle.setup.specs.Setup.{sizeIn, fadesIn, frontIn, frontOf, setupOf, setupBytes}
+use Rattle.setup.specs.Setup.{sizeIn, partitionableIn, fadesIn, frontIn, frontOf, setupOf, setupBytes}
 use Rattle.setup.specs.Check.{checkSetup}
 use Rattle.setup.specs.declared.Setup.{Setup}
 use Rattle.setup.proofs.BoundLaws.{read-fades}
@@ -33,13 +33,16 @@ use Rattle.setup.proofs.SetupCheckLaws.{BytesFit, setup-pass}
 use Rattle.setup.proofs.FrontLaws.{setup-written}
 use Rattle.changes.specs.Pending.{nothing}
 use Rattle.changes.specs.Words.{changeRuns}
-use Rattle.image.specs.Layout.{ownAt, leftAt, imageLength}
+use Rattle.views.specs.Views.{fullViews, freshViews}
+use Rattle.views.specs.Section.{viewRuns}
+use Rattle.image.specs.Layout.{ownAt, leftAt, viewsAt, imageLength}
 use Rattle.image.specs.Words.{ownWord, syndromeWord}
 use Rattle.image.specs.Rows.{rowRun}
 use Rattle.image.specs.Part.{firstOf, secondOf, CountersSmall, lentRuns}
 use Rattle.presence.specs.Opening.{fresh}
 use Rattle.presence.specs.Image.{stateRuns, imageOf}
 use Rattle.presence.specs.declared.State.{State}
+use Rattle.presence.proofs.StateWords.{viewsOf}
 use Rattle.presence.proofs.SaveLaws.{lent-state, image-written}
 use Rattle.presence.proofs.StateRoundLaws.{not-between, is-between}
 use Rattle.calls.specs.Calls.{answer, called, wrote, refusedCall, openCall}
@@ -118,11 +121,11 @@ module _ (s : List ℕ) (ok : checkSetup s .number ≡ 0) where
       by-room : openVerdict s own out ≡ cond (hasRoom s 0 out) accepted (verdict 9 0)
       by-room = open-verdict s own out ∙ cond-true _ _ accepts ∙ cond-true _ _ range
 
-      module _ {b : Bool} {front : ℕ} (eb : b ≡ fadesIn (wordAt s)) (ef : front ≡ frontWords b) where
-        length-is : imageLength front n 0 ≡ imageLength (frontIn (wordAt s)) (sizeIn (wordAt s 0)) 0
-        length-is = ap₂ (λ (x m : ℕ). imageLength x m 0) (ef ∙ ap frontWords eb) en
+      module _ {b t : Bool} {front : ℕ} (eb : b ≡ fadesIn (wordAt s)) (ef : front ≡ frontWords b) (et : t ≡ partitionableIn (wordAt s 0)) where
+        length-is : imageLength front n 0 t ≡ imageLength (frontIn (wordAt s)) (sizeIn (wordAt s 0)) 0 (partitionableIn (wordAt s 0))
+        length-is = (λ i. imageLength ((ef ∙ ap frontWords eb) i) (en i) 0 (et i))
 
-        pub open-nine : {r : Answer} → (length out ≡ imageLength front n 0 → ⊥) → r ≡ answer 9 0 0 → called r out ≡ openCall s own out
+        pub open-nine : {r : Answer} → (length out ≡ imageLength front n 0 t → ⊥) → r ≡ answer 9 0 0 → called r out ≡ openCall s own out
         unfolding answering refusedCall
         open-nine f q =
             ap (λ (x : Answer). called x out) q
@@ -148,6 +151,10 @@ module _ (s : List ℕ) (ok : checkSetup s .number ≡ 0) where
         front-is : front ≡ frontOf (setupOf s)
         front-is = ef ∙ ap frontWords form-is
 
+        parted-is : t ≡ setupOf s .partitionable
+        unfolding setupOf
+        parted-is = et
+
         bytes-are : ((i : ℕ) → getD s i 0 < 256) → setupBytes (setupOf s) ≡ bytesOf (setupWords (frontOf (setupOf s)) (setupOf s .n)) (wordAt s)
         bytes-are small =
             setup-written s (fits .front) (fits .words) (omega (arith, fits .size)) small
@@ -160,32 +167,45 @@ module _ (s : List ℕ) (ok : checkSetup s .number ≡ 0) where
             let e : leftAt (frontWords b) (setupOf s .n) + 0 ≡ leftAt (frontWords b) (setupOf s .n) = omega arith in
             ap (λ (i : ℕ). putWord o i 0) e
 
-        sections : {v i : ℕ} {rows o₂ o₃ : List ℕ} (o₁ : List ℕ)
+        -- the views of a fresh module, and that there are none without head bit 5
+        pub full-put : {v k : ℕ} {o₄ : List ℕ} (o₃ : List ℕ) → t ≡ true → v ≡ full n → k ≡ viewsAt front n 0 → o₄ ≡ putRuns o₃ k (viewRuns true n v (fullViews n))
+            → o₄ ≡ putRuns o₃ (viewsAt front n 0) (viewsOf st)
+        unfolding fresh freshViews setupOf
+        full-put o₃ e ev ek h =
+            h ∙ (λ i. putRuns o₃ (ek i) (viewRuns true n (ev i) (fullViews n)))
+            ∙ ap₂ (λ (m : ℕ) (d : Bool). putRuns o₃ (viewsAt front n 0) (viewRuns d m (full m) (freshViews d m))) en (sym e ∙ et)
+
+        pub none-put : (o₃ : List ℕ) → t ≡ false → o₃ ≡ putRuns o₃ (viewsAt front n 0) (viewsOf st)
+        unfolding fresh freshViews setupOf putRuns
+        none-put o₃ e =
+            ap (λ (d : Bool). putRuns o₃ (viewsAt front n 0) (viewRuns d (sizeIn (wordAt s 0)) (full (sizeIn (wordAt s 0))) (freshViews d (sizeIn (wordAt s 0))))) (sym e ∙ et)
+
+        sections : {v i : ℕ} {rows o₂ o₃ o₄ : List ℕ} (o₁ : List ℕ)
             → o₂ ≡ putRuns o₁ (ownAt (frontWords b) n) (one (ownWord own v) ∷ rowRun n (record { heard = v; rows = rows }) ∷ one (syndromeWord v) ∷ one (syndromeWord v)
             ∷ lentRuns b n (replicate 16 0) (replicate 16 0) (replicate 16 0))
-            → i ≡ leftAt front n → o₃ ≡ putWord o₂ i 0
-            → v ≡ full n → rows ≡ array n (λ j. v) → o₃ ≡ putRuns o₁ (ownAt (frontOf (setupOf s)) (setupOf s .n)) (stateRuns st)
-        unfolding fresh
-        sections o₁ e ei e₃ ev er =
-            e₃ ∙ rw (ei, e, er, ev, ef, size-is)
-            (sym (none-left _) ∙ lent-state st form-is (first-zeros (setupOf s) own few b) (second-zeros (setupOf s) own few b) few o₁)
+            → i ≡ leftAt front n → o₃ ≡ putWord o₂ i 0 → o₄ ≡ putRuns o₃ (viewsAt front n 0) (viewsOf st)
+            → v ≡ full n → rows ≡ array n (λ j. v) → o₄ ≡ putRuns o₁ (ownAt (frontOf (setupOf s)) (setupOf s .n)) (stateRuns st)
+        unfolding fresh nothing
+        sections o₁ e ei e₃ e₄ ev er =
+            e₄ ∙ rw (e₃, ei, e, er, ev, ef, size-is)
+            (ap (λ (q : List ℕ). putRuns q (viewsAt (frontWords b) (setupOf s .n) 0) (viewsOf st)) (sym (none-left _)) ∙ lent-state st form-is (first-zeros (setupOf s) own few b) (second-zeros (setupOf s) own few b) few o₁)
 
-        pub open-made : {r : Answer} {v k i : ℕ} {rows o₁ o₂ o₃ : List ℕ} → ((i : ℕ) → getD s i 0 < 256) → length out ≡ imageLength front n 0 → v ≡ full n
+        pub open-made : {r : Answer} {v k i : ℕ} {rows o₁ o₂ o₃ o₄ : List ℕ} → ((i : ℕ) → getD s i 0 < 256) → length out ≡ imageLength front n 0 t → v ≡ full n
             → rows ≡ array n (λ j. v) → k ≡ setupWords front n → o₁ ≡ putRun out 0 k (wordAt s)
             → o₂ ≡ putRuns o₁ (ownAt (frontWords b) n) (one (ownWord own v) ∷ rowRun n (record { heard = v; rows = rows }) ∷ one (syndromeWord v) ∷ one (syndromeWord v)
             ∷ lentRuns b n (replicate 16 0) (replicate 16 0) (replicate 16 0))
-            → i ≡ leftAt front n → o₃ ≡ putWord o₂ i 0 → r ≡ answer 0 0 0 → called r o₃ ≡ openCall s own out
+            → i ≡ leftAt front n → o₃ ≡ putWord o₂ i 0 → o₄ ≡ putRuns o₃ (viewsAt front n 0) (viewsOf st) → r ≡ answer 0 0 0 → called r o₄ ≡ openCall s own out
         unfolding answering wrote fresh nothing
-        open-made {v = v} {k = k} {rows = rows} {o₁ = o₁} {o₃ = o₃} small long ev er ek e₁ e₂ ei e₃ q =
+        open-made {v = v} {k = k} {rows = rows} {o₁ = o₁} {o₄ = o₄} small long ev er ek e₁ e₂ ei e₃ e₄ q =
             let m = setupWords (frontOf (setupOf s)) (setupOf s .n) in
             let words : k ≡ m = ek ∙ ap₂ setupWords front-is size-is in
-            let room : length out ≡ imageLength (frontOf (setupOf s)) (setupOf s .n) 0 = long ∙ ap₂ (λ (x y : ℕ). imageLength x y 0) front-is size-is in
+            let room : length out ≡ imageLength (frontOf (setupOf s)) (setupOf s .n) 0 (setupOf s .partitionable) = long ∙ (λ i. imageLength (front-is i) (size-is i) 0 (parted-is i)) in
             let put : putRun out 0 m (wordAt s) ≡ bytesOf m (wordAt s) ++ drop (m * 4) out = put-run [] out 0 m (wordAt s) refl (omega arith) in
             let copied : o₁ ≡ setupBytes (setupOf s) ++ drop (setupLength (frontOf (setupOf s)) (setupOf s .n)) out =
             e₁ ∙ ap (λ (i : ℕ). putRun out 0 i (wordAt s)) words ∙ put ∙ ap (λ (x : List ℕ). x ++ drop (m * 4) out) (sym (bytes-are small))
             in
-            let written : o₃ ≡ putRuns o₁ (ownAt (frontOf (setupOf s)) (setupOf s .n)) (stateRuns st) = sections o₁ e₂ ei e₃ ev er in
-            let image : o₃ ≡ imageOf st =
+            let written : o₄ ≡ putRuns o₁ (ownAt (frontOf (setupOf s)) (setupOf s .n)) (stateRuns st) = sections o₁ e₂ ei e₃ e₄ ev er in
+            let image : o₄ ≡ imageOf st =
             image-written st out (setupLength (frontOf (setupOf s)) (setupOf s .n)) refl refl
             (written ∙ ap (λ (x : List ℕ). putRuns x (ownAt (frontOf (setupOf s)) (setupOf s .n)) (stateRuns st)) copied) room
             in

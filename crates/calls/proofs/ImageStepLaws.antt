@@ -5,9 +5,9 @@ use mathlib.Core.List.{List, _∷_, _++_}
 use Prim.Native.Nat.{ℕ, _+_, _-_, _*_, _^_, _<_, _≤_}
 use native.Mathlib.Omega.{arith}
 use lib.ListN.{getD, length, drop}
-use lib.Dec.{eqb}
+use lib.Dec.{eqb, ltb}
 use Rattle.words.specs.Word.{wordAt}
-use Rattle.words.specs.Array.{Filled}
+use Rattle.words.specs.Array.{array, Filled}
 use Rattle.words.specs.Runs.{one, putRuns}
 use borrow.Author.Tests.{eqb-true, eqb-false}
 use Rattle.words.proofs.Truth.{not-both, not-neither, or-false-l, or-false-r}
@@ -31,8 +31,12 @@ use Rattle.changes.specs.Adjust.{adjustedOf}
 use Rattle.changes.specs.Books.{turned, counted, booksAfter}
 use Rattle.changes.specs.Words.{changeRuns}
 use Rattle.changes.specs.declared.Books.{Books}
-use Rattle.changes.proofs.TurnLaws.{turned-both, turned-left, turned-size, turned-fades, turned-setup-fits, turned-kept}
-use Rattle.image.specs.Layout.{ownAt, leftAt, imageLength}
+use Rattle.changes.proofs.TurnLaws.{turned-both, turned-left, turned-size, turned-partitionable, turned-fades, turned-setup-fits, turned-kept}
+use Rattle.views.specs.ViewWord.{readWords, viewsRead, viewsSeen}
+use Rattle.views.specs.Views.{viewsAfter}
+use Rattle.views.specs.Section.{viewsIn, viewRuns}
+use Rattle.views.specs.declared.Views.{Views}
+use Rattle.image.specs.Layout.{ownAt, leftAt, viewsAt, imageLength}
 use Rattle.image.specs.Words.{ownWord, syndromeWord}
 use Rattle.image.specs.Rows.{rowRun, readingIn}
 use Rattle.image.specs.CounterSection.{valuesIn}
@@ -44,14 +48,15 @@ use Rattle.image.specs.declared.ImagePart.{ImagePart}
 use Rattle.image.proofs.CounterLaws.{within-kept}
 use Rattle.image.proofs.LentLaws.{lent-small, lent-first, lent-second, filled-lent}
 use Rattle.image.proofs.TailLaws.{image-pass}
-use Rattle.presence.specs.Step.{skewOf, placeOf, ownSyndrome, alignedFor, judgementFor, booksOf, afterRound, refusedStep, acceptedStep, readStep, stepOf}
+use Rattle.presence.specs.Step.{skewOf, placeOf, ownSyndrome, readLength, seenBy, alignedFor, judgementFor, booksOf, afterRound, refusedStep, acceptedStep, readStep, stepOf}
 use Rattle.presence.specs.Image.{stateRuns, imageOf, stateOf, stateLength}
 use Rattle.presence.specs.declared.State.{State}
 use Rattle.presence.specs.declared.Stepped.{Stepped}
 use Rattle.presence.proofs.ImageState.{view-in, image-state}
 use Rattle.presence.proofs.ValidLaws.{StateFits, fits-valid, after-fits}
 use Rattle.presence.proofs.SmallLaws.{Small, valid-small}
-use Rattle.presence.proofs.StateRoundLaws.{in-range, read-length as read-nine, read-controller, read-taken, step-of}
+use Rattle.presence.proofs.StateRoundLaws.{in-range, views-made, read-length as read-nine, read-controller, read-taken, step-of}
+use Rattle.presence.proofs.StateWords.{viewsOf}
 use Rattle.presence.proofs.SaveLaws.{lent-state, image-written}
 use Rattle.calls.specs.Held.{HeldBy, CountedBy, LentRange, keptView, keptFirst, keptSecond, keptReturns}
 use Rattle.calls.specs.Calls.{answer, called, stepCall}
@@ -124,12 +129,15 @@ module _ (s : List ℕ) (ok : checkImage s .number ≡ 0) where
   unfolding stateOf
   start-is = read-front s
 
-  -- size and form stay
+  -- size and form stay, and whether the setup is partitionable
   same-size : books .setup .n ≡ size
   same-size = turned-size (booksOf st)
 
   same-form : fades (books .setup .limits) ≡ form
   same-form = turned-fades (booksOf st) (fits .pending)
+
+  same-parted : books .setup .partitionable ≡ st .setup .partitionable
+  same-parted = turned-partitionable (booksOf st)
 
   few : books .setup .n ≤ 16
   few = turned-setup-fits (booksOf st) (fits .pending) (fits .setup) .most
@@ -179,7 +187,7 @@ module _ (s : List ℕ) (ok : checkImage s .number ≡ 0) where
       ep ∙ ap₂ (λ (k i : ℕ). placeIn (wordAt s (k + (i - 1)))) (ef ∙ start-is) eo
       ∙ sym (array-at (sizeIn (wordAt s 0)) _ _ (omega (arith, fits .first, fits .last)) most)
 
-  pub length-is : length s ≡ imageLength start size (st .pending .left)
+  pub length-is : length s ≡ stateLength st (st .pending .left)
   length-is = read-length s ok
 
   -- every account is as rounds leave it, by the limits that hold
@@ -222,8 +230,11 @@ module _ (s : List ℕ) (ok : checkImage s .number ≡ 0) where
     abbrev this : Reading
     this = readingOf size read controller
 
+    abbrev seen : List ℕ
+    seen = seenBy st read controller
+
     abbrev next : State
-    next = afterRound st this
+    next = afterRound st this seen
 
     -- the judgement of what is lent
     pub judged-is : {n view place before own : ℕ} {skew : Bool} {rows : List ℕ} → n ≡ size → view ≡ st .counters .view → skew ≡ skewOf st → place ≡ placeOf st
@@ -240,10 +251,11 @@ module _ (s : List ℕ) (ok : checkImage s .number ≡ 0) where
     next-small = valid-small next (fits-valid next (after-fits st read controller fits))
 
     -- how long the next image is
-    next-length : {n left : ℕ} {b : Bool} → n ≡ size → b ≡ form → left ≡ st .pending .left → imageLength (frontWords b) n (left - 1) ≡ stateLength next (next .pending .left)
+    next-length : {n left : ℕ} {b t : Bool} → n ≡ size → b ≡ form → t ≡ st .setup .partitionable → left ≡ st .pending .left
+        → imageLength (frontWords b) n (left - 1) t ≡ stateLength next (next .pending .left)
     unfolding afterRound booksAfter counted
-    next-length en eb el =
-        (λ i. imageLength (frontWords ((eb ∙ sym same-form) i)) ((en ∙ sym same-size) i) (((ap (λ (x : ℕ). x - 1) el) ∙ sym (turned-left (booksOf st))) i))
+    next-length en eb et el =
+        (λ i. imageLength (frontWords ((eb ∙ sym same-form) i)) ((en ∙ sym same-size) i) (((ap (λ (x : ℕ). x - 1) el) ∙ sym (turned-left (booksOf st))) i) ((et ∙ sym same-parted) i))
 
     module _ {part : ImagePart} {rows₀ : List ℕ} (h : HeldBy st part rows₀) {n : ℕ} {b : Bool} (en : n ≡ size) (eb : b ≡ form) where
       -- the judgement, where `own` is picked and the read place read
@@ -253,6 +265,28 @@ module _ (s : List ℕ) (ok : checkImage s .number ≡ 0) where
       judged-held ef ep eo =
           judged-is en (h .view) (h .skew) (place-is (ef ∙ ap frontWords eb) (h .own) ep) (h .heard) (h .rows)
           (eo ∙ ap₂ (λ (u v : ℕ). cond (part .skew) u v) (h .earlier) (h .latest))
+
+      -- the views that are held and those of this read, of a setup that is partitionable
+      held-views : {front : ℕ} → front ≡ frontWords b → st .setup .partitionable ≡ true → viewsIn true s n (viewsAt front n (part .left)) ≡ st .views
+      unfolding stateOf setupOf
+      held-views ef t =
+          (λ i. viewsIn (sym t i) s (en i) (viewsAt ((ef ∙ ap frontWords eb ∙ start-is) i) (en i) ((h .left ∙ left-is s) i)))
+
+      read-seen : st .setup .partitionable ≡ true → viewsRead n read controller ≡ seen
+      unfolding viewsSeen
+      read-seen t = ap (λ (m : ℕ). viewsRead m read controller) en ∙ ap (λ (d : Bool). viewsSeen d size read controller) (sym t)
+
+      -- what writing them asks
+      pub views-asked : {front long same : ℕ} {t : Bool} → front ≡ frontWords b → t ≡ st .setup .partitionable → t ≡ true → length read ≡ readWords t n * 4
+          → long ≡ imageLength (frontWords b) n (part .left - 1) t → same ≡ long
+          → (front ≤ 6) × (n ≤ 16) × (length s ≡ imageLength front n (part .left) true) × ((n + n) * 4 ≤ length read) × (same ≡ imageLength front n (part .left - 1) true)
+      views-asked ef et e l k e′ = (
+        omega (arith, ef, front-most b),
+        omega (arith, most),
+        length-is ∙ (λ i. imageLength (sym (ef ∙ ap frontWords eb) i) (sym en i) (sym (h .left) i) ((sym et ∙ e) i)),
+        omega (arith, l ∙ ap (λ (d : Bool). readWords d n * 4) e),
+        e′ ∙ k ∙ ap₂ (λ (i : ℕ) (d : Bool). imageLength i n (part .left - 1) d) (sym ef) e,
+      )
 
       pub small-health : {health : ℕ} → health ≡ judgementFor st this .health → health < 2 ^ n
       small-health e = rw (e, en) health-small
@@ -306,26 +340,57 @@ module _ (s : List ℕ) (ok : checkImage s .number ≡ 0) where
             )
 
         -- and what is written after the words of the setup
-        pub runs-next : {q q′ : List ℕ} (p : List ℕ) → q ≡ putRuns p (ownAt (frontWords b) n) (one (ownWord (part .own) view) ∷ rowRun n (record { heard = heard; rows = rows })
+        pub runs-next : {q q′ q″ : List ℕ} (p : List ℕ) → q ≡ putRuns p (ownAt (frontWords b) n) (one (ownWord (part .own) view) ∷ rowRun n (record { heard = heard; rows = rows })
             ∷ one (syndromeWord latest) ∷ one (syndromeWord (part .latest)) ∷ lentRuns b n x′ y′ z′)
             → q′ ≡ putRuns q (leftAt (frontWords b) n) (changeRuns (books .setup) (books .pending))
-            → q′ ≡ putRuns p (ownAt (frontOf (next .setup)) (next .setup .n)) (stateRuns next)
+            → q″ ≡ putRuns q′ (viewsAt (frontWords b) n (next .pending .left)) (viewsOf next)
+            → q″ ≡ putRuns p (ownAt (frontOf (next .setup)) (next .setup .n)) (stateRuns next)
         unfolding afterRound booksAfter counted
-        runs-next p e e′ =
-            e′ ∙ rw (e, view-next, ap (λ (r : Reading). r .heard) read-next, ap (λ (r : Reading). r .rows) read-next, first-next, second-next, returns-next, el, h .own, h .latest, here, formed) (lent-state next refl refl refl few p)
+        runs-next p e e′ e″ =
+            e″ ∙ rw (e′, e, view-next, ap (λ (r : Reading). r .heard) read-next, ap (λ (r : Reading). r .rows) read-next, first-next, second-next, returns-next, el, h .own, h .latest, here, formed) (lent-state next refl refl refl few p)
+
+        -- without head bit 5 no views are written
+        pub none-put : {t : Bool} (q : List ℕ) → t ≡ st .setup .partitionable → t ≡ false → q ≡ putRuns q (viewsAt (frontWords b) n (next .pending .left)) (viewsOf next)
+        unfolding afterRound booksAfter counted putRuns
+        none-put {t} q et f =
+            ap (λ (d : Bool). putRuns q (viewsAt (frontWords b) n (next .pending .left)) (viewRuns d (next .setup .n) (next .counters .view) (next .views))) (sym f ∙ et ∙ sym same-parted)
+
+        -- with it, those after the round
+        pub some-put : {front place split : ℕ} {t : Bool} {q′ : List ℕ} (q : List ℕ) → t ≡ st .setup .partitionable → t ≡ true → front ≡ frontWords b
+            → place ≡ placeIn (wordAt s (front + (part .own - 1))) → split ≡ cond (part .skew) place 0
+            → q′ ≡ putRuns q (viewsAt front n (part .left - 1)) (viewRuns true n view (viewsAfter n (viewsIn true s n (viewsAt front n (part .left)))
+            (array n (λ j. cond (ltb j split) (getD (viewsIn true s n (viewsAt front n (part .left)) .words) j 0) (getD (viewsRead n read controller) j 0)))
+            (viewsRead n read controller) (part .view)))
+            → q′ ≡ putRuns q (viewsAt (frontWords b) n (next .pending .left)) (viewsOf next)
+        unfolding afterRound booksAfter counted
+        some-put {front} {place} {split} {t} {q′} q et e ef ep es eq =
+            let parted : st .setup .partitionable ≡ true = sym et ∙ e in
+            let held : Views = viewsIn true s n (viewsAt front n (part .left)) in
+            let in-state : held ≡ st .views = held-views ef parted in
+            let seen-is : viewsRead n read controller ≡ seen = read-seen parted in
+            let after : viewsAfter n held (array n (λ j. cond (ltb j split) (getD (held .words) j 0) (getD (viewsRead n read controller) j 0))) (viewsRead n read controller) (part .view) ≡ next .views =
+            views-made st seen (h .skew) (place-is (ef ∙ ap frontWords eb) (h .own) ep) es
+            (λ i. viewsAfter (en i) (in-state i) (array (en i) (λ j. cond (ltb j split) (getD (in-state i .words) j 0) (getD (seen-is i) j 0))) (seen-is i) (h .view i)) parted
+            in
+            let left : part .left - 1 ≡ next .pending .left = ap (λ (x : ℕ). x - 1) (h .left) ∙ sym (turned-left (booksOf st)) in
+            eq ∙ (λ i. putRuns q (viewsAt (ef i) n (left i)) (viewRuns ((sym parted ∙ sym same-parted) i) (here i) (view-next i) (after i)))
 
         -- the whole image
-        pub image-next : {front : ℕ} {p q q′ : List ℕ} (o : List ℕ) → front ≡ frontWords b → length o ≡ imageLength (frontWords b) n (part .left - 1)
+        pub image-next : {front : ℕ} {t : Bool} {p q q′ q″ : List ℕ} (o : List ℕ) → front ≡ frontWords b → t ≡ st .setup .partitionable
+            → length o ≡ imageLength (frontWords b) n (part .left - 1) t
             → p ≡ setupBytes (books .setup) ++ drop (setupLength front n) o
             → q ≡ putRuns p (ownAt (frontWords b) n) (one (ownWord (part .own) view) ∷ rowRun n (record { heard = heard; rows = rows })
             ∷ one (syndromeWord latest) ∷ one (syndromeWord (part .latest)) ∷ lentRuns b n x′ y′ z′)
-            → q′ ≡ putRuns q (leftAt front n) (changeRuns (books .setup) (books .pending)) → q′ ≡ imageOf next
+            → q′ ≡ putRuns q (leftAt front n) (changeRuns (books .setup) (books .pending))
+            → q″ ≡ putRuns q′ (viewsAt (frontWords b) n (next .pending .left)) (viewsOf next)
+            → q″ ≡ imageOf (afterRound st (readingOf n read controller) (viewsSeen t n read controller))
         unfolding afterRound booksAfter counted
-        image-next {front} {p} {q} {q′} o ef long ep eq eq′ =
+        image-next {front} {t} {p} {q} {q′} {q″} o ef et long ep eq eq′ eq″ =
             image-written next o (setupLength front n) (ap₂ setupLength (ef ∙ ap frontWords formed) here) refl
-            (runs-next p eq (eq′ ∙ ap (λ (i : ℕ). putRuns q (leftAt i n) (changeRuns (books .setup) (books .pending))) ef)
+            (runs-next p eq (eq′ ∙ ap (λ (i : ℕ). putRuns q (leftAt i n) (changeRuns (books .setup) (books .pending))) ef) eq″
             ∙ ap (λ (x : List ℕ). putRuns x (ownAt (frontOf (next .setup)) (next .setup .n)) (stateRuns next)) ep)
-            (long ∙ next-length en eb (h .left))
+            (long ∙ next-length en eb et (h .left))
+            ∙ sym (λ i. imageOf (afterRound st (readingOf (en i) read controller) (viewsSeen (et i) (en i) read controller)))
 
 -- ---- what a step answers
 
@@ -338,35 +403,36 @@ module _ (s : List ℕ) (ok : checkImage s .number ≡ 0) (read : List ℕ) (con
   answered : {t : Stepped} → t ≡ readStep (stateOf s) read controller → t ≡ stepOf (stateOf s) read controller
   answered h = step-of _ _ _ refl (read-valid s refl ok) h
 
-  module _ {long : ℕ} (el : long ≡ stateLength (stateOf s) (stateOf s .pending .left - 1)) where
-    pub step-nine : {r : Answer} → not (eqb (length out) long) || not (eqb (length read) (n * 4)) ≡ true → r ≡ answer 9 0 0
+  module _ {long wide : ℕ} (el : long ≡ stateLength (stateOf s) (stateOf s .pending .left - 1)) (ew : wide ≡ readLength (stateOf s)) where
+    pub step-nine : {r : Answer} → not (eqb (length out) long) || not (eqb (length read) wide) ≡ true → r ≡ answer 9 0 0
         → called r out ≡ stepCall s read controller out
     unfolding refusedStep
     step-nine {r} e q = ap (λ (x : Answer). called x out) q ∙ go (eqb (length out) long) refl e
       where
-        go : (b : Bool) → eqb (length out) long ≡ b → not b || not (eqb (length read) (n * 4)) ≡ true
+        go : (b : Bool) → eqb (length out) long ≡ b → not b || not (eqb (length read) wide) ≡ true
             → called (answer 9 0 0) out ≡ stepCall s read controller out
         go false f t = step-no-room s out refl read controller ok (after-no-room s out ok el (eqb-false (length out) _ f))
         go true f t =
             step-refused-call s out refl read controller ok (after-room s out ok el (eqb-true (length out) _ f))
-            (answered (read-nine (stateOf s) read controller refl (λ l. eqb-false (length read) (n * 4) (not-both _ t) (l ∙ ap (λ (m : ℕ). m * 4) en)))) (λ e. omega (arith, e))
+            (answered (read-nine (stateOf s) read controller refl (λ l. eqb-false (length read) wide (not-both _ t) (l ∙ sym ew)))) (λ e. omega (arith, e))
 
-    module _ (room : length out ≡ long) (words : length read ≡ n * 4) where
+    module _ (room : length out ≡ long) (words : length read ≡ wide) where
       pub step-ten : {r : Answer} → 2 ^ n ≤ controller → r ≡ answer 10 0 0 → called r out ≡ stepCall s read controller out
       unfolding refusedStep
       step-ten {r} over q =
           ap (λ (x : Answer). called x out) q
           ∙ step-refused-call s out refl read controller ok (after-room s out ok el room)
-          (answered (read-controller (stateOf s) read controller refl (words ∙ ap (λ (m : ℕ). m * 4) (sym en)) (subst (λ (m : ℕ). 2 ^ m ≤ controller) (sym en) over))) (λ e. omega (arith, e))
+          (answered (read-controller (stateOf s) read controller refl (words ∙ ew) (subst (λ (m : ℕ). 2 ^ m ≤ controller) (sym en) over))) (λ e. omega (arith, e))
 
-      pub step-made : {health : ℕ} {b : List ℕ} → controller < 2 ^ n → health ≡ judgementFor (stateOf s) (readingOf n read controller) .health
-          → b ≡ imageOf (afterRound (stateOf s) (readingOf n read controller)) → called (answer 0 0 health) b ≡ stepCall s read controller out
+      pub step-made : {health : ℕ} {t : Bool} {b : List ℕ} → controller < 2 ^ n → t ≡ stateOf s .setup .partitionable → health ≡ judgementFor (stateOf s) (readingOf n read controller) .health
+          → b ≡ imageOf (afterRound (stateOf s) (readingOf n read controller) (viewsSeen t n read controller))
+          → called (answer 0 0 health) b ≡ stepCall s read controller out
       unfolding acceptedStep
-      step-made {health} {b} below eh eb =
+      step-made {health} {t} {b} below et eh eb =
           let this = readingOf (stateOf s .setup .n) read controller in
-          let t = acceptedStep (stateOf s) this (causesOf (stateOf s .setup .n) read controller) in
-          let e : health ≡ t .health = eh ∙ ap (λ (m : ℕ). judgementFor (stateOf s) (readingOf m read controller) .health) (sym en) in
+          let made = acceptedStep (stateOf s) this (seenBy (stateOf s) read controller) (causesOf (stateOf s .setup .n) read controller) in
+          let e : health ≡ made .health = eh ∙ ap (λ (m : ℕ). judgementFor (stateOf s) (readingOf m read controller) .health) (sym en) in
           ap (λ (v : ℕ). called (answer 0 0 v) b) e
           ∙ step-wrote s out refl read controller ok (after-room s out ok el room)
-          (answered (read-taken (stateOf s) read controller refl (words ∙ ap (λ (m : ℕ). m * 4) (sym en)) (subst (λ (m : ℕ). controller < 2 ^ m) (sym en) below))) refl
-          (eb ∙ ap (λ (m : ℕ). imageOf (afterRound (stateOf s) (readingOf m read controller))) (sym en))
+          (answered (read-taken (stateOf s) read controller refl (words ∙ ew) (subst (λ (m : ℕ). controller < 2 ^ m) (sym en) below))) refl
+          (eb ∙ ap₂ (λ (m : ℕ) (d : Bool). imageOf (afterRound (stateOf s) (readingOf m read controller) (viewsSeen d m read controller))) (sym en) et)

@@ -121,7 +121,7 @@ read-filled s n at few =
 
 -- the words after the head of a setup that is renewed are the new words
 renewed-bytes : (s : Setup) (c : Pending)
-    → setupBytes (renewed s c) ≡ bytesOf 1 (λ _. headWord (s .q) (s .n)) ++ bytesOf (s .n + 2) (newWord s c)
+    → setupBytes (renewed s c) ≡ bytesOf 1 (λ _. headWord (s .q) (s .partitionable) (s .n)) ++ bytesOf (s .n + 2) (newWord s c)
 unfolding setupBytes runsOf limitList
 renewed-bytes s c =
     let e : s .n + 2 ≡ 2 + s .n = omega arith in
@@ -129,7 +129,7 @@ renewed-bytes s c =
     let later : bytesOf (s .n) (λ j. moduleWord j (bit (s .marks) j) (getD (s .places) j 0) (getD (c .criticality) j 0)) ≡ bytesOf (s .n) (λ j. newWord s c (2 + j)) =
     bytes-ext (s .n) _ _ (λ j h. after j)
     in
-    ap (λ (x : List ℕ). bytesOf 1 (λ _. headWord (s .q) (s .n)) ++ x)
+    ap (λ (x : List ℕ). bytesOf 1 (λ _. headWord (s .q) (s .partitionable) (s .n)) ++ x)
     (ap₂ (λ (x y : List ℕ). x ++ y) limits (append-nil _ ∙ later) ∙ sym (bytes-join 2 (s .n) (newWord s c)) ∙ ap (λ (m : ℕ). bytesOf m (newWord s c)) (sym e))
   where
     two : (i : ℕ) → i < 2 → getD (limitList (Counts (c .p) (c .r))) i 0 ≡ newWord s c i
@@ -281,7 +281,7 @@ module _ (s : List ℕ) (ok : checkImage s .number ≡ 0) where
         setup-written s (image-pass s ok .front) (image-pass s ok .words) (omega (arith, image-pass s ok .size)) small
         ∙ ap (λ (k : ℕ). bytesOf (setupWords k size) (wordAt s)) (sym start-is)
 
-    head-is : wordAt s 0 ≡ headWord (st .setup .q) size
+    head-is : wordAt s 0 ≡ headWord (st .setup .q) (st .setup .partitionable) size
     head-is =
         sym (word-of (setupWords start size) (wordAt s) 0 (omega (arith, fits .setup .least)))
         ∙ ap (λ (x : List ℕ). wordAt x 0) (sym own-bytes) ∙ stands (st .setup) .head
@@ -311,7 +311,7 @@ module _ (s : List ℕ) (ok : checkImage s .number ≡ 0) where
           ap₂ (λ (x m : ℕ). bytesOf (m + 2) (λ j. wordAt s (x + 1 + j))) place en
           ∙ bytes-ext (size + 2) _ _ (λ j h. new-is j (omega (arith, some-new (λ z. omega arith))))
           in
-          let head : bytesOf 1 (wordAt s) ≡ bytesOf 1 (λ _. headWord (st .setup .q) size) = bytes-ext 1 _ _ first in
+          let head : bytesOf 1 (wordAt s) ≡ bytesOf 1 (λ _. headWord (st .setup .q) (st .setup .partitionable) size) = bytes-ext 1 _ _ first in
           let same : bytesOf 1 (wordAt s) ++ bytesOf (n + 2) (λ j. wordAt s (at + 1 + j)) ≡ setupBytes (turned books .setup) =
           ap₂ (λ (x y : List ℕ). x ++ y) head words ∙ sym (renewed-bytes (st .setup) (st .pending))
           ∙ ap (λ (t : Books). setupBytes (t .setup)) (sym (turned-changed books (sym el ∙ due)))
@@ -320,7 +320,7 @@ module _ (s : List ℕ) (ok : checkImage s .number ≡ 0) where
           ∙ two-put o (n + 2) (wordAt s) (λ j. wordAt s (at + 1 + j)) (omega arith)
           ∙ ap₂ (λ (x : List ℕ) (m : ℕ). x ++ drop m o) same long
         where
-          first : (i : ℕ) → i < 1 → wordAt s i ≡ headWord (st .setup .q) size
+          first : (i : ℕ) → i < 1 → wordAt s i ≡ headWord (st .setup .q) (st .setup .partitionable) size
           first zero h = head-is
           first (suc i) h = absurd (omega arith)
 

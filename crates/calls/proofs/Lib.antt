@@ -12,3 +12,4 @@ pub mod OutgoingImage
 pub mod ReturnCases
 pub mod Cases
 pub mod NewLimitCases
+pub mod TornCases

@@ -2,10 +2,11 @@
 use mathlib.Core.Path.{_≡_, refl, ap, ap₂, _∙_, sym, subst}
 use mathlib.Core.Bool.{Bool, true, false, cond, not, _||_}
 use mathlib.Core.List.{List, _++_, append-nil}
-use Prim.Native.Nat.{ℕ, _+_, _-_, _≤_, _<_}
+use Prim.Native.Nat.{ℕ, _+_, _-_, _*_, _^_, _≤_, _<_}
 use native.Mathlib.Omega.{arith}
 use lib.Dec.{eqb, ltb}
 use lib.ListN.{length, getD, take, drop}
+use lib.Pow.{pow-mono}
 use lib.Seq.{take-length, drop-length}
 use borrow.Author.Tests.{eq-eqb, ne-eqb, eqb-true, eqb-false, not-true, not-false, lt-ltb, le-ltb}
 use Rattle.words.specs.Word.{wordAt}
@@ -15,34 +16,40 @@ use Rattle.rules.specs.Hearing.{busWord, receptionOf, heardRow, causeIn}
 use Rattle.rules.specs.declared.Reading.{Reading}
 use Rattle.rules.specs.declared.Reception.{Reception}
 use Rattle.rules.specs.Syndrome.{outgoingOf}
-use Rattle.words.proofs.Truth.{cond-true, cond-false}
-use Rattle.words.specs.Verdict.{verdict, accepted, isAccepted, between, allRight}
+use Rattle.words.proofs.Truth.{cond-true, cond-false, cond-both}
+use Rattle.words.specs.Verdict.{isAccepted, between, allRight}
 use Rattle.setup.specs.Layout.{frontWords}
 use Rattle.setup.specs.Limits.{fades}
-use Rattle.setup.specs.Setup.{sizeIn, markIn, fadesIn, frontIn, frontOf, setupOf}
-use Rattle.setup.proofs.BoundLaws.{read-fades}
-use Rattle.words.proofs.VerdictLaws.{between-of}
+use Rattle.setup.specs.Setup.{sizeIn, partitionableIn, markIn, fadesIn, frontIn, frontOf, setupOf}
+use Rattle.setup.proofs.BoundLaws.{front-most, read-fades}
+use Rattle.words.proofs.VerdictLaws.{Passed, between-of}
 use Rattle.setup.specs.Check.{checkSetup}
 use Rattle.words.specs.declared.Verdict.{Verdict}
 use Rattle.changes.specs.Books.{counted, booksAfter}
-use Rattle.changes.proofs.TurnLaws.{turned-marks}
+use Rattle.changes.proofs.TurnLaws.{turned-partitionable, turned-marks}
 use Rattle.changes.proofs.ChangeWords.{read-left}
-use Rattle.image.specs.Layout.{ownAt, latestAt, earlierAt, imageLength}
+use Rattle.changes.proofs.SectionTests.{new-most}
+use Rattle.views.specs.ViewWord.{viewWord, readWords}
+use Rattle.views.specs.Views.{noViews, viewsAfter}
+use Rattle.views.specs.Section.{viewTests, viewsIn}
+use Rattle.views.specs.declared.Views.{Views}
+use Rattle.views.proofs.ViewWords.{ViewWordsRight, passed-right}
+use Rattle.image.specs.Layout.{ownAt, latestAt, earlierAt, leftAt, beforeLeft, viewsAt, imageLength}
 use Rattle.image.specs.Words.{ownIn, syndromeIn}
 use Rattle.image.specs.Check.{leftIn, imageTests, imageSize, checkImage}
 use Rattle.image.proofs.ImageAnswers.{size-fits, by-words}
 use Rattle.image.proofs.TailLaws.{ImageFits, image-pass, image-zero}
 use Rattle.presence.specs.Valid.{Valid}
-use Rattle.presence.specs.Step.{markOf, judgementFor, outgoingFor, booksOf, afterRound, acceptedStep, stepOf}
+use Rattle.presence.specs.Step.{markOf, readLength, judgementFor, outgoingFor, booksOf, votedViews, viewsFor, outgoingView, afterRound, acceptedStep, stepOf}
 use Rattle.presence.specs.Image.{imageOf, stateOf, stateLength, roomFor, roomAfter}
-use Rattle.calls.specs.Calls.{answer, called, refusedCall, wrote, openCall, stepCall, saveCall, handedOut, outgoingCall, refusedCause, causeCall}
+use Rattle.calls.specs.Calls.{answer, called, refusedCall, wrote, openCall, stepCall, saveCall, handedOut, outgoingCall, viewHandedOut, outgoingViewCall, refusedCause, causeCall}
 use Rattle.presence.specs.declared.State.{State}
 use Rattle.calls.specs.declared.Answer.{Answer}
 use Rattle.calls.specs.declared.WordAnswer.{WordAnswer}
 use Rattle.calls.specs.declared.CauseAnswer.{CauseAnswer}
 use Rattle.presence.specs.declared.Stepped.{Stepped}
 use Rattle.presence.proofs.StateRoundLaws.{not-between, is-between}
-use Rattle.presence.proofs.ImageState.{image-state, load-valid}
+use Rattle.presence.proofs.ImageState.{view-in, image-state, load-valid}
 use Rattle.presence.proofs.RoundTrip.{written-read}
 
 -- a refusal by the verdict v, answered by what was found of it
@@ -60,9 +67,19 @@ unfolding stateOf setupOf
 read-form s = read-fades (fadesIn (wordAt s)) (wordAt s)
 
 -- an image with so many rounds left of a setup that is read
-pub read-sized : (s : List ℕ) (left : ℕ) → imageLength (frontIn (wordAt s)) (sizeIn (wordAt s 0)) left ≡ imageLength (frontOf (setupOf s)) (setupOf s .n) left
+pub read-sized : (s : List ℕ) (left : ℕ)
+    → imageLength (frontIn (wordAt s)) (sizeIn (wordAt s 0)) left (partitionableIn (wordAt s 0))
+    ≡ imageLength (frontOf (setupOf s)) (setupOf s .n) left (setupOf s .partitionable)
 unfolding setupOf
-read-sized s left = ap (λ (k : ℕ). imageLength k (sizeIn (wordAt s 0)) left) (sym (read-front s))
+read-sized s left = ap (λ (k : ℕ). imageLength k (sizeIn (wordAt s 0)) left (partitionableIn (wordAt s 0))) (sym (read-front s))
+
+-- whether the setup of a state that is read is partitionable is said by its head
+pub parted-by : {w : ℕ} {t : Bool} (s : List ℕ) → w ≡ wordAt s 0 → t ≡ bit w 5 → t ≡ partitionableIn (wordAt s 0)
+parted-by s e h = h ∙ ap partitionableIn e
+
+pub read-parted : (s : List ℕ) → stateOf s .setup .partitionable ≡ partitionableIn (wordAt s 0)
+unfolding stateOf setupOf
+read-parted s = refl
 
 -- the rounds left of a state that is read are those of its word
 pub left-is : (s : List ℕ) → stateOf s .pending .left ≡ leftIn s
@@ -73,69 +90,170 @@ left-is s = read-left s _ _
 pub read-length : (s : List ℕ) → checkImage s .number ≡ 0 → length s ≡ stateLength (stateOf s) (stateOf s .pending .left)
 unfolding stateOf
 read-length s z =
-    image-pass s z .size ∙ read-sized s (leftIn s) ∙ ap (λ (left : ℕ). imageLength (frontOf (setupOf s)) (setupOf s .n) left) (sym (left-is s))
+    image-pass s z .size ∙ read-sized s (leftIn s) ∙ ap (λ (left : ℕ). imageLength (frontOf (setupOf s)) (setupOf s .n) left (setupOf s .partitionable)) (sym (left-is s))
 
 -- how long the image after a step is
-pub after-long : {b : Bool} {n front left rest long : ℕ} (s : List ℕ) → b ≡ fadesIn (wordAt s) → n ≡ sizeIn (wordAt s 0) → front ≡ frontWords b → left ≡ stateOf s .pending .left
-    → rest ≡ left - 1 → long ≡ imageLength front n rest → long ≡ stateLength (stateOf s) (stateOf s .pending .left - 1)
+pub after-long : {b t : Bool} {n front left rest long : ℕ} (s : List ℕ) → b ≡ fadesIn (wordAt s) → n ≡ sizeIn (wordAt s 0) → front ≡ frontWords b → left ≡ stateOf s .pending .left
+    → rest ≡ left - 1 → t ≡ partitionableIn (wordAt s 0) → long ≡ imageLength front n rest t → long ≡ stateLength (stateOf s) (stateOf s .pending .left - 1)
 unfolding stateOf
-after-long s eb en ef el er e =
-    e ∙ (λ i. imageLength ((ef ∙ ap frontWords eb) i) (en i) ((er ∙ ap (λ (x : ℕ). x - 1) el) i)) ∙ read-sized s (stateOf s .pending .left - 1)
+after-long s eb en ef el er et e =
+    e ∙ (λ i. imageLength ((ef ∙ ap frontWords eb) i) (en i) ((er ∙ ap (λ (x : ℕ). x - 1) el) i) (et i)) ∙ read-sized s (stateOf s .pending .left - 1)
+
+-- and how long its read is
+pub read-long : {t : Bool} {n k : ℕ} (s : List ℕ) → stateOf s .setup .n ≡ n → t ≡ partitionableIn (wordAt s 0) → k ≡ readWords t n → k * 4 ≡ readLength (stateOf s)
+unfolding stateOf setupOf
+read-long s en et ek = ap (λ (m : ℕ). m * 4) (ek ∙ ap₂ readWords et (sym en))
 
 -- ---- the word to put on the bus
 
 -- The word that a step hands out is told by the state that it leaves: a marked module delays its syndrome once.
-pub handed-out : (st : State) (this : Reading) (causes : List ℕ) → acceptedStep st this causes .word ≡ handedOut (acceptedStep st this causes .state)
+pub handed-out : (st : State) (this : Reading) (seen causes : List ℕ) → acceptedStep st this seen causes .word ≡ handedOut (acceptedStep st this seen causes .state)
 unfolding acceptedStep outgoingFor outgoingOf handedOut afterRound booksAfter counted markOf
-handed-out st this causes =
+handed-out st this seen causes =
     ap (λ (marks : ℕ). busWord (cond (bit marks (st .own - 1)) (st .latest) (judgementFor st this .syndrome))) (sym (turned-marks (booksOf st)))
 
--- n is the size, own the own number; wm is the word of the module itself, we and wl are the two syndromes
-module _ (s : List ℕ) (f : ImageFits s) {n front own : ℕ} (en : n ≡ sizeIn (wordAt s 0)) (ef : front ≡ frontIn (wordAt s)) (eo : own ≡ ownIn (wordAt s (ownAt front n))) where
-  own-is : own ≡ ownIn (wordAt s (ownAt (frontIn (wordAt s)) (sizeIn (wordAt s 0))))
-  own-is = eo ∙ ap₂ (λ (k m : ℕ). ownIn (wordAt s (ownAt k m))) ef en
+-- and so is its view word
+delayed : (t mark : Bool) (v : Views) (view : ℕ) → cond t (viewWord (cond mark (v .earlier) view)) 0 ≡ cond t (viewWord (cond mark (cond t v noViews .earlier) view)) 0
+delayed true mark v view = refl
+delayed false mark v view = refl
 
-  pub own-in-range : (1 ≤ own) × (own ≤ n)
-  unfolding stateOf setupOf
-  own-in-range =
-      let g = image-state s f in
-      (omega (arith, own-is, g .first), omega (arith, own-is, g .last, en))
+pub view-handed-out : (st : State) (this : Reading) (seen causes : List ℕ) → acceptedStep st this seen causes .second ≡ viewHandedOut (acceptedStep st this seen causes .state)
+unfolding acceptedStep outgoingView viewHandedOut afterRound booksAfter counted markOf viewsFor viewsAfter
+view-handed-out st this seen causes =
+    let next = afterRound st this seen in
+    delayed (st .setup .partitionable) (bit (st .setup .marks) (st .own - 1)) (viewsAfter (st .setup .n) (st .views) (votedViews st seen) seen (st .counters .view)) (next .counters .view)
+    ∙ ap₂ (λ (t : Bool) (marks : ℕ). cond t (viewWord (cond (bit marks (st .own - 1)) (next .views .earlier) (next .counters .view))) 0)
+    (sym (turned-partitionable (booksOf st))) (sym (turned-marks (booksOf st)))
 
-  -- the mark of a module, as its own word in the image has it
-  mark-is : bit (wordAt s (front + own - 1)) 22 ≡ markOf (stateOf s)
-  unfolding markOf stateOf setupOf
-  mark-is =
-      let r = own-in-range in
-      let i : front + own - 1 ≡ frontIn (wordAt s) + (own - 1) = omega (arith, r .0, ef) in
-      let h : own - 1 < sizeIn (wordAt s 0) = omega (arith, r .0, r .1, en) in
-      ap (λ (k : ℕ). bit (wordAt s k) 22) i
-      ∙ sym (bit-pack (sizeIn (wordAt s 0)) (λ j. markIn (wordAt s (frontIn (wordAt s) + j))) (own - 1) h)
-      ∙ ap (λ (k : ℕ). bit (pack (sizeIn (wordAt s 0)) (λ j. markIn (wordAt s (frontIn (wordAt s) + j)))) (k - 1)) own-is
+-- the words before those of the modules, by the second word
+pub front-by : {b : Bool} {front : ℕ} (s : List ℕ) → b ≡ fadesIn (wordAt s) → front ≡ frontWords b → front ≡ frontIn (wordAt s)
+front-by s f e = e ∙ ap frontWords f
 
-  pub word-made : {wm we wl r : ℕ} {mark : Bool} → wm ≡ wordAt s (front + own - 1) → mark ≡ bit wm 22 → we ≡ syndromeIn (wordAt s (earlierAt front n))
+-- what reading a section of an accepted image asks
+pub section-asked : {front n : ℕ} (s : List ℕ) → ImageFits s → front ≡ frontIn (wordAt s) → front ≤ 6 → n ≡ sizeIn (wordAt s 0)
+    → (front ≤ 6) × (n ≤ 16) × (beforeLeft front n ≤ length s)
+section-asked s f e most n = (most, omega (arith, f .front .most), omega (arith, f .size, e, n))
+
+-- n is the size
+module _ (s : List ℕ) (f : ImageFits s) {n front : ℕ} (en : n ≡ sizeIn (wordAt s 0)) (ef : front ≡ frontIn (wordAt s)) where
+  -- own is the own number, and wm the word of the module itself
+  module _ {own : ℕ} (eo : own ≡ ownIn (wordAt s (ownAt front n))) where
+    own-is : own ≡ ownIn (wordAt s (ownAt (frontIn (wordAt s)) (sizeIn (wordAt s 0))))
+    own-is = eo ∙ ap₂ (λ (k m : ℕ). ownIn (wordAt s (ownAt k m))) ef en
+
+    pub own-in-range : (1 ≤ own) × (own ≤ n)
+    unfolding stateOf setupOf
+    own-in-range =
+        let g = image-state s f in
+        (omega (arith, own-is, g .first), omega (arith, own-is, g .last, en))
+
+    -- the mark of a module, as its own word in the image has it
+    pub mark-made : {wm : ℕ} {mark : Bool} → wm ≡ wordAt s (front + own - 1) → mark ≡ bit wm 22 → mark ≡ markOf (stateOf s)
+    unfolding markOf stateOf setupOf
+    mark-made em eb =
+        let r = own-in-range in
+        let i : front + own - 1 ≡ frontIn (wordAt s) + (own - 1) = omega (arith, r .0, ef) in
+        let h : own - 1 < sizeIn (wordAt s 0) = omega (arith, r .0, r .1, en) in
+        eb ∙ ap (λ (w : ℕ). bit w 22) (em ∙ ap (wordAt s) i)
+        ∙ sym (bit-pack (sizeIn (wordAt s 0)) (λ j. markIn (wordAt s (frontIn (wordAt s) + j))) (own - 1) h)
+        ∙ ap (λ (k : ℕ). bit (pack (sizeIn (wordAt s 0)) (λ j. markIn (wordAt s (frontIn (wordAt s) + j)))) (k - 1)) own-is
+
+  -- we and wl are the two syndromes
+  pub word-made : {we wl r : ℕ} {mark : Bool} → mark ≡ markOf (stateOf s) → we ≡ syndromeIn (wordAt s (earlierAt front n))
       → wl ≡ syndromeIn (wordAt s (latestAt front n)) → r ≡ outgoingOf mark we wl → r ≡ handedOut (stateOf s)
   unfolding handedOut outgoingOf stateOf
-  word-made {mark = mark} em eb ee el h =
-      let b : mark ≡ markOf (stateOf s) = eb ∙ ap (λ (x : ℕ). bit x 22) em ∙ mark-is in
+  word-made {mark = mark} b ee el h =
       h
       ∙ ap₂ (λ (x y : ℕ). busWord (cond mark x y)) (ee ∙ ap₂ (λ (k m : ℕ). syndromeIn (wordAt s (earlierAt k m))) ef en)
       (el ∙ ap₂ (λ (k m : ℕ). syndromeIn (wordAt s (latestAt k m))) ef en)
       ∙ ap (λ (x : Bool). busWord (cond x (stateOf s .earlier) (stateOf s .latest))) b
 
+  -- ---- the view word
+
+  -- of a setup with head bit 5: the views stand from `at` on
+  module _ {left at : ℕ} (parted : partitionableIn (wordAt s 0) ≡ true) (el : left ≡ wordAt s (leftAt front n)) (ea : at ≡ viewsAt front n left) where
+    at-is : at ≡ viewsAt (frontIn (wordAt s)) (sizeIn (wordAt s 0)) (leftIn s)
+    at-is = ea ∙ (λ i. viewsAt (ef i) (en i) ((el ∙ ap₂ (λ (k m : ℕ). wordAt s (leftAt k m)) ef en) i))
+
+    right : ViewWordsRight (wordAt s) n (stateOf s .counters .view) at
+    unfolding stateOf
+    right =
+        subst (λ (m : ℕ). ViewWordsRight (wordAt s) m (stateOf s .counters .view) at) (sym en)
+        (subst (λ (k : ℕ). ViewWordsRight (wordAt s) (sizeIn (wordAt s 0)) (stateOf s .counters .view) k) (sym at-is)
+        (passed-right (wordAt s) (sizeIn (wordAt s 0)) _ _
+        (subst (λ (b : Bool). Passed (viewTests b (wordAt s) (sizeIn (wordAt s 0)) (stateOf s .counters .view) (viewsAt (frontIn (wordAt s)) (sizeIn (wordAt s 0)) (leftIn s)))) parted
+        (subst (λ (v : ℕ). Passed (viewTests (partitionableIn (wordAt s 0)) (wordAt s) (sizeIn (wordAt s 0)) v (viewsAt (frontIn (wordAt s)) (sizeIn (wordAt s 0)) (leftIn s))))
+        (sym (view-in (fadesIn (wordAt s)) s (sizeIn (wordAt s 0)))) (f .tail .views)))))
+
+    -- there are so many words
+    pub views-room : (at < 2 ^ 16) × ((at + n + 4) * 4 ≤ length s)
+    views-room =
+        let long : length s ≡ imageLength (frontIn (wordAt s)) (sizeIn (wordAt s 0)) (leftIn s) true =
+        f .size ∙ ap (imageLength (frontIn (wordAt s)) (sizeIn (wordAt s 0)) (leftIn s)) parted
+        in (
+          omega (arith, at-is, new-most (sizeIn (wordAt s 0)) (leftIn s), front-most (fadesIn (wordAt s)), f .front .most),
+          omega (arith, at-is, long, en),
+        )
+
+    pub view-small : {v we wl : ℕ} (mark : Bool) → we ≡ wordAt s (at + n + 1) → wl ≡ wordAt s (at + n) → v ≡ cond mark we wl → v < 2 ^ 28
+    unfolding stateOf setupOf
+    view-small {v} {we} {wl} mark ee el′ h =
+        let small = pow-mono {i = n} {j = 28} (omega (arith, en, f .front .most)) in
+        let r = right in
+        let g = image-state s f .view in
+        let low : wordAt s (at + n) < 2 ^ n = rw (r .newest, en) g in
+        subst (λ (x : ℕ). x < 2 ^ 28) (sym h)
+        (cond-both (λ (x : ℕ). x < 2 ^ 28) mark we wl (omega (arith, ee, r .earlier)) (omega (arith, el′)))
+
+    pub view-made : {we wl v r : ℕ} {mark : Bool} → mark ≡ markOf (stateOf s) → we ≡ wordAt s (at + n + 1)
+        → wl ≡ wordAt s (at + n) → v ≡ cond mark we wl → r ≡ viewWord v → r ≡ viewHandedOut (stateOf s)
+    unfolding viewHandedOut stateOf viewsIn
+    view-made {mark = mark} b ee el′ ev h =
+        let earlier : wordAt s (at + n + 1) ≡ stateOf s .views .earlier =
+        ap₂ (λ (k m : ℕ). wordAt s (k + m + 1)) at-is en
+        ∙ sym (ap (λ (b : Bool). viewsIn b s (sizeIn (wordAt s 0)) (viewsAt (frontIn (wordAt s)) (sizeIn (wordAt s 0)) (leftIn s)) .earlier) parted)
+        in
+        h ∙ ap viewWord (ev ∙ ap₂ (λ (x y : ℕ). cond mark x y) (ee ∙ earlier) (el′ ∙ right .newest) ∙ ap (λ (x : Bool). cond x (stateOf s .views .earlier) (stateOf s .counters .view)) b)
+        ∙ sym (cond-true _ _ (read-parted s ∙ parted))
+
+-- a setup without head bit 5 has none
+pub no-view-made : (s : List ℕ) → partitionableIn (wordAt s 0) ≡ false → 0 ≡ viewHandedOut (stateOf s)
+unfolding viewHandedOut
+no-view-made s e = sym (cond-false _ _ (read-parted s ∙ e))
+
+-- what a call answers that is asked for a word: by the verdict on the image, and the word that is handed out
+told : Verdict → ℕ → WordAnswer
+told v word = record { number = v .number; index = v .index; word = cond (isAccepted v) word 0 }
+
+module _ (image : List ℕ) {v : Verdict} (e : v ≡ checkImage image) (word : ℕ) where
+  told-refused : {r : WordAnswer} → (v .number ≡ 0 → ⊥) → (r .number ≡ v .number) × (r .index ≡ v .index) × (r .word ≡ 0) → r ≡ told (checkImage image) word
+  unfolding told
+  told-refused f (k, i, w) =
+      (λ j. record { number = k j; index = i j; word = (w ∙ sym (cond-false word 0 (ne-eqb (v .number) 0 f))) j })
+      ∙ ap (λ (x : Verdict). told x word) e
+
+  told-made : {w : ℕ} → v .number ≡ 0 → w ≡ word → _≡_ {A = WordAnswer} (record { number = 0; index = 0; word = w }) (told (checkImage image) word)
+  unfolding told
+  told-made z h =
+      ap (λ (x : ℕ). record { number = 0; index = 0; word = x }) h
+      ∙ ap (λ (x : Verdict). told x word) (sym (image-zero image (ap (λ (x : Verdict). x .number) (sym e) ∙ z)))
+
 module _ (image : List ℕ) {v : Verdict} (e : v ≡ checkImage image) where
-  out-by : {a : Verdict} {w : ℕ} → a ≡ checkImage image → w ≡ cond (isAccepted a) (handedOut (stateOf image)) 0
-      → _≡_ {A = WordAnswer} (record { number = a .number; index = a .index; word = w }) (outgoingCall image)
-  unfolding outgoingCall
-  out-by {a} {w} h g =
-      ap₂ (λ (x : Verdict) (y : ℕ). record { number = x .number; index = x .index; word = y }) h
-      (g ∙ ap (λ (x : Verdict). cond (isAccepted x) (handedOut (stateOf image)) 0) h)
+  pub outgoing-refused : {r : WordAnswer} → (v .number ≡ 0 → ⊥) → (r .number ≡ v .number) × (r .index ≡ v .index) × (r .word ≡ 0) → r ≡ outgoingCall image
+  unfolding outgoingCall told
+  outgoing-refused f h = told-refused image e (handedOut (stateOf image)) f h
 
-  pub outgoing-refused : (v .number ≡ 0 → ⊥) → _≡_ {A = WordAnswer} (record { number = v .number; index = v .index; word = 0 }) (outgoingCall image)
-  outgoing-refused f = out-by {a = v} e (sym (cond-false _ _ (ne-eqb (v .number) 0 f)))
+  pub outgoing-made : {w : ℕ} → v .number ≡ 0 → w ≡ handedOut (stateOf image) → _≡_ {A = WordAnswer} (record { number = 0; index = 0; word = w }) (outgoingCall image)
+  unfolding outgoingCall told
+  outgoing-made z h = told-made image e (handedOut (stateOf image)) z h
 
-  pub outgoing-made : {w : ℕ} → v .number ≡ 0 → w ≡ handedOut (stateOf image)
-      → _≡_ {A = WordAnswer} (record { number = 0; index = 0; word = w }) (outgoingCall image)
-  outgoing-made z h = out-by {a = accepted} (sym (image-zero image (ap (λ (x : Verdict). x .number) (sym e) ∙ z))) h
+  pub outgoing-view-refused : {r : WordAnswer} → (v .number ≡ 0 → ⊥) → (r .number ≡ v .number) × (r .index ≡ v .index) × (r .word ≡ 0) → r ≡ outgoingViewCall image
+  unfolding outgoingViewCall told
+  outgoing-view-refused f h = told-refused image e (viewHandedOut (stateOf image)) f h
+
+  pub outgoing-view-made : {w : ℕ} → v .number ≡ 0 → w ≡ viewHandedOut (stateOf image) → _≡_ {A = WordAnswer} (record { number = 0; index = 0; word = w }) (outgoingViewCall image)
+  unfolding outgoingViewCall told
+  outgoing-view-made z h = told-made image e (viewHandedOut (stateOf image)) z h
 
 -- ---- opening
 

@@ -14,7 +14,7 @@ use Rattle.words.specs.declared.Verdict.{Verdict}
 use Rattle.words.proofs.Truth.{which, cond-true, cond-false, and-l, and-r, and-true, cond-both}
 use Rattle.words.proofs.VerdictLaws.{Passed, between-is, between-of, and-then-next, single-refused, tests-ok}
 use Rattle.setup.specs.Layout.{frontWords}
-use Rattle.setup.specs.Setup.{fadesIn, frontIn, frontOf, setupOf}
+use Rattle.setup.specs.Setup.{partitionableIn, fadesIn, frontIn, frontOf, setupOf}
 use Rattle.setup.specs.Check.{headTests, limitTests, moduleTests, wordTests, checkHead, checkWords, checkSetup, setupVerdict}
 use Rattle.setup.specs.declared.Setup.{Setup}
 use Rattle.setup.proofs.SetupLaws.{SetupFits, fits-verdict as setup-accepted}
@@ -23,12 +23,14 @@ use Rattle.rules.specs.Hearing.{readingOf, causesOf}
 use Rattle.rules.specs.declared.Reading.{Reading}
 use Rattle.changes.specs.Pending.{mostLead, nothing, pendingOf}
 use Rattle.changes.specs.Frame.{sameFrame, mayFollow, frameVerdict}
+use Rattle.views.specs.ViewWord.{readWords}
+use Rattle.views.specs.Section.{viewTests}
 use Rattle.image.specs.Layout.{imageLength}
 use Rattle.image.specs.Check.{leftIn, imageLengthIn, tailTests, imageTests, checkImage}
 use Rattle.presence.specs.Valid.{stateVerdict}
 use Rattle.presence.specs.Change.{newVerdict, changeVerdict, withPending, changeOf}
 use Rattle.presence.specs.Opening.{fresh, blank, checkOpening, openOf}
-use Rattle.presence.specs.Step.{judgementFor, afterRound, refusedStep, acceptedStep, readStep, stepOf}
+use Rattle.presence.specs.Step.{readLength, seenBy, judgementFor, afterRound, refusedStep, acceptedStep, readStep, stepOf}
 use Rattle.presence.specs.Image.{stateOf, roomFor, roomAfter}
 use Rattle.presence.specs.declared.State.{State}
 use Rattle.presence.specs.declared.Opened.{Opened}
@@ -37,8 +39,8 @@ use Rattle.presence.specs.declared.Changed.{Changed}
 use Rattle.presence.proofs.ValidLaws.{StateFits, valid-fits, fits-verdict}
 use Rattle.presence.proofs.StateStepLaws.{open-accepts}
 use Rattle.presence.proofs.ImageState.{load-valid}
-use Rattle.calls.specs.Calls.{Called, refusedCall, wrote, checkCall, openCall, stepCall, changeCall, saveCall, outgoingCall, causeCall}
-use Rattle.calls.specs.Refusals.{sizeOf, hasRoom, openVerdict, stepVerdict, changingVerdict, savingVerdict, answering, oneOf, Refusals}
+use Rattle.calls.specs.Calls.{Called, refusedCall, wrote, checkCall, openCall, stepCall, changeCall, saveCall, outgoingCall, outgoingViewCall, causeCall}
+use Rattle.calls.specs.Refusals.{sizeOf, hasRoom, hasWords, seenIn, openVerdict, stepVerdict, changingVerdict, savingVerdict, answering, oneOf, Refusals}
 use Rattle.calls.specs.declared.CauseAnswer.{CauseAnswer}
 use Rattle.calls.proofs.ModuleCallLaws.{read-sized, left-is}
 
@@ -85,13 +87,13 @@ answered v health st out =
 room-by : (image out : List ℕ) → roomFor (stateOf image) out ≡ hasRoom image (leftIn image) out
 unfolding roomFor stateOf
 room-by image out =
-    ap (λ (left : ℕ). eqb (length out) (imageLength (frontOf (setupOf image)) (setupOf image .n) left)) (left-is image)
+    ap (λ (left : ℕ). eqb (length out) (imageLength (frontOf (setupOf image)) (setupOf image .n) left (setupOf image .partitionable))) (left-is image)
     ∙ ap (eqb (length out)) (sym (read-sized image (leftIn image)))
 
 after-by : (image out : List ℕ) → roomAfter (stateOf image) out ≡ hasRoom image (leftIn image - 1) out
 unfolding roomAfter stateOf
 after-by image out =
-    ap (λ (left : ℕ). eqb (length out) (imageLength (frontOf (setupOf image)) (setupOf image .n) (left - 1))) (left-is image)
+    ap (λ (left : ℕ). eqb (length out) (imageLength (frontOf (setupOf image)) (setupOf image .n) (left - 1) (setupOf image .partitionable))) (left-is image)
     ∙ ap (eqb (length out)) (sym (read-sized image (leftIn image - 1)))
 
 -- ---- opening
@@ -167,9 +169,9 @@ module _ (setup : List ℕ) (own : ℕ) (out : List ℕ) where
 -- of a state within the limits only the read and the controller bits are left to test
 stepped-by : (st : State) (read : List ℕ) (controller : ℕ) → StateFits st
     → stepOf st read controller
-    ≡ cond (eqb (length read) (st .setup .n * 4))
+    ≡ cond (eqb (length read) (readLength st))
     (cond (ltb controller (2 ^ st .setup .n))
-    (acceptedStep st (readingOf (st .setup .n) read controller) (causesOf (st .setup .n) read controller))
+    (acceptedStep st (readingOf (st .setup .n) read controller) (seenBy st read controller) (causesOf (st .setup .n) read controller))
     (refusedStep st 10 0))
     (refusedStep st 9 0)
 unfolding stepOf readStep
@@ -182,13 +184,16 @@ module _ (image read : List ℕ) (controller : ℕ) (out : List ℕ) where
   abbrev this : Reading
   this = readingOf (sizeOf image) read controller
 
+  abbrev seen : List ℕ
+  seen = seenIn image read controller
+
   abbrev done : Called
-  done = wrote (judgementFor st this .health) (afterRound st this)
+  done = wrote (judgementFor st this .health) (afterRound st this seen)
 
   -- by the tests of the image, of the room, of the read and of the controller bits
   step-chain : (v : Verdict) (a b c d : Bool) → isAccepted v ≡ a
       → cond a (cond b (cond c (cond d done (refusedCall 10 0 out)) (refusedCall 9 0 out)) (refusedCall 9 0 out)) (refusedCall (v .number) (v .index) out)
-      ≡ answering (cond a (cond (b && c) (cond d accepted (verdict 10 0)) (verdict 9 0)) v) (judgementFor st this .health) (afterRound st this) out
+      ≡ answering (cond a (cond (b && c) (cond d accepted (verdict 10 0)) (verdict 9 0)) v) (judgementFor st this .health) (afterRound st this seen) out
   unfolding answering
   step-chain v true true true true e = refl
   step-chain v true true true false e = refl
@@ -201,7 +206,7 @@ module _ (image read : List ℕ) (controller : ℕ) (out : List ℕ) where
   tells t = cond (eqb (t .number) 0) (wrote (t .health) (t .state)) (refusedCall (t .number) (t .index) out)
 
   tells-by : (causes : List ℕ) (c d : Bool)
-      → tells (cond c (cond d (acceptedStep st this causes) (refusedStep st 10 0)) (refusedStep st 9 0))
+      → tells (cond c (cond d (acceptedStep st this seen causes) (refusedStep st 10 0)) (refusedStep st 9 0))
       ≡ cond c (cond d done (refusedCall 10 0 out)) (refusedCall 9 0 out)
   unfolding tells acceptedStep refusedStep
   tells-by causes true true = refl
@@ -211,24 +216,24 @@ module _ (image read : List ℕ) (controller : ℕ) (out : List ℕ) where
   -- the verdict by these tests
   pub step-verdict : stepVerdict image read controller out
       ≡ cond (isAccepted (checkImage image))
-      (cond (hasRoom image (leftIn image - 1) out && eqb (length read) (sizeOf image * 4)) (cond (ltb controller (2 ^ sizeOf image)) accepted (verdict 10 0)) (verdict 9 0))
+      (cond (hasRoom image (leftIn image - 1) out && hasWords image read) (cond (ltb controller (2 ^ sizeOf image)) accepted (verdict 10 0)) (verdict 9 0))
       (checkImage image)
   unfolding stepVerdict andThen
   step-verdict =
       ap (λ (v : Verdict). cond (isAccepted (checkImage image)) v (checkImage image))
-      (two-answers 9 10 refl (hasRoom image (leftIn image - 1) out && eqb (length read) (sizeOf image * 4)) (ltb controller (2 ^ sizeOf image)))
+      (two-answers 9 10 refl (hasRoom image (leftIn image - 1) out && hasWords image read) (ltb controller (2 ^ sizeOf image)))
 
-  step : stepCall image read controller out ≡ answering (stepVerdict image read controller out) (judgementFor st this .health) (afterRound st this) out
+  step : stepCall image read controller out ≡ answering (stepVerdict image read controller out) (judgementFor st this .health) (afterRound st this seen) out
   unfolding stepCall tells stateOf setupOf
   step =
       cond-then (isAccepted (checkImage image)) _ _ _
       (λ t.
       let f = valid-fits st (load-valid image (eqb-true (checkImage image .number) 0 t)) in
       ap₂ (λ (b : Bool) (c : Called). cond b c (refusedCall 9 0 out)) (after-by image out)
-      (ap tells (stepped-by st read controller f) ∙ tells-by _ (eqb (length read) (sizeOf image * 4)) (ltb controller (2 ^ sizeOf image))))
-      ∙ step-chain (checkImage image) (isAccepted (checkImage image)) (hasRoom image (leftIn image - 1) out) (eqb (length read) (sizeOf image * 4))
+      (ap tells (stepped-by st read controller f) ∙ tells-by _ (hasWords image read) (ltb controller (2 ^ sizeOf image))))
+      ∙ step-chain (checkImage image) (isAccepted (checkImage image)) (hasRoom image (leftIn image - 1) out) (hasWords image read)
       (ltb controller (2 ^ sizeOf image)) refl
-      ∙ ap (λ (v : Verdict). answering v (judgementFor st this .health) (afterRound st this) out) (sym step-verdict)
+      ∙ ap (λ (v : Verdict). answering v (judgementFor st this .health) (afterRound st this seen) out) (sym step-verdict)
 
 -- ---- change
 
@@ -354,7 +359,7 @@ pub both-accept : (v next : Verdict) → v .number ≡ 0 → next ≡ accepted �
 both-accept v next z e = and-then-next v next z ∙ e
 
 pub open-accepted : (setup : List ℕ) (own : ℕ) (out : List ℕ) → checkSetup setup .number ≡ 0 → 1 ≤ own → own ≤ sizeOf setup
-    → length out ≡ imageLength (frontIn (wordAt setup)) (sizeOf setup) 0 → openCall setup own out .answer .number ≡ 0
+    → length out ≡ imageLength (frontIn (wordAt setup)) (sizeOf setup) 0 (partitionableIn (wordAt setup 0)) → openCall setup own out .answer .number ≡ 0
 unfolding openVerdict Passed
 open-accepted setup own out z h l room =
     let e : openVerdict setup own out ≡ accepted =
@@ -364,14 +369,15 @@ open-accepted setup own out z h l room =
     in
     ap (λ (c : Called). c .answer .number) (opening setup own out) ∙ answered (openVerdict setup own out) 0 _ out ∙ ap (λ (v : Verdict). v .number) e
 
-pub step-accepted : (image read : List ℕ) (controller : ℕ) (out : List ℕ) → checkImage image .number ≡ 0 → length out ≡ imageLength (frontIn (wordAt image)) (sizeOf image) (leftIn image - 1)
-    → length read ≡ sizeOf image * 4 → controller < 2 ^ sizeOf image → stepCall image read controller out .answer .number ≡ 0
+pub step-accepted : (image read : List ℕ) (controller : ℕ) (out : List ℕ) → checkImage image .number ≡ 0
+    → length out ≡ imageLength (frontIn (wordAt image)) (sizeOf image) (leftIn image - 1) (partitionableIn (wordAt image 0))
+    → length read ≡ readWords (partitionableIn (wordAt image 0)) (sizeOf image) * 4 → controller < 2 ^ sizeOf image → stepCall image read controller out .answer .number ≡ 0
 unfolding stepVerdict Passed
 step-accepted image read controller out z room whole bits =
     let e : stepVerdict image read controller out ≡ accepted =
     both-accept (checkImage image) _ z
     (tests-ok
-    (single (hasRoom image (leftIn image - 1) out && eqb (length read) (sizeOf image * 4)) 9 0 ∷ single (ltb controller (2 ^ sizeOf image)) 10 0 ∷ [])
+    (single (hasRoom image (leftIn image - 1) out && hasWords image read) 9 0 ∷ single (ltb controller (2 ^ sizeOf image)) 10 0 ∷ [])
     (λ _ _. and-true (hasRoom image (leftIn image - 1) out) _ (eq-eqb _ _ room) (eq-eqb _ _ whole), (λ _ _. lt-ltb controller _ bits, tt)))
     in
     ap (λ (c : Called). c .answer .number) (step image read controller out) ∙ answered (stepVerdict image read controller out) _ _ out
@@ -456,6 +462,12 @@ module _ (ns : List ℕ) where
       among-then _ _ (among-all (headTests s _) (h .zero) (h .head _))
       (among-all (imageTests s _) (h .zero) (among-join (wordTests s _) (tailTests (fadesIn (wordAt s)) (wordAt s) _) (word-numbers s h _) (tail (fadesIn (wordAt s)) _)))
 
+-- every test of the views has number 8
+view-numbers : (ns : List ℕ) (b : Bool) → oneOf ns 8 ≡ true → (w : ℕ → ℕ) (n view at : ℕ) → allAmong ns (viewTests b w n view at) ≡ true
+unfolding allAmong
+view-numbers ns true e w n view at = rw e
+view-numbers ns false e w n view at = refl
+
 -- the same of what a call answers
 numbered : (ns : List ℕ) {c : Called} (v : Verdict) (health : ℕ) (st : State) (out : List ℕ) → c ≡ answering v health st out
     → oneOf ns (v .number) ≡ true → oneOf ns (c .answer .number) ≡ true
@@ -481,11 +493,11 @@ step-numbers image read controller out =
     let ns : List ℕ = 0 ∷ 1 ∷ 2 ∷ 3 ∷ 4 ∷ 5 ∷ 6 ∷ 7 ∷ 8 ∷ 9 ∷ 10 ∷ 22 ∷ [] in
     numbered ns (stepVerdict image read controller out) _ _ out (step image read controller out)
     (among-then ns (checkImage image) _ (among-image ns image (record { zero = refl; head = λ _. refl; counts = refl; fading = refl; modules = λ _ _. refl }) tails)
-    (among-all ns (single (hasRoom image (leftIn image - 1) out && eqb (length read) (sizeOf image * 4)) 9 0 ∷ single (ltb controller (2 ^ sizeOf image)) 10 0 ∷ []) refl refl))
+    (among-all ns (single (hasRoom image (leftIn image - 1) out && hasWords image read) 9 0 ∷ single (ltb controller (2 ^ sizeOf image)) 10 0 ∷ []) refl refl))
   where
     tails : (b : Bool) (n : ℕ) → allAmong (0 ∷ 1 ∷ 2 ∷ 3 ∷ 4 ∷ 5 ∷ 6 ∷ 7 ∷ 8 ∷ 9 ∷ 10 ∷ 22 ∷ []) (tailTests b (wordAt image) n) ≡ true
-    tails true n = refl
-    tails false n = refl
+    tails true n = view-numbers (0 ∷ 1 ∷ 2 ∷ 3 ∷ 4 ∷ 5 ∷ 6 ∷ 7 ∷ 8 ∷ 9 ∷ 10 ∷ 22 ∷ []) (partitionableIn (wordAt image 0)) refl (wordAt image) n _ _
+    tails false n = view-numbers (0 ∷ 1 ∷ 2 ∷ 3 ∷ 4 ∷ 5 ∷ 6 ∷ 7 ∷ 8 ∷ 9 ∷ 10 ∷ 22 ∷ []) (partitionableIn (wordAt image 0)) refl (wordAt image) n _ _
 
 change-numbers : (image new : List ℕ) (lead : ℕ) (out : List ℕ)
     → oneOf (0 ∷ 1 ∷ 2 ∷ 3 ∷ 4 ∷ 5 ∷ 6 ∷ 7 ∷ 8 ∷ 9 ∷ 22 ∷ 23 ∷ 24 ∷ []) (changeCall image new lead out .answer .number) ≡ true
@@ -500,8 +512,8 @@ change-numbers image new lead out =
     refl refl)))
   where
     tails : (b : Bool) (n : ℕ) → allAmong (0 ∷ 1 ∷ 2 ∷ 3 ∷ 4 ∷ 5 ∷ 6 ∷ 7 ∷ 8 ∷ 9 ∷ 22 ∷ 23 ∷ 24 ∷ []) (tailTests b (wordAt image) n) ≡ true
-    tails true n = refl
-    tails false n = refl
+    tails true n = view-numbers (0 ∷ 1 ∷ 2 ∷ 3 ∷ 4 ∷ 5 ∷ 6 ∷ 7 ∷ 8 ∷ 9 ∷ 22 ∷ 23 ∷ 24 ∷ []) (partitionableIn (wordAt image 0)) refl (wordAt image) n _ _
+    tails false n = view-numbers (0 ∷ 1 ∷ 2 ∷ 3 ∷ 4 ∷ 5 ∷ 6 ∷ 7 ∷ 8 ∷ 9 ∷ 22 ∷ 23 ∷ 24 ∷ []) (partitionableIn (wordAt image 0)) refl (wordAt image) n _ _
 
 saving-numbers : (image out : List ℕ) → oneOf (0 ∷ 1 ∷ 2 ∷ 3 ∷ 4 ∷ 5 ∷ 6 ∷ 7 ∷ 8 ∷ 9 ∷ 22 ∷ []) (saveCall image out .answer .number) ≡ true
 unfolding savingVerdict oneOf allAmong
@@ -511,8 +523,8 @@ saving-numbers image out =
     (among-then ns (checkImage image) _ (among-image ns image (record { zero = refl; head = λ _. refl; counts = refl; fading = refl; modules = λ _ _. refl }) tails) (among-all ns (single (hasRoom image (leftIn image) out) 9 0 ∷ []) refl refl))
   where
     tails : (b : Bool) (n : ℕ) → allAmong (0 ∷ 1 ∷ 2 ∷ 3 ∷ 4 ∷ 5 ∷ 6 ∷ 7 ∷ 8 ∷ 9 ∷ 22 ∷ []) (tailTests b (wordAt image) n) ≡ true
-    tails true n = refl
-    tails false n = refl
+    tails true n = view-numbers (0 ∷ 1 ∷ 2 ∷ 3 ∷ 4 ∷ 5 ∷ 6 ∷ 7 ∷ 8 ∷ 9 ∷ 22 ∷ []) (partitionableIn (wordAt image 0)) refl (wordAt image) n _ _
+    tails false n = view-numbers (0 ∷ 1 ∷ 2 ∷ 3 ∷ 4 ∷ 5 ∷ 6 ∷ 7 ∷ 8 ∷ 9 ∷ 22 ∷ []) (partitionableIn (wordAt image 0)) refl (wordAt image) n _ _
 
 outgoing-numbers : (image : List ℕ) → oneOf (0 ∷ 1 ∷ 2 ∷ 3 ∷ 4 ∷ 5 ∷ 6 ∷ 7 ∷ 8 ∷ 22 ∷ []) (outgoingCall image .number) ≡ true
 unfolding outgoingCall oneOf allAmong
@@ -521,8 +533,12 @@ outgoing-numbers image =
     among-image ns image (record { zero = refl; head = λ _. refl; counts = refl; fading = refl; modules = λ _ _. refl }) tails
   where
     tails : (b : Bool) (n : ℕ) → allAmong (0 ∷ 1 ∷ 2 ∷ 3 ∷ 4 ∷ 5 ∷ 6 ∷ 7 ∷ 8 ∷ 22 ∷ []) (tailTests b (wordAt image) n) ≡ true
-    tails true n = refl
-    tails false n = refl
+    tails true n = view-numbers (0 ∷ 1 ∷ 2 ∷ 3 ∷ 4 ∷ 5 ∷ 6 ∷ 7 ∷ 8 ∷ 22 ∷ []) (partitionableIn (wordAt image 0)) refl (wordAt image) n _ _
+    tails false n = view-numbers (0 ∷ 1 ∷ 2 ∷ 3 ∷ 4 ∷ 5 ∷ 6 ∷ 7 ∷ 8 ∷ 22 ∷ []) (partitionableIn (wordAt image 0)) refl (wordAt image) n _ _
+
+outgoing-view-numbers : (image : List ℕ) → oneOf (0 ∷ 1 ∷ 2 ∷ 3 ∷ 4 ∷ 5 ∷ 6 ∷ 7 ∷ 8 ∷ 22 ∷ []) (outgoingViewCall image .number) ≡ true
+unfolding outgoingCall outgoingViewCall
+outgoing-view-numbers image = outgoing-numbers image
 
 cause-numbers : (n controller word : ℕ) → oneOf (0 ∷ 2 ∷ 10 ∷ []) (causeCall n controller word .number) ≡ true
 unfolding causeCall oneOf
@@ -542,5 +558,6 @@ refusals = record {
   change-numbers = change-numbers;
   saving-numbers = saving-numbers;
   outgoing-numbers = outgoing-numbers;
+  outgoing-view-numbers = outgoing-view-numbers;
   cause-numbers = cause-numbers;
 }

@@ -22,6 +22,9 @@ use Rattle.setup.specs.Check.{moduleFits, markFits, whole, headFits, headOk, li
 use Rattle.changes.specs.Pending.{nothing, countedDown, pendingRoomy}
 use Rattle.changes.specs.Books.{turned, counted, booksAfter}
 use Rattle.changes.specs.Words.{leftOk, newTest, pendingIn, newWord}
+use Rattle.views.specs.ViewWord.{viewsSeen}
+use Rattle.views.specs.Views.{noViews, freshViews}
+use Rattle.views.specs.Section.{viewsIn, viewsRoomy}
 use Rattle.image.specs.Words.{ownNumberOk, ownOk, syndromeOk}
 use Rattle.image.specs.Rows.{rowFits, rowOk, readingIn, rowsRoomy}
 use Rattle.image.specs.CounterSection.{counterOk}
@@ -29,11 +32,11 @@ use Rattle.image.specs.Counters.{countersIn, countersRoomy}
 use Rattle.image.specs.Check.{checkTail, checkImage}
 use Rattle.presence.specs.Valid.{roomy, stateVerdict}
 use Rattle.presence.specs.Opening.{fresh, blank, checkOpening, openOf}
-use Rattle.presence.specs.Step.{placeOf, markOf, ownSyndrome, alignedFor, judgementFor, outgoingFor, afterRound, refusedStep, acceptedStep, readStep, stepOf}
+use Rattle.presence.specs.Step.{placeOf, markOf, ownSyndrome, alignedFor, judgementFor, outgoingFor, viewsFor, outgoingView, afterRound, refusedStep, acceptedStep, readStep, stepOf}
 use Rattle.presence.specs.Image.{imageOf, stateOf, roomFor, roomAfter}
 use Rattle.calls.specs.Calls.{refusedCall, wrote, checkCall, openCall, stepCall, saveCall}
 use Rattle.calls.specs.ReturnCases.{ReturnCasesRight}
 
 pub return-cases-right : ReturnCasesRight
-unfolding fits ofInt toBits double doubles clearDoubles wordAt putWord bytesOf bit pack count any all lowest array bounded andThen outcome thenTests runsOf runWord fadesIn limitsIn limitList setupOf setupBytes blankSetup moduleFits markFits whole headFits headOk limitOk moduleOk markOk moduleTest checkHead checkWords checkSetup setupRoomy roomVerdict setupVerdict skewed busWord receptionOf isHeard heardRow causeIn entryOf readingOf causesOf alignedOf decision tally voteOf healthOf differsAt accusationOf accusationsOf syndromeOf votersOf judgementOf outgoingOf charged rewarded awaited accounted accountedBy accountAt accountedAt countersOf rowFits ownNumberOk ownOk rowOk syndromeOk readingIn rowsRoomy countersIn counterOk countersRoomy checkTail checkImage roomy stateVerdict fresh blank checkOpening openOf placeOf markOf ownSyndrome alignedFor judgementFor outgoingFor afterRound refusedStep acceptedStep readStep stepOf imageOf stateOf roomFor refusedCall wrote openCall stepCall checkCall saveCall nothing countedDown pendingRoomy turned counted booksAfter leftOk newTest pendingIn newWord roomAfter
+unfolding fits ofInt toBits double doubles clearDoubles wordAt putWord bytesOf bit pack count any all lowest array bounded andThen outcome thenTests runsOf runWord fadesIn limitsIn limitList setupOf setupBytes blankSetup moduleFits markFits whole headFits headOk limitOk moduleOk markOk moduleTest checkHead checkWords checkSetup setupRoomy roomVerdict setupVerdict skewed busWord receptionOf isHeard heardRow causeIn entryOf readingOf causesOf alignedOf decision tally voteOf healthOf differsAt accusationOf accusationsOf syndromeOf votersOf judgementOf outgoingOf charged rewarded awaited accounted accountedBy accountAt accountedAt countersOf rowFits ownNumberOk ownOk rowOk syndromeOk readingIn rowsRoomy countersIn counterOk countersRoomy checkTail checkImage roomy stateVerdict fresh blank checkOpening openOf placeOf markOf ownSyndrome alignedFor judgementFor outgoingFor afterRound refusedStep acceptedStep readStep stepOf imageOf stateOf roomFor refusedCall wrote openCall stepCall checkCall saveCall nothing countedDown pendingRoomy turned counted booksAfter leftOk newTest pendingIn newWord viewsSeen noViews freshViews viewsIn viewsRoomy viewsFor outgoingView roomAfter
 return-cases-right = refl

@@ -1,5 +1,5 @@
 -- What C calls: the answer, and the output at exit, which a refusal leaves as it was. (document 01, "What runs"; "Answers and their order";
--- document 02, E10: a change, and an output that has the length of the image after the call)
+-- document 02, E10: a change, and an output that has the length of the image after the call; E11: the view word)
 use Prim.Native.Nat.{ℕ}
 use mathlib.Core.Bool.{cond}
 use mathlib.Core.List.{List}
@@ -8,6 +8,7 @@ use Rattle.words.specs.Verdict.{isAccepted, between}
 use Rattle.setup.specs.Setup.{setupOf}
 use Rattle.setup.specs.Check.{checkSetup}
 use Rattle.rules.specs.Hearing.{busWord, receptionOf, heardRow, causeIn}
+use Rattle.views.specs.ViewWord.{viewWord}
 use Rattle.image.specs.Check.{checkImage}
 use Rattle.presence.specs.Opening.{openOf}
 use Rattle.presence.specs.Step.{markOf, stepOf}
@@ -94,6 +95,17 @@ unfoldable pub outgoingCall : List ℕ → WordAnswer
 outgoingCall image =
     let v = checkImage image in
     record { number = v .number; index = v .index; word = cond (isAccepted v) (handedOut (stateOf image)) 0 }
+
+-- The view word handed out by the step or opening that left this state: with the send mark that of the local view before the latest, else that of the
+-- latest; 0 where the setup is not partitionable. (document 02, E11)
+unfoldable pub viewHandedOut : State → ℕ
+viewHandedOut st = cond (st .setup .partitionable) (viewWord (cond (markOf st) (st .views .earlier) (st .counters .view))) 0
+
+-- the outgoing view word of an image, 0 where it is refused: 1 to 8 and 22
+unfoldable pub outgoingViewCall : List ℕ → WordAnswer
+outgoingViewCall image =
+    let v = checkImage image in
+    record { number = v .number; index = v .index; word = cond (isAccepted v) (viewHandedOut (stateOf image)) 0 }
 
 -- a refusal to read one word: index, cause and row are 0
 abbrev pub refusedCause : ℕ → CauseAnswer

@@ -2,7 +2,7 @@
 -- proofs/Cases.antt. The accounts of one module alone are in accounts/specs/Cases.antt.
 use Prim.Native.Nat.{ℕ, _*_}
 use mathlib.Core.Path.{_≡_}
-use mathlib.Core.Bool.{true}
+use mathlib.Core.Bool.{true, false}
 use mathlib.Core.List.{List, [], _∷_, _++_}
 use lib.ListN.{getD, length, replicate, take}
 use Rattle.words.specs.Word.{putWord, bytesOf}
@@ -122,7 +122,7 @@ orderCases =
 -- output is refused, and an image with 21 or 22
 abbrev pub imageLengthCases : List Case
 imageLengthCases =
-    case (imageLength 6 3 0) (25 * 4) ∷ case (length (openedImage half)) (25 * 4) ∷ answers (openCall half 1 out .answer) 0 0
+    case (imageLength 6 3 0 false) (25 * 4) ∷ case (length (openedImage half)) (25 * 4) ∷ answers (openCall half 1 out .answer) 0 0
     ++ (answers (openCall half 1 (replicate 84 0) .answer) 9 0 ++ (answers (openCall half 1 (replicate 96 0) .answer) 9 0
     ++ (answers (stepCall (openedImage half) (bytesOf 3 (λ j. busWord good)) 7 (replicate 88 0) .answer) 9 0
     ++ (answers (saveCall (openedImage half) (replicate 88 0) .answer) 9 0 ++ (answers (saveCall (openedImage half) out .answer) 0 0

@@ -5,3 +5,4 @@ pub mod ReturnCases
 pub mod Held
 pub mod Cases
 pub mod NewLimitCases
+pub mod TornCases

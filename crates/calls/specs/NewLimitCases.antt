@@ -2,7 +2,7 @@
 -- proofs/NewLimitCases.antt.
 use Prim.Native.Nat.{ℕ, _+_, _*_}
 use mathlib.Core.Path.{_≡_}
-use mathlib.Core.Bool.{true}
+use mathlib.Core.Bool.{true, false}
 use mathlib.Core.List.{List, [], _∷_, _++_}
 use lib.ListN.{getD, length, replicate, take}
 use Rattle.words.specs.Word.{putWord, bytesOf}
@@ -85,7 +85,7 @@ accountsHeld s view account = holds s 6 ((0xA001_0000 + view) ∷ []) ++ holds s
 -- and all else is as it was; saving writes the same words again.
 abbrev pub pendingImageCases : List Case
 pendingImageCases =
-    case (imageLength 3 3 0) (22 * 4) ∷ case (imageLength 3 3 1) (27 * 4) ∷ case (imageLength 3 3 1000) (27 * 4) ∷ case (imageLength 6 3 0) (25 * 4)
+    case (imageLength 3 3 0 false) (22 * 4) ∷ case (imageLength 3 3 1 false) (27 * 4) ∷ case (imageLength 3 3 1000 false) (27 * 4) ∷ case (imageLength 6 3 0 false) (25 * 4)
     ∷ (answers (openCall old 1 short .answer) 0 0 ++ (answers (openCall old 1 (take 84 short) .answer) 9 0 ++ (answers (openCall old 1 long .answer) 9 0
     ++ (case (length (openCall old 1 short .out)) 88
     ∷ holds (openCall old 1 short .out) 0

@@ -1,5 +1,5 @@
 -- Which calls from C are refused, by which number at which word, and that every other call is accepted. (demand 1; document 01, "Answers
--- and their order"; document 02, E10) Here the answers of a call stand in one chain, and so does what it writes. The definitions of specs/Calls.antt go through
+-- and their order"; document 02, E10 and E11) Here the answers of a call stand in one chain, and so does what it writes. The definitions of specs/Calls.antt go through
 -- the struct that the bytes hold; once the bytes have passed their check, the struct's own check has nothing left to refuse.
 -- Proved in proofs/Refusals.antt.
 use Prim.Native.Nat.{ℕ, _-_, _*_, _^_}
@@ -10,19 +10,20 @@ use lib.ListN.{length}
 use lib.Dec.{eqb, ltb}
 use Rattle.words.specs.Word.{wordAt}
 use Rattle.words.specs.Verdict.{isAccepted, between, single, andThen, firstRefusal}
-use Rattle.setup.specs.Setup.{sizeIn, frontIn, setupOf}
+use Rattle.setup.specs.Setup.{sizeIn, partitionableIn, frontIn, setupOf}
 use Rattle.setup.specs.Check.{checkSetup}
 use Rattle.words.specs.declared.Verdict.{Verdict}
 use Rattle.rules.specs.Hearing.{readingOf}
 use Rattle.changes.specs.Pending.{mostLead, pendingOf}
 use Rattle.changes.specs.Frame.{sameFrame}
+use Rattle.views.specs.ViewWord.{readWords, viewsSeen}
 use Rattle.image.specs.Layout.{imageLength}
 use Rattle.image.specs.Check.{leftIn, checkImage}
 use Rattle.presence.specs.Opening.{fresh}
 use Rattle.presence.specs.Step.{judgementFor, afterRound}
 use Rattle.presence.specs.Change.{withPending}
 use Rattle.presence.specs.Image.{stateOf}
-use Rattle.calls.specs.Calls.{Called, refusedCall, wrote, checkCall, openCall, stepCall, changeCall, saveCall, outgoingCall, causeCall}
+use Rattle.calls.specs.Calls.{Called, refusedCall, wrote, checkCall, openCall, stepCall, changeCall, saveCall, outgoingCall, outgoingViewCall, causeCall}
 use Rattle.presence.specs.declared.State.{State}
 
 -- N, by the head of the bytes
@@ -31,7 +32,15 @@ sizeOf s = sizeIn (wordAt s 0)
 
 -- the output has the length of an image with so many rounds left of the setup at the front of s, an image's or a setup's bytes
 abbrev pub hasRoom : List ℕ → ℕ → List ℕ → Bool
-hasRoom s left out = eqb (length out) (imageLength (frontIn (wordAt s)) (sizeOf s) left)
+hasRoom s left out = eqb (length out) (imageLength (frontIn (wordAt s)) (sizeOf s) left (partitionableIn (wordAt s 0)))
+
+-- the read has N words, or 2N where the setup of the image is partitionable
+abbrev pub hasWords : List ℕ → List ℕ → Bool
+hasWords image read = eqb (length read) (readWords (partitionableIn (wordAt image 0)) (sizeOf image) * 4)
+
+-- the view words of such a read
+abbrev pub seenIn : List ℕ → List ℕ → ℕ → List ℕ
+seenIn image read controller = viewsSeen (partitionableIn (wordAt image 0)) (sizeOf image) read controller
 
 -- ---- the answers, in their order
 
@@ -44,7 +53,7 @@ openVerdict setup own out =
 unfoldable pub stepVerdict : List ℕ → List ℕ → ℕ → List ℕ → Verdict
 stepVerdict image read controller out =
     andThen (checkImage image)
-    (firstRefusal (single (hasRoom image (leftIn image - 1) out && eqb (length read) (sizeOf image * 4)) 9 0 ∷ single (ltb controller (2 ^ sizeOf image)) 10 0 ∷ []))
+    (firstRefusal (single (hasRoom image (leftIn image - 1) out && hasWords image read) 9 0 ∷ single (ltb controller (2 ^ sizeOf image)) 10 0 ∷ []))
 
 -- change: 1 to 8 and 22 for the image, 1 to 6 and 22 for the new setup, 23 where anything but P, R and the criticalities differs or either side
 -- fades, 24 where a change is pending or the lead is out of range, 9 for the output, in which the rounds left are the lead
@@ -82,7 +91,7 @@ pub record Refusals : Type 0 where
   pub step : (image read : List ℕ) (controller : ℕ) (out : List ℕ)
       → let st = stateOf image in
       let this = readingOf (sizeOf image) read controller in
-      stepCall image read controller out ≡ answering (stepVerdict image read controller out) (judgementFor st this .health) (afterRound st this) out
+      stepCall image read controller out ≡ answering (stepVerdict image read controller out) (judgementFor st this .health) (afterRound st this (seenIn image read controller)) out
   -- an accepted change writes the state that was read, with the change pending
   pub changing : (image new : List ℕ) (lead : ℕ) (out : List ℕ)
       → changeCall image new lead out ≡ answering (changingVerdict image new lead out) 0 (withPending (stateOf image) (pendingOf (setupOf new) lead)) out
@@ -99,4 +108,5 @@ pub record Refusals : Type 0 where
   pub saving-numbers : (image out : List ℕ)
       → oneOf (0 ∷ 1 ∷ 2 ∷ 3 ∷ 4 ∷ 5 ∷ 6 ∷ 7 ∷ 8 ∷ 9 ∷ 22 ∷ []) (saveCall image out .answer .number) ≡ true
   pub outgoing-numbers : (image : List ℕ) → oneOf (0 ∷ 1 ∷ 2 ∷ 3 ∷ 4 ∷ 5 ∷ 6 ∷ 7 ∷ 8 ∷ 22 ∷ []) (outgoingCall image .number) ≡ true
+  pub outgoing-view-numbers : (image : List ℕ) → oneOf (0 ∷ 1 ∷ 2 ∷ 3 ∷ 4 ∷ 5 ∷ 6 ∷ 7 ∷ 8 ∷ 22 ∷ []) (outgoingViewCall image .number) ≡ true
   pub cause-numbers : (n controller word : ℕ) → oneOf (0 ∷ 2 ∷ 10 ∷ []) (causeCall n controller word .number) ≡ true

@@ -2,7 +2,7 @@
 -- limit: what the calls give, and what document 02 says. Computed in proofs/ReturnCases.antt.
 use Prim.Native.Nat.{ℕ, suc, _*_}
 use mathlib.Core.Path.{_≡_}
-use mathlib.Core.Bool.{Bool, true, _&&_}
+use mathlib.Core.Bool.{Bool, true, false, _&&_}
 use mathlib.Core.List.{List, [], _∷_, _++_}
 use lib.Dec.{eqb}
 use lib.ListN.{getD, replicate, take}
@@ -60,11 +60,11 @@ after (row ∷ rows) image = after rows (stepCall image (bytesOf 4 (λ j. busWor
 abbrev pub away : ℕ → List ℕ → List ℕ
 away head rows = after (13 ∷ 13 ∷ rows) (openedImage head)
 
--- ---- head bits 27..8 give Q, 0 for never or 1..1,000,000; number 2 covers Q, and the spare bits 7..5
+-- ---- head bits 27..8 give Q, 0 for never or 1..1,000,000; number 2 covers Q, and the spare bits 7..6; bit 5 is taken (document 02, E11)
 abbrev pub headCases : List Case
 headCases =
     answers (checkCall (setup 0x1000_0004)) 0 0 ++ (answers (checkCall (setup 0x1000_0104)) 0 0 ++ (answers (checkCall (setup 0x1F42_4004)) 0 0
-    ++ (answers (checkCall (setup 0x1F42_4104)) 2 0 ++ (answers (checkCall (setup 0x1FFF_FF04)) 2 0 ++ (answers (checkCall (setup 0x1000_0024)) 2 0
+    ++ (answers (checkCall (setup 0x1F42_4104)) 2 0 ++ (answers (checkCall (setup 0x1FFF_FF04)) 2 0 ++ (answers (checkCall (setup 0x1000_0024)) 0 0
     ++ (answers (checkCall (setup 0x1000_0044)) 2 0 ++ answers (checkCall (setup 0x1000_0084)) 2 0))))))
 
 -- ---- an image has N words of kind 15 after those of kind 14, for 3 and 9; at opening the counts are 0. The rounds left (document 02, E10) are the last
@@ -72,7 +72,7 @@ headCases =
 abbrev pub imageCases : List Case
 imageCases =
     holds (openedImage 0x1000_0204) 18 (0xE080_0000 ∷ 0xE100_0000 ∷ 0xE180_0000 ∷ 0xE200_0000 ∷ 0xF080_0000 ∷ 0xF100_0000 ∷ 0xF180_0000 ∷ 0xF200_0000 ∷ 0 ∷ [])
-    ++ (case (imageLength 3 4 0) (27 * 4) ∷ answers (openCall (setup 0x1000_0204) 1 (replicate 88 0) .answer) 9 0
+    ++ (case (imageLength 3 4 0 false) (27 * 4) ∷ answers (openCall (setup 0x1000_0204) 1 (replicate 88 0) .answer) 9 0
     ++ answers (saveCall (take 88 (openedImage 0x1000_0204)) out .answer) 3 0)
 
 -- ---- Q = 2: a module outside the view with health 1 for Q rounds running returns with penalty P and reward 0

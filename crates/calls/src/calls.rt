@@ -18,23 +18,31 @@ use image::load_image;
 use image::own_in;
 use image::save_accounts;
 use image::save_sections;
+use image::views_at;
 use setup::bounds::fades_at;
 use setup::bounds::front_words;
 use setup::check::size_at;
 use setup::layout::LEAST_MODULES;
 use setup::layout::MOST_MODULES;
 use setup::layout::setup_words;
+use views::lent::save_full;
+use views::read::read_words;
+use views::word::view_word;
 use words::array::filled;
 use words::bits::bit_at;
 use words::bits::full_of;
+use words::bits::pick;
 use words::bits::power;
 use words::word::copy_words;
 use words::word::put_word;
 use words::word::word_at;
 ghost use mathlib.Core.Path.{_≡_};
+ghost use Rattle.words.specs.Word.{wordAt};
+ghost use Rattle.setup.specs.Setup.{sizeIn, frontIn};
 ghost use Rattle.image.specs.Check.{checkImage};
+ghost use Rattle.presence.specs.Step.{markOf};
 ghost use Rattle.presence.specs.Image.{stateOf};
-ghost use Rattle.calls.specs.Calls.{answer, called, checkCall, openCall, stepCall, changeCall, saveCall, handedOut, outgoingCall, refusedCause, causeCall};
+ghost use Rattle.calls.specs.Calls.{answer, called, checkCall, openCall, stepCall, changeCall, saveCall, handedOut, outgoingCall, viewHandedOut, outgoingViewCall, refusedCause, causeCall};
 
 // An answer without health.
 fn refuse(number: u32, index: u32) -> Answer
@@ -72,7 +80,8 @@ pub extern "C" fn presence_open(bytes: &[u8], own: u32, out: &mut [u8]) -> Answe
     if (own < 1) | (n < own as usize) {
         return refuse(7, 0);
     }
-    if out.len() != image_length(front, n, 0) {
+    let partitionable = bit_at(word_at(bytes, 0), 5);
+    if out.len() != image_length(front, n, 0, partitionable) {
         return refuse(9, 0);
     }
     let full = full_of(n);
@@ -82,6 +91,10 @@ pub extern "C" fn presence_open(bytes: &[u8], own: u32, out: &mut [u8]) -> Answe
     save_sections(fades, n, own as usize, full, full, &rows, full, full, out);
     save_accounts(fades, n, &zeros, &zeros, &zeros, out);
     put_word(out, left_at(front, n), 0);
+    if partitionable {
+        save_full(n, full, out, views_at(front, n, 0));
+        return refuse(0, 0);
+    }
     refuse(0, 0)
 }
 
@@ -126,8 +139,9 @@ pub extern "C" fn presence_step(
     if !part.good {
         return refuse_image(image);
     }
-    let long = image_length(front_words(fades), n, left_after(part.left));
-    if (out.len() != long) | (read.len() != n * 4) {
+    let partitionable = bit_at(word_at(image, 0), 5);
+    let long = image_length(front_words(fades), n, left_after(part.left), partitionable);
+    if (out.len() != long) | (read.len() != read_words(partitionable, n) * 4) {
         return refuse(9, 0);
     }
     if power(n) <= controller {
@@ -148,6 +162,7 @@ pub extern "C" fn presence_step(
     let health = played(
         image,
         fades,
+        partitionable,
         n,
         part,
         limits,
@@ -189,7 +204,7 @@ pub extern "C" fn presence_change(image: &[u8], bytes: &[u8], lead: u32, out: &m
     if (left != 0) | ((lead < 1) | (MOST_LEAD < lead)) {
         return refuse(24, 0);
     }
-    if out.len() != image_length(3, n, lead) {
+    if out.len() != image_length(3, n, lead, bit_at(word_at(image, 0), 5)) {
         return refuse(9, 0);
     }
     save_changed(image, bytes, n, lead, out);
@@ -212,6 +227,15 @@ pub extern "C" fn presence_save(image: &[u8], out: &mut [u8]) -> Answer
     refuse(0, 0)
 }
 
+// The send mark of the module itself, in its own word.
+fn own_mark(image: &[u8], front: usize, n: usize) -> bool
+    requires { ⌜ (checkImage (now image) .number ≡ 0) × (front ≡ frontIn (wordAt (now image))) × (n ≡ sizeIn (wordAt (now image) 0)) ⌝ }
+    ensures { λ r. ⌜ r ≡ markOf (stateOf (now (image .entry))) ⌝ }
+{
+    let own = own_in(image, front, n);
+    bit_at(word_at(image, front + own - 1), 22)
+}
+
 // The word handed out by the step or opening that wrote this image.
 fn word_in(image: &[u8]) -> u32
     requires { ⌜ checkImage (now image) .number ≡ 0 ⌝ }
@@ -219,11 +243,21 @@ fn word_in(image: &[u8]) -> u32
 {
     let n = size_at(image);
     let front = front_words(fades_at(image));
-    let own = own_in(image, front, n);
-    let mark = bit_at(word_at(image, front + own - 1), 22);
+    let mark = own_mark(image, front, n);
     let earlier = earlier_in(image, front, n);
     let latest = latest_in(image, front, n);
     rules::judge::outgoing(mark, earlier, latest)
+}
+
+// An answer without a word, by a number and the place of a word in the image.
+fn refuse_word(number: u32, place: u32) -> WordAnswer
+    ensures { λ r. ⌜ (r .number ≡ number) × (r .index ≡ place) × (r .word ≡ 0) ⌝ }
+{
+    WordAnswer {
+        number,
+        index: place,
+        word: 0,
+    }
 }
 
 // The word to put on the bus, from an image: 1 to 8 and 22.
@@ -233,16 +267,43 @@ pub extern "C" fn presence_outgoing(image: &[u8]) -> WordAnswer
 {
     let v = check_image(image);
     if v.number != 0 {
-        return WordAnswer {
-            number: v.number,
-            index: v.index,
-            word: 0,
-        };
+        return refuse_word(v.number, v.index);
     }
     WordAnswer {
         number: 0,
         index: 0,
         word: word_in(image),
+    }
+}
+
+// The view word handed out by the step or opening that wrote this image.
+fn view_word_in(image: &[u8]) -> u32
+    requires { ⌜ checkImage (now image) .number ≡ 0 ⌝ }
+    ensures { λ r. ⌜ r ≡ viewHandedOut (stateOf (now (image .entry))) ⌝ }
+{
+    if !bit_at(word_at(image, 0), 5) {
+        return 0;
+    }
+    let n = size_at(image);
+    let front = front_words(fades_at(image));
+    let mark = own_mark(image, front, n);
+    let at = views_at(front, n, word_at(image, left_at(front, n)));
+    view_word(pick(mark, word_at(image, at + n + 1), word_at(image, at + n)))
+}
+
+// The second word to put on the bus, from an image, 0 where its setup is not partitionable: 1 to 8 and 22.
+#[no_mangle]
+pub extern "C" fn presence_outgoing_view(image: &[u8]) -> WordAnswer
+    ensures { λ r. ⌜ r ≡ outgoingViewCall (now (image .entry)) ⌝ }
+{
+    let found = check_image(image);
+    if found.number != 0 {
+        return refuse_word(found.number, found.index);
+    }
+    WordAnswer {
+        number: 0,
+        index: 0,
+        word: view_word_in(image),
     }
 }
 

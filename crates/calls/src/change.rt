@@ -3,6 +3,7 @@ use image::left_at;
 use setup::bounds::fades_at;
 use setup::check::size_at;
 use setup::layout::PLACE;
+use words::bits::bit_at;
 use words::word::copy_run;
 use words::word::copy_words;
 use words::word::put_word;
@@ -14,11 +15,11 @@ ghost use lib.ListN.{length, getD};
 ghost use lib.Dec.{eqb};
 ghost use Rattle.words.specs.Word.{wordAt};
 ghost use Rattle.words.specs.Count.{all};
-ghost use Rattle.setup.specs.Setup.{placeUnit, setupOf};
+ghost use Rattle.setup.specs.Setup.{partitionableIn, placeUnit, setupOf};
 ghost use Rattle.setup.specs.Check.{checkSetup};
 ghost use Rattle.changes.specs.Pending.{pendingOf};
 ghost use Rattle.changes.specs.Frame.{sameFrame};
-ghost use Rattle.image.specs.Layout.{imageLength};
+ghost use Rattle.image.specs.Layout.{leftAt, imageLength};
 ghost use Rattle.image.specs.Check.{checkImage};
 ghost use Rattle.presence.specs.Image.{imageOf, stateOf};
 ghost use Rattle.presence.specs.Change.{withPending};
@@ -51,10 +52,11 @@ pub fn same_frame(image: &[u8], bytes: &[u8]) -> bool
     same_modules(image, bytes, size_at(image))
 }
 
-// Writes the image with the new words of a setup pending.
+// Writes the image with the new words of a setup pending, and the views behind them.
 pub fn save_changed(image: &[u8], bytes: &[u8], n: usize, lead: u32, out: &mut [u8])
     requires { ⌜ (checkImage (now image) .number ≡ 0) × (checkSetup (now bytes) .number ≡ 0) × (n ≡ stateOf (now image) .setup .n)
-        × (sameFrame (setupOf (now image)) (setupOf (now bytes)) ≡ true) × (0 < lead) × (length (now out) ≡ imageLength 3 n lead) ⌝ }
+        × (sameFrame (setupOf (now image)) (setupOf (now bytes)) ≡ true) × (0 < lead) × (wordAt (now image) (leftAt 3 n) ≡ 0)
+        × (length (now out) ≡ imageLength 3 n lead (partitionableIn (wordAt (now image) 0))) ⌝ }
     requires { ⌜ ((i : ℕ) → getD (now image) i 0 < 256) × ((i : ℕ) → getD (now bytes) i 0 < 256) ⌝ }
     ensures { λ _. ⌜ now (out .exit) ≡ imageOf (withPending (stateOf (now (image .entry))) (pendingOf (setupOf (now (bytes .entry))) lead)) ⌝ }
 {
@@ -62,4 +64,7 @@ pub fn save_changed(image: &[u8], bytes: &[u8], n: usize, lead: u32, out: &mut [
     copy_words(image, at, out);
     put_word(out, at, lead);
     copy_run(bytes, 1, n + 2, out, at + 1);
+    if bit_at(word_at(image, 0), 5) {
+        return copy_run(image, at + 1, n + 4, out, at + 3 + n);
+    }
 }

@@ -7,19 +7,23 @@ use image::left_at;
 use image::place_in;
 use image::save_accounts;
 use image::save_sections;
+use image::views_at;
 use rules::judge::judged_read;
 use setup::Limits;
 use setup::bounds::front_words;
 use setup::layout::setup_words;
+use views::lent::agree;
 use words::bits::pick;
 use words::word::copy_run;
 use words::word::copy_words;
 use words::word::put_word;
 ghost use mathlib.Core.Path.{_≡_};
+ghost use mathlib.Core.Bool.{true, cond};
 ghost use mathlib.Core.List.{List, _++_};
-ghost use Prim.Native.Nat.{ℕ, _-_, _*_, _^_, _≤_, _<_};
+ghost use Prim.Native.Nat.{ℕ, _+_, _-_, _*_, _^_, _≤_, _<_};
 ghost use lib.ListN.{length, getD, drop};
-ghost use Rattle.words.specs.Array.{Filled};
+ghost use lib.Dec.{ltb};
+ghost use Rattle.words.specs.Array.{array, Filled};
 ghost use Rattle.words.specs.Runs.{putRuns};
 ghost use Rattle.setup.specs.Layout.{frontWords, setupLength};
 ghost use Rattle.setup.specs.Limits.{fades as fadesOf};
@@ -27,7 +31,10 @@ ghost use Rattle.setup.specs.Setup.{frontOf, setupBytes};
 ghost use Rattle.rules.specs.Hearing.{readingOf};
 ghost use Rattle.changes.specs.Books.{turned as turnedOf};
 ghost use Rattle.changes.specs.Words.{changeRuns};
-ghost use Rattle.image.specs.Layout.{leftAt, imageLength};
+ghost use Rattle.views.specs.ViewWord.{readWords, viewsRead, viewsSeen};
+ghost use Rattle.views.specs.Views.{viewsAfter};
+ghost use Rattle.views.specs.Section.{viewsIn, viewRuns};
+ghost use Rattle.image.specs.Layout.{leftAt, viewsAt, imageLength};
 ghost use Rattle.image.specs.Check.{checkImage};
 ghost use Rattle.presence.specs.Step.{judgementFor, booksOf, afterRound};
 ghost use Rattle.presence.specs.Image.{stateOf, imageOf};
@@ -119,7 +126,7 @@ fn save_setup(image: &[u8], front: usize, n: usize, left: u32, out: &mut [u8])
 // Writes the rounds left after the round, and the new words where a change is pending still.
 fn save_pending(image: &[u8], front: usize, n: usize, left: u32, out: &mut [u8])
     requires { ⌜ (checkImage (now image) .number ≡ 0) × (n ≡ stateOf (now image) .setup .n) × (front ≡ frontOf (stateOf (now image) .setup))
-        × (left ≡ stateOf (now image) .pending .left) × (imageLength front n (left - 1) ≤ length (now out)) ⌝ }
+        × (left ≡ stateOf (now image) .pending .left) × (viewsAt front n (left - 1) * 4 ≤ length (now out)) ⌝ }
     ensures { λ _. ⌜ now (out .exit) ≡ putRuns (now (out .entry)) (leftAt front n)
         (changeRuns (turnedOf (booksOf (stateOf (now (image .entry)))) .setup) (turnedOf (booksOf (stateOf (now (image .entry)))) .pending)) ⌝ }
 {
@@ -131,10 +138,45 @@ fn save_pending(image: &[u8], front: usize, n: usize, left: u32, out: &mut [u8])
     copy_run(image, at + 1, n + 2, out, at + 1)
 }
 
+// Writes the views after the round, of a partitionable setup: their view words are aligned at `split`, the local view was `before` and is `after` now.
+fn save_views(
+    image: &[u8],
+    front: usize,
+    n: usize,
+    left: u32,
+    split: u32,
+    read: &[u8],
+    controller: u32,
+    before: u32,
+    after: u32,
+    out: &mut [u8],
+)
+    requires { ⌜ (front ≤ 6) × (n ≤ 16) × (length (now image) ≡ imageLength front n left true) × ((n + n) * 4 ≤ length (now read))
+        × (length (now out) ≡ imageLength front n (left - 1) true) ⌝ }
+    ensures { λ _. ⌜ now (out .exit) ≡ putRuns (now (out .entry)) (viewsAt front n (left - 1)) (viewRuns true n after
+        (viewsAfter n (viewsIn true (now (image .entry)) n (viewsAt front n left))
+        (array n (λ j. cond (ltb j split) (getD (viewsIn true (now (image .entry)) n (viewsAt front n left) .words) j 0) (getD (viewsRead n (now (read .entry)) controller) j 0)))
+        (viewsRead n (now (read .entry)) controller) before)) ⌝ }
+{
+    agree(
+        image,
+        n,
+        views_at(front, n, left),
+        split,
+        read,
+        controller,
+        before,
+        after,
+        out,
+        views_at(front, n, left_after(left)),
+    );
+}
+
 // Writes the image after the round, and answers the health vector.
 pub fn played(
     image: &[u8],
     fades: bool,
+    partitionable: bool,
     n: usize,
     part: ImagePart,
     limits: Limits,
@@ -150,9 +192,11 @@ pub fn played(
     requires { ⌜ (checkImage (now image) .number ≡ 0) × (n ≡ stateOf (now image) .setup .n) × (fades ≡ fadesOf (stateOf (now image) .setup .limits))
         × HeldBy (stateOf (now image)) part (now rows)
         × CountedBy (turnedOf (booksOf (stateOf (now image)))) limits (part .q) (now criticality) (now first) (now second) (now returns) ⌝ }
-    requires { ⌜ (length (now read) ≡ n * 4) × (controller < 2 ^ n) × (length (now out) ≡ imageLength (frontWords fades) n (part .left - 1)) ⌝ }
+    requires { ⌜ (partitionable ≡ stateOf (now image) .setup .partitionable) × (length (now read) ≡ readWords partitionable n * 4) × (controller < 2 ^ n)
+        × (length (now out) ≡ imageLength (frontWords fades) n (part .left - 1) partitionable) ⌝ }
     ensures { λ r. ⌜ (r ≡ judgementFor (stateOf (now (image .entry))) (readingOf n (now (read .entry)) controller) .health)
-        × (now (out .exit) ≡ imageOf (afterRound (stateOf (now (image .entry))) (readingOf n (now (read .entry)) controller))) ⌝ }
+        × (now (out .exit) ≡ imageOf (afterRound (stateOf (now (image .entry))) (readingOf n (now (read .entry)) controller)
+        (viewsSeen partitionable n (now (read .entry)) controller))) ⌝ }
 {
     let front = front_words(fades);
     let place = place_in(image, front, part.own - 1);
@@ -170,7 +214,7 @@ pub fn played(
         rows,
         &mut this,
     );
-    let view = kept(
+    let after = kept(
         limits,
         n,
         part.q,
@@ -185,7 +229,7 @@ pub fn played(
         fades,
         n,
         part.own,
-        view,
+        after,
         j.heard,
         &this,
         j.syndrome,
@@ -194,5 +238,21 @@ pub fn played(
     );
     save_accounts(fades, n, first, second, returns, out);
     save_pending(image, front, n, part.left, out);
+    if partitionable {
+        let split = pick(part.skew, place, 0);
+        save_views(
+            image,
+            front,
+            n,
+            part.left,
+            split,
+            read,
+            controller,
+            part.view,
+            after,
+            out,
+        );
+        return j.health;
+    }
     j.health
 }

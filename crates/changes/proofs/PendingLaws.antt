@@ -1,6 +1,6 @@
 -- What is pending, field by field: it has room in its words, a step counts it down, and a change that would be accepted fits.
-use mathlib.Core.Path.{_≡_, refl, ap, sym, subst}
-use mathlib.Core.Bool.{Bool, true, false, cond, not, _&&_}
+use mathlib.Core.Path.{_≡_, refl, ap, sym, _∙_, subst}
+use mathlib.Core.Bool.{Bool, true, false, cond, not, _&&_, Bool·beq}
 use mathlib.Core.Logic.{⊎-elim}
 use mathlib.Core.List.{List}
 use Prim.Native.Nat.{ℕ, _-_, _^_, _<_, _≤_}
@@ -12,7 +12,7 @@ use borrow.Author.Tests.{eqb-true, eq-eqb, eqb-false, leb-true, ltb-true, lt-ltb
 use Rattle.words.specs.Word.{wordAt, kindUnit}
 use Rattle.words.specs.Count.{all}
 use Rattle.words.specs.Array.{bounded}
-use Rattle.words.proofs.Truth.{and-l, and-r, and-true, clash, not-both, cond-both}
+use Rattle.words.proofs.Truth.{and-l, and-r, and-true, clash, not-both, beq-eq, beq-refl, cond-both}
 use Rattle.words.proofs.CountLaws.{all-at, all-intro}
 use Rattle.words.proofs.ArrayLaws.{clearFrom, clear-at, clear-of, array-length, bounded-at, bounded-clear, bounded-of}
 use Rattle.setup.specs.Limits.{fades}
@@ -149,6 +149,7 @@ pub record SameFrame (s new : Setup) : Type 0 where
   pub counts-new : fades (new .limits) ≡ false
   pub size : s .n ≡ new .n
   pub q : s .q ≡ new .q
+  pub partitionable : s .partitionable ≡ new .partitionable
   pub marks : s .marks ≡ new .marks
   pub places : (j : ℕ) → j < s .n → getD (s .places) j 0 ≡ getD (new .places) j 0
 
@@ -159,6 +160,9 @@ module _ (s new : Setup) where
   abbrev sizes : Bool
   sizes = eqb (s .n) (new .n) && eqb (s .q) (new .q)
 
+  abbrev heads : Bool
+  heads = sizes && Bool·beq (s .partitionable) (new .partitionable)
+
   abbrev placesSame : ℕ → Bool
   placesSame j = eqb (getD (s .places) j 0) (getD (new .places) j 0)
 
@@ -167,13 +171,15 @@ module _ (s new : Setup) where
   frame-same e =
       let a = and-l neither _ e in
       let b = and-r neither _ e in
-      let h = and-l sizes _ b in
-      let t = and-r sizes _ b in
+      let d = and-l heads _ b in
+      let h = and-l sizes _ d in
+      let t = and-r heads _ b in
       record {
         counts = not-both (fades (s .limits)) (and-l (not (fades (s .limits))) _ a);
         counts-new = not-both (fades (new .limits)) (and-r (not (fades (s .limits))) _ a);
         size = eqb-true (s .n) (new .n) (and-l (eqb (s .n) (new .n)) _ h);
         q = eqb-true (s .q) (new .q) (and-r (eqb (s .n) (new .n)) _ h);
+        partitionable = beq-eq (s .partitionable) (new .partitionable) (and-r sizes _ d);
         marks = eqb-true (s .marks) (new .marks) (and-l (eqb (s .marks) (new .marks)) _ t);
         places = λ j l. eqb-true _ _ (all-at (s .n) placesSame (and-r (eqb (s .marks) (new .marks)) _ t) j l);
       }
@@ -182,7 +188,8 @@ module _ (s new : Setup) where
   unfolding sameFrame
   same-frame f =
       and-true neither _ (and-true (not (fades (s .limits))) _ (ap not (f .counts)) (ap not (f .counts-new)))
-      (and-true sizes _ (and-true (eqb (s .n) (new .n)) _ (eq-eqb _ _ (f .size)) (eq-eqb _ _ (f .q)))
+      (and-true heads _
+      (and-true sizes _ (and-true (eqb (s .n) (new .n)) _ (eq-eqb _ _ (f .size)) (eq-eqb _ _ (f .q))) (ap (Bool·beq (s .partitionable)) (sym (f .partitionable)) ∙ beq-refl (s .partitionable)))
       (and-true (eqb (s .marks) (new .marks)) _ (eq-eqb _ _ (f .marks)) (all-intro (s .n) placesSame (λ j l. eq-eqb _ _ (f .places j l)))))
 
 -- limits that do not fade are P and R
@@ -256,7 +263,10 @@ roomy-by n c e m h = rw (h, e, m)
 
 pub frame-by : {old asked places : Bool} (s new : Setup) → old ≡ fades (s .limits) → asked ≡ fades (new .limits)
     → places ≡ all (s .n) (λ j. eqb (getD (s .places) j 0) (getD (new .places) j 0))
-    → (not old && not asked) && ((eqb (s .n) (new .n) && eqb (s .q) (new .q)) && (eqb (s .marks) (new .marks) && places)) ≡ sameFrame s new
+    → (not old && not asked) && (((eqb (s .n) (new .n) && eqb (s .q) (new .q)) && Bool·beq (s .partitionable) (new .partitionable))
+    && (eqb (s .marks) (new .marks) && places)) ≡ sameFrame s new
 unfolding sameFrame
 frame-by s new o a p =
-    λ i. (not (o i) && not (a i)) && ((eqb (s .n) (new .n) && eqb (s .q) (new .q)) && (eqb (s .marks) (new .marks) && p i))
+    λ i.
+    (not (o i) && not (a i))
+    && (((eqb (s .n) (new .n) && eqb (s .q) (new .q)) && Bool·beq (s .partitionable) (new .partitionable)) && (eqb (s .marks) (new .marks) && p i))

@@ -96,6 +96,9 @@ module _ (b : Books) where
   pub turned-q : turned b .setup .q ≡ b .setup .q
   turned-q = turned-both b (λ (t : Books). t .setup .q ≡ b .setup .q) (λ e. refl) (λ h. refl)
 
+  pub turned-partitionable : turned b .setup .partitionable ≡ b .setup .partitionable
+  turned-partitionable = turned-both b (λ (t : Books). t .setup .partitionable ≡ b .setup .partitionable) (λ e. refl) (λ h. refl)
+
   pub turned-marks : turned b .setup .marks ≡ b .setup .marks
   turned-marks = turned-both b (λ (t : Books). t .setup .marks ≡ b .setup .marks) (λ e. refl) (λ h. refl)
 
@@ -179,6 +182,7 @@ applied s new lead f g a b e =
     λ i. record {
       n = h .size i;
       q = h .q i;
+      partitionable = h .partitionable i;
       limits = sym (counts-of (new .limits) (h .counts-new)) i;
       marks = h .marks i;
       places = same h i;

@@ -91,7 +91,15 @@ rewardCases = held (after outside 9 3) 0 9 0 ++ held (after inside 9 3) 0 9 0
 
 -- two modules, P = 10, R = 20, criticalities 1 and 2
 abbrev pub old : Setup
-old = record { n = 2; q = 0; limits = Counts 10 20; marks = 2; places = array 2 (λ j. 1); criticality = array 2 (λ j. getD (1 ∷ 2 ∷ []) j 0) }
+old = record {
+  n = 2;
+  q = 0;
+  partitionable = false;
+  limits = Counts 10 20;
+  marks = 2;
+  places = array 2 (λ j. 1);
+  criticality = array 2 (λ j. getD (1 ∷ 2 ∷ []) j 0);
+}
 
 -- both in the view: penalty 8 without a reward, penalty 3 with reward 6
 abbrev pub owed : Counters
@@ -164,16 +172,27 @@ CasesRight =
 
 -- ---- which change may follow: 23, then 24
 
--- a setup with other limits, and such an N, Q, send marks and read place of module 2
+-- a setup with other limits, and such an N, Q, head bit 5, send marks and read place of module 2
+abbrev pub wantedBy : ℕ → ℕ → Bool → ℕ → ℕ → Setup
+wantedBy n q partitionable marks place = record {
+  n = n;
+  q = q;
+  partitionable = partitionable;
+  limits = Counts 5 6;
+  marks = marks;
+  places = array 2 (λ j. getD (1 ∷ place ∷ []) j 0);
+  criticality = array 2 (λ j. 4);
+}
+
+-- the same with head bit 5 clear, as in the old one
 abbrev pub wanted : ℕ → ℕ → ℕ → ℕ → Setup
-wanted n q marks place =
-    record { n = n; q = q; limits = Counts 5 6; marks = marks; places = array 2 (λ j. getD (1 ∷ place ∷ []) j 0); criticality = array 2 (λ j. 4) }
+wanted n q marks place = wantedBy n q false marks place
 
 -- the number by which it is refused in the old one's place
 abbrev pub numberOf : Pending → Setup → ℕ → ℕ
 numberOf pending new lead = frameVerdict old pending new lead .number
 
--- 1 and 1,000 rounds ahead, not 0 or 1,001; none while one is pending; N, Q, marks and places are the old one's; 23 before 24.
+-- 1 and 1,000 rounds ahead, not 0 or 1,001; none while one is pending; N, Q, head bit 5, marks and places are the old one's; 23 before 24.
 abbrev pub numberCases : List Case
 numberCases =
     case (numberOf nothing (wanted 2 0 2 1) 1) 0
@@ -184,6 +203,7 @@ numberCases =
     ∷ case (numberOf (asked 1000) (wanted 2 0 2 1) 1) 24
     ∷ case (numberOf nothing (wanted 3 0 2 1) 1) 23
     ∷ case (numberOf nothing (wanted 2 1 2 1) 1) 23
+    ∷ case (numberOf nothing (wantedBy 2 0 true 2 1) 1) 23
     ∷ case (numberOf nothing (wanted 2 0 0 1) 1) 23
     ∷ case (numberOf nothing (wanted 2 0 2 2) 1) 23
     ∷ case (numberOf nothing (wanted 2 0 2 2) 0) 23

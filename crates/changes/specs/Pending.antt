@@ -36,7 +36,15 @@ pendingOf new lead =
 -- the setup that takes the old one's place: P, R and the criticalities are new, and all else is the old one's
 abbrev pub renewed : Setup → Pending → Setup
 renewed s c =
-    record { n = s .n; q = s .q; limits = Counts (c .p) (c .r); marks = s .marks; places = s .places; criticality = c .criticality }
+    record {
+      n = s .n;
+      q = s .q;
+      partitionable = s .partitionable;
+      limits = Counts (c .p) (c .r);
+      marks = s .marks;
+      places = s .places;
+      criticality = c .criticality;
+    }
 
 -- the change takes effect in the step that is made now
 abbrev pub due : Pending → Bool

@@ -37,7 +37,8 @@ fn same_frame(setup: Setup, new: Setup) -> bool
     let places = setup.places;
     let others = new.places;
     let count = !fades(limits) & !fades(asked);
-    let head = (setup.n == new.n) & (setup.q == new.q);
+    let head = ((setup.n == new.n) & (setup.q == new.q))
+        & (setup.partitionable == new.partitionable);
     count & (head & ((setup.marks == new.marks) & same_places(setup.n, places, others)))
 }
 

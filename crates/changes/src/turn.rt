@@ -20,6 +20,7 @@ fn renewed(setup: Setup, pending: Pending) -> Setup
     Setup {
         n: setup.n,
         q: setup.q,
+        partitionable: setup.partitionable,
         limits: Limits::Counts(pending.p, pending.r),
         marks: setup.marks,
         places,

@@ -14,7 +14,7 @@ use Rattle.words.proofs.Truth.{cond-true, cond-false}
 use Rattle.words.proofs.VerdictLaws.{tests-accept, and-then-stops, and-then-goes, and-then-accepts}
 use Rattle.setup.specs.Limits.{mostReturnLimit}
 use Rattle.setup.specs.Layout.{frontWords}
-use Rattle.setup.specs.Setup.{sizeIn, returnLimitIn, fadesIn, frontIn}
+use Rattle.setup.specs.Setup.{sizeIn, returnLimitIn, partitionableIn, fadesIn, frontIn}
 use Rattle.setup.specs.Check.{headOk, checkHead, checkWords}
 use Rattle.setup.proofs.WordFields.{head-made}
 use Rattle.setup.proofs.SetupCheckLaws.{HeadFits, head-pass, head-ok}
@@ -31,22 +31,22 @@ module _ {v : Verdict} (s : List ℕ) (e : v ≡ checkHead s true) where
 
   -- n modules, whose words stand after the first `front`, by the form of the setup
   module _ {n front : ℕ} {b : Bool} (size : n ≡ sizeIn (wordAt s 0)) (form : b ≡ fadesIn (wordAt s)) (at : front ≡ frontWords b) (z : v .number ≡ 0) where
-    length-is : imageLength front n (wordAt s (leftAt front n)) ≡ imageLengthIn s
-    length-is = ap₂ (λ (x m : ℕ). imageLength x m (wordAt s (leftAt x m))) (at ∙ ap frontWords form) size
+    length-is : imageLength front n (wordAt s (leftAt front n)) (partitionableIn (wordAt s 0)) ≡ imageLengthIn s
+    length-is = ap₂ (λ (x m : ℕ). imageLength x m (wordAt s (leftAt x m)) (partitionableIn (wordAt s 0))) (at ∙ ap frontWords form) size
 
-    pub stays-length : {r : Verdict} → (eqb (length s) (imageLength front n (wordAt s (leftAt front n))) ≡ false) → r ≡ verdict 3 0 → r ≡ checkImage s
+    pub stays-length : {r : Verdict} → (eqb (length s) (imageLength front n (wordAt s (leftAt front n)) (partitionableIn (wordAt s 0))) ≡ false) → r ≡ verdict 3 0 → r ≡ checkImage s
     unfolding checkImage
     stays-length f a = head-short s e _ z (ap (eqb (length s)) (sym length-is) ∙ f) a
 
-    goes : {r : Verdict} → length s ≡ imageLength front n (wordAt s (leftAt front n)) → r ≡ firstRefusal (imageTests s n) → r ≡ checkImage s
+    goes : {r : Verdict} → length s ≡ imageLength front n (wordAt s (leftAt front n)) (partitionableIn (wordAt s 0)) → r ≡ firstRefusal (imageTests s n) → r ≡ checkImage s
     unfolding checkImage
     goes l a = head-goes s e _ z (eq-eqb _ _ (l ∙ length-is)) (rw size at a)
 
     -- u is the answer for the setup's words, t that for the others
-    pub stays-words : {u : Verdict} → length s ≡ imageLength front n (wordAt s (leftAt front n)) → u ≡ checkWords s n → (u .number ≡ 0 → ⊥) → u ≡ checkImage s
+    pub stays-words : {u : Verdict} → length s ≡ imageLength front n (wordAt s (leftAt front n)) (partitionableIn (wordAt s 0)) → u ≡ checkWords s n → (u .number ≡ 0 → ⊥) → u ≡ checkImage s
     stays-words l a f = goes l (and-then-stops _ a f ∙ sym (tests-parts s n))
 
-    pub ends-tail : {u t : Verdict} → length s ≡ imageLength front n (wordAt s (leftAt front n)) → u ≡ checkWords s n → u .number ≡ 0 → t ≡ checkTail b (wordAt s) n → t ≡ checkImage s
+    pub ends-tail : {u t : Verdict} → length s ≡ imageLength front n (wordAt s (leftAt front n)) (partitionableIn (wordAt s 0)) → u ≡ checkWords s n → u .number ≡ 0 → t ≡ checkTail b (wordAt s) n → t ≡ checkImage s
     ends-tail l a q d = goes l (and-then-goes _ a q (d ∙ ap (λ (f : Bool). checkTail f (wordAt s) n) form) ∙ sym (tests-parts s n))
 
 -- ---- the size, where head and length are right
@@ -79,7 +79,7 @@ module _ (s : List ℕ) where
 
   -- the length by the kind of the second word
   pub length-by : {front n : ℕ} → front ≡ frontWords (eqb (wordAt s 1 / kindUnit) 0) → n ≡ sizeIn (wordAt s 0)
-      → imageLength front n (wordAt s (leftAt front n)) ≡ imageLengthIn s
+      → imageLength front n (wordAt s (leftAt front n)) (partitionableIn (wordAt s 0)) ≡ imageLengthIn s
   unfolding fadesIn
   length-by e d = rw (e, d)
 
@@ -113,11 +113,11 @@ module _ (s : List ℕ) where
     unfolding imageSize
     size-same = e ∙ cond-true _ 0 headed-so
 
-    pub size-fits : (n ≤ 16) × (length s ≡ imageLength (frontIn (wordAt s)) n (wordAt s (leftAt (frontIn (wordAt s)) n))) × (n ≡ sizeIn (wordAt s 0)) × (length s % 4 ≡ 0)
+    pub size-fits : (n ≤ 16) × (length s ≡ imageLength (frontIn (wordAt s)) n (wordAt s (leftAt (frontIn (wordAt s)) n)) (partitionableIn (wordAt s 0))) × (n ≡ sizeIn (wordAt s 0)) × (length s % 4 ≡ 0)
     size-fits =
         let (h, f) = head-pass s (eqb (length s) (imageLengthIn s)) (eqb-true _ 0 headed-so) in
         let m = h .most in
-        (omega (arith, size-same), eqb-true _ _ f ∙ ap (λ (m : ℕ). imageLength (frontIn (wordAt s)) m (wordAt s (leftAt (frontIn (wordAt s)) m))) (sym size-same), size-same, h .whole)
+        (omega (arith, size-same), eqb-true _ _ f ∙ ap (λ (m : ℕ). imageLength (frontIn (wordAt s)) m (wordAt s (leftAt (frontIn (wordAt s)) m)) (partitionableIn (wordAt s 0))) (sym size-same), size-same, h .whole)
 
     -- the return limit of the head
     pub size-return : returnLimitIn (wordAt s 0) ≤ mostReturnLimit

@@ -11,5 +11,6 @@ pub mod ReadLaws
 pub mod GapLaws
 pub mod HalfLaws
 pub mod SectionLaws
+pub mod TornLaws
 pub mod ImageAnswers
 pub mod BooksLaws

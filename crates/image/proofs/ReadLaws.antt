@@ -14,13 +14,14 @@ use Rattle.words.proofs.ArrayLaws.{array-at}
 use Rattle.words.proofs.VerdictLaws.{numbered, tests-accept, right-join}
 use Rattle.setup.specs.Layout.{headAt, penaltyLimitAt, rewardLimitAt, frontWords}
 use Rattle.setup.specs.Limits.{mostPenaltyLimit, mostRewardLimit}
-use Rattle.setup.specs.Setup.{returnLimitIn, limitIn, criticalityIn, fadesIn, limitsIn}
+use Rattle.setup.specs.Setup.{returnLimitIn, partitionableIn, limitIn, criticalityIn, fadesIn, limitsIn}
 use Rattle.setup.specs.Check.{limitTests, wordTests}
 use Rattle.setup.specs.Modules.{moduleRight}
 use Rattle.setup.proofs.BoundLaws.{limits-read}
 use Rattle.setup.proofs.SetupReadLaws.{words-good}
 use Rattle.changes.specs.Words.{changeTests}
-use Rattle.image.specs.Layout.{ownAt, latestAt, earlierAt, accountsAt, leftAt}
+use Rattle.views.specs.Section.{viewTests}
+use Rattle.image.specs.Layout.{ownAt, latestAt, earlierAt, accountsAt, leftAt, viewsAt}
 use Rattle.image.specs.Words.{viewIn, ownNumberOk, ownOk, syndromeOk}
 use Rattle.image.specs.Rows.{rowTest}
 use Rattle.image.specs.CounterSection.{counterIn, basisIn}
@@ -40,39 +41,49 @@ join true true true true x y = refl
 
 -- what the parts have found, joined, of a setup that fades or counts and has so many words before those of its modules
 module _ {fades : Bool} {front : ℕ} (s : List ℕ) (n : ℕ) (form : fades ≡ fadesIn (wordAt s)) (at : front ≡ frontWords fades) where
-  pub loaded-good : {first alone rows counters change : Bool} → first ≡ allRight (wordTests s n) → alone ≡ wordsRight (wordAt s) front n
+  pub loaded-good : {first alone rows counters change views : Bool} → first ≡ allRight (wordTests s n) → alone ≡ wordsRight (wordAt s) front n
       → rows ≡ all n (rowTest (wordAt s) front n) → counters ≡ allRight (counterTests fades (wordAt s) n)
       → change ≡ allRight (changeTests fades (wordAt s) n (leftAt front n))
-      → first && (alone && (rows && (counters && change))) ≡ allRight (imageTests s n)
+      → views ≡ allRight (viewTests (partitionableIn (wordAt s headAt)) (wordAt s) n (viewIn (wordAt s (ownAt front n))) (viewsAt front n (wordAt s (leftAt front n))))
+      → first && (alone && (rows && (counters && (change && views)))) ≡ allRight (imageTests s n)
   unfolding allRight all
-  loaded-good e₀ e₁ e₂ e₃ e₄ =
+  loaded-good e₀ e₁ e₂ e₃ e₄ e₅ =
       let w = wordAt s in
       let f = frontWords fades in
+      let change = changeTests fades w n (leftAt f n) in
+      let views = viewTests (partitionableIn (w headAt)) w n (viewIn (w (ownAt f n))) (viewsAt f n (w (leftAt f n))) in
       let tail : allRight (tailTests fades w n) ≡ allRight (tailTests (fadesIn w) w n) = ap (λ (b : Bool). allRight (tailTests b w n)) form in
-      rw (e₀, e₁, e₂, e₃, e₄, at, ← right-join (counterTests fades w n) (changeTests fades w n (leftAt f n)))
+      rw (e₀, e₁, e₂, e₃, e₄, e₅, at, ← right-join change views, ← right-join (counterTests fades w n) (change ++ views))
       (ap (λ (b : Bool). allRight (wordTests s n) && b)
       (join (ownNumberOk n (w (ownAt f n))) (ownOk n (w (ownAt f n))) (syndromeOk n (w (latestAt f n))) (syndromeOk n (w (earlierAt f n))) (all n (rowTest w f n))
-      (allRight (counterTests fades w n ++ changeTests fades w n (leftAt f n)))
+      (allRight (counterTests fades w n ++ (change ++ views)))
       ∙ tail)
       ∙ sym (right-join (wordTests s n) (tailTests (fadesIn w) w n)))
 
   -- the same where the limits are found first
   pub limits-wrong : {limits : Bool} → limits ≡ allRight (limitTests fades (wordAt s)) → limits ≡ false → false ≡ allRight (imageTests s n)
   limits-wrong e f =
-      loaded-good {first = false} (ap (λ (x : Bool). x && all n (λ j. moduleRight n j (wordAt s (front + j)))) (sym f) ∙ words-good s form at n e refl) refl refl refl refl
+      loaded-good {first = false} (ap (λ (x : Bool). x && all n (λ j. moduleRight n j (wordAt s (front + j)))) (sym f) ∙ words-good s form at n e refl) refl refl refl refl refl
 
-  pub limits-fine : {limits modules alone rows counters change : Bool} → limits ≡ allRight (limitTests fades (wordAt s)) → limits ≡ true
+  pub limits-fine : {limits modules alone rows counters change views : Bool} → limits ≡ allRight (limitTests fades (wordAt s)) → limits ≡ true
       → modules ≡ all n (λ j. moduleRight n j (wordAt s (front + j))) → alone ≡ wordsRight (wordAt s) front n → rows ≡ all n (rowTest (wordAt s) front n)
       → counters ≡ allRight (counterTests fades (wordAt s) n) → change ≡ allRight (changeTests fades (wordAt s) n (leftAt front n))
-      → modules && (alone && (rows && (counters && change))) ≡ allRight (imageTests s n)
-  limits-fine {modules = modules} e t m a r c d =
-      loaded-good (ap (λ (x : Bool). x && modules) (sym t) ∙ words-good s form at n e m) a r c d
+      → views ≡ allRight (viewTests (partitionableIn (wordAt s headAt)) (wordAt s) n (viewIn (wordAt s (ownAt front n))) (viewsAt front n (wordAt s (leftAt front n))))
+      → modules && (alone && (rows && (counters && (change && views)))) ≡ allRight (imageTests s n)
+  limits-fine {modules = modules} e t m a r c d v =
+      loaded-good (ap (λ (x : Bool). x && modules) (sym t) ∙ words-good s form at n e m) a r c d v
 
 -- the answer of the check of a pending change, as a test
 pub change-good : {v : Verdict} {at : ℕ} (fades : Bool) (w : ℕ → ℕ) (front n : ℕ) → at ≡ leftAt front n → v ≡ firstRefusal (changeTests fades w n at)
     → isAccepted v ≡ allRight (changeTests fades w n (leftAt front n))
 unfolding numbered
 change-good fades w front n e h = rw (h, e) (tests-accept (changeTests fades w n (leftAt front n)) refl)
+
+-- and the tests of the views, by the head bit, the view and the rounds left as they were found
+pub views-good : {r b : Bool} {view at left : ℕ} (w : ℕ → ℕ) (front n : ℕ) → b ≡ partitionableIn (w headAt) → view ≡ viewIn (w (ownAt front n))
+    → at ≡ leftAt front n → left ≡ w at → r ≡ allRight (viewTests b w n view (viewsAt front n left))
+    → r ≡ allRight (viewTests (partitionableIn (w headAt)) w n (viewIn (w (ownAt front n))) (viewsAt front n (w (leftAt front n))))
+views-good w front n t v a l e = e ∙ (λ i. allRight (viewTests (t i) w n (v i) (viewsAt front n ((l ∙ ap w a) i))))
 
 -- limits whose words are right are within theirs
 pub limits-within : (w : ℕ → ℕ) → allRight (limitTests false w) ≡ true → (limitIn (w penaltyLimitAt) ≤ mostPenaltyLimit) × (limitIn (w rewardLimitAt) ≤ mostRewardLimit)

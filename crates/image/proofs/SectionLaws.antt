@@ -12,11 +12,13 @@ use Rattle.words.specs.declared.Verdict.{Verdict}
 use Rattle.words.specs.Runs.{one, putRun, putRuns}
 use Rattle.words.proofs.VerdictLaws.{and-then-next, and-then-stays, single-ok, single-refused, then-tests, then-join}
 use Rattle.words.proofs.SearchLaws.{begins-refused, begins-well}
-use Rattle.setup.specs.Layout.{frontWords}
+use Rattle.setup.specs.Layout.{headAt, frontWords}
+use Rattle.setup.specs.Setup.{partitionableIn}
 use Rattle.rules.specs.declared.Reading.{Reading}
 use Rattle.changes.specs.Words.{changeTests}
-use Rattle.image.specs.Layout.{ownAt, rowsAt, latestAt, earlierAt, accountsAt, rewardsAt, returnsAt, leftAt}
-use Rattle.image.specs.Words.{ownWord, syndromeWord, ownNumberOk, ownOk, syndromeOk}
+use Rattle.views.specs.Section.{viewTests}
+use Rattle.image.specs.Layout.{ownAt, rowsAt, latestAt, earlierAt, accountsAt, rewardsAt, returnsAt, leftAt, viewsAt}
+use Rattle.image.specs.Words.{ownWord, viewIn, syndromeWord, ownNumberOk, ownOk, syndromeOk}
 use Rattle.image.specs.Rows.{rowWord, rowRun}
 use Rattle.image.specs.CounterSection.{counterWord, CounterSection, counterTest, sectionTest}
 use Rattle.image.specs.Counters.{counterTests}
@@ -45,15 +47,20 @@ module _ {b ok c fit : Bool} {r : Verdict} {at place : ℕ} (e : b ≡ ok) (d : 
   own-fails f t a = word-fails accepted 8 refl d p t a ∙ begins-well 7 place (single fit 8 place ∷ []) e f
 
 module _ (fades : Bool) (w : ℕ → ℕ) (n : ℕ) where
-  pub tail-joined : {v₀ v₁ v₂ v₃ v₄ v₅ : Verdict} {front a b c d : ℕ} → front ≡ frontWords fades
+  pub tail-joined : {v₀ v₁ v₂ v₃ v₄ v₅ v₆ : Verdict} {front a b c d : ℕ} → front ≡ frontWords fades
       → v₀ ≡ firstRefusal (single (ownNumberOk n (w (ownAt front n))) 7 (ownAt front n) ∷ single (ownOk n (w (ownAt front n))) 8 (ownAt front n) ∷ [])
       → a ≡ rowsAt front n → v₁ ≡ andThen v₀ (outcome (each n (wordTest w front n 11 a) 8 a))
       → b ≡ latestAt front n → v₂ ≡ andThen v₁ (outcome (single (syndromeOk n (w b)) 8 b))
       → c ≡ earlierAt front n → v₃ ≡ andThen v₂ (outcome (single (syndromeOk n (w c)) 8 c))
-      → v₄ ≡ thenTests v₃ (counterTests fades w n) → d ≡ leftAt front n → v₅ ≡ thenTests v₄ (changeTests fades w n d) → v₅ ≡ checkTail fades w n
+      → v₄ ≡ thenTests v₃ (counterTests fades w n) → d ≡ leftAt front n → v₅ ≡ thenTests v₄ (changeTests fades w n d)
+      → v₆ ≡ thenTests v₅ (viewTests (partitionableIn (w headAt)) w n (viewIn (w (ownAt front n))) (viewsAt front n (w (leftAt front n))))
+      → v₆ ≡ checkTail fades w n
   unfolding checkTail thenTests wordTest
-  tail-joined f e₀ a e₁ b e₂ c e₃ e₄ d e₅ =
-      rw (e₅, e₄, e₃, e₂, e₁, e₀, a, b, c, d, f) (sym (then-join _ (counterTests fades w n) (changeTests fades w n (leftAt (frontWords fades) n))))
+  tail-joined f e₀ a e₁ b e₂ c e₃ e₄ d e₅ e₆ =
+      let x = frontWords fades in
+      let change = changeTests fades w n (leftAt x n) in
+      let views = viewTests (partitionableIn (w headAt)) w n (viewIn (w (ownAt x n))) (viewsAt x n (w (leftAt x n))) in
+      rw (e₆, e₅, e₄, e₃, e₂, e₁, e₀, a, b, c, d, f) (sym (then-join _ (counterTests fades w n) (change ++ views) ∙ then-join _ change views))
 
 -- ---- tests after the answer v
 

@@ -1,7 +1,7 @@
 -- What holds of bytes that pass the check of a saved state.
-use mathlib.Core.Path.{_≡_, refl, ap, _∙_, sym}
+use mathlib.Core.Path.{_≡_, ap, _∙_, sym}
 use mathlib.Core.Bool.{Bool, true, false}
-use mathlib.Core.List.{List}
+use mathlib.Core.List.{List, _++_}
 use Prim.Native.Nat.{ℕ, _<_}
 use native.Mathlib.Omega.{arith}
 use lib.ListN.{length}
@@ -11,13 +11,15 @@ use Rattle.words.specs.Word.{wordAt}
 use Rattle.words.specs.Verdict.{accepted, andThen, firstRefusal}
 use Rattle.words.specs.declared.Verdict.{Verdict}
 use Rattle.words.proofs.VerdictLaws.{numbered, Passed, tests-pass, tests-ok, tests-join, numbers-join, and-then-pass, and-then-next, passed-join, passed-split}
-use Rattle.setup.specs.Layout.{frontWords}
-use Rattle.setup.specs.Setup.{sizeIn, fadesIn}
+use Rattle.setup.specs.Layout.{headAt, frontWords}
+use Rattle.setup.specs.Setup.{sizeIn, partitionableIn, fadesIn}
 use Rattle.setup.specs.Check.{wordTests, checkHead, checkWords}
 use Rattle.setup.proofs.SetupCheckLaws.{HeadFits, WordsFit, word-numbers, head-pass, head-ok, words-pass, words-ok}
 use Rattle.changes.specs.Words.{changeTests}
-use Rattle.image.specs.Layout.{ownAt, latestAt, earlierAt, leftAt}
-use Rattle.image.specs.Words.{ownNumberOk, ownOk, syndromeOk}
+use Rattle.views.specs.Section.{viewTests}
+use Rattle.views.proofs.ViewTestLaws.{views-numbered}
+use Rattle.image.specs.Layout.{ownAt, latestAt, earlierAt, leftAt, viewsAt}
+use Rattle.image.specs.Words.{viewIn, ownNumberOk, ownOk, syndromeOk}
 use Rattle.image.specs.Rows.{rowTest}
 use Rattle.image.specs.Counters.{counterTests}
 use Rattle.image.specs.Check.{tailTests, imageTests, imageLengthIn, checkTail, checkImage}
@@ -26,8 +28,8 @@ use Rattle.image.specs.Check.{tailTests, imageTests, imageLengthIn, chec
 
 pub numbers : (fades : Bool) (w : ℕ → ℕ) (n : ℕ) → numbered (tailTests fades w n) ≡ true
 unfolding numbered
-numbers true w n = refl
-numbers false w n = refl
+numbers true w n = views-numbered (partitionableIn (w headAt)) w n _ _
+numbers false w n = views-numbered (partitionableIn (w headAt)) w n _ _
 
 pub record TailFits (fades : Bool) (w : ℕ → ℕ) (n : ℕ) : Type 0 where
   pub number : ownNumberOk n (w (ownAt (frontWords fades) n)) ≡ true
@@ -37,12 +39,16 @@ pub record TailFits (fades : Bool) (w : ℕ → ℕ) (n : ℕ) : Type 0 where
   pub earlier : syndromeOk n (w (earlierAt (frontWords fades) n)) ≡ true
   pub counters : Passed (counterTests fades w n)
   pub change : Passed (changeTests fades w n (leftAt (frontWords fades) n))
+  pub views : Passed (viewTests (partitionableIn (w headAt)) w n (viewIn (w (ownAt (frontWords fades) n))) (viewsAt (frontWords fades) n (w (leftAt (frontWords fades) n))))
 
 pub tail-pass : (fades : Bool) (w : ℕ → ℕ) (n : ℕ) → checkTail fades w n .number ≡ 0 → TailFits fades w n
 unfolding checkTail Passed
 tail-pass fades w n e =
     let (number, (own, (rows, (latest, (earlier, rest))))) = tests-pass (tailTests fades w n) (numbers fades w n) e in
-    let (counters, change) = passed-split (counterTests fades w n) _ rest in
+    let changing = changeTests fades w n (leftAt (frontWords fades) n) in
+    let viewing = viewTests (partitionableIn (w headAt)) w n (viewIn (w (ownAt (frontWords fades) n))) (viewsAt (frontWords fades) n (w (leftAt (frontWords fades) n))) in
+    let (counters, later) = passed-split (counterTests fades w n) (changing ++ viewing) rest in
+    let (change, views) = passed-split changing viewing later in
     record {
       number = number 0 (omega arith);
       own = own 0 (omega arith);
@@ -51,13 +57,16 @@ tail-pass fades w n e =
       earlier = earlier 0 (omega arith);
       counters = counters;
       change = change;
+      views = views;
     }
 
 pub tail-ok : (fades : Bool) (w : ℕ → ℕ) (n : ℕ) → TailFits fades w n → checkTail fades w n ≡ accepted
 unfolding checkTail Passed
 tail-ok fades w n f =
-    tests-ok (tailTests fades w n)
-    (λ _ _. f .number, (λ _ _. f .own, (f .rows, (λ _ _. f .latest, (λ _ _. f .earlier, passed-join (counterTests fades w n) _ (f .counters) (f .change))))))
+    let changing = changeTests fades w n (leftAt (frontWords fades) n) in
+    let viewing = viewTests (partitionableIn (w headAt)) w n (viewIn (w (ownAt (frontWords fades) n))) (viewsAt (frontWords fades) n (w (leftAt (frontWords fades) n))) in
+    let later = passed-join (counterTests fades w n) (changing ++ viewing) (f .counters) (passed-join changing viewing (f .change) (f .views)) in
+    tests-ok (tailTests fades w n) (λ _ _. f .number, (λ _ _. f .own, (f .rows, (λ _ _. f .latest, (λ _ _. f .earlier, later)))))
 
 -- ---- all of an image
 

@@ -1,5 +1,5 @@
 -- The check of a saved state: numbers 1 to 8 and 22 in their order, each with the index of its word. (document 01, "Answers and their order";
--- document 02, E9 and E10)
+-- document 02, E9, E10 and E11)
 use Prim.Native.Nat.{ℕ, _+_}
 use mathlib.Core.Bool.{Bool, cond, _&&_}
 use mathlib.Core.List.{List, _∷_, _++_}
@@ -8,18 +8,19 @@ use lib.Dec.{eqb}
 use Rattle.words.specs.Word.{wordAt}
 use Rattle.words.specs.Verdict.{isAccepted, Test, single, andThen, firstRefusal}
 use Rattle.words.specs.declared.Verdict.{Verdict}
-use Rattle.setup.specs.Setup.{sizeIn, fadesIn, frontIn}
+use Rattle.setup.specs.Setup.{sizeIn, partitionableIn, fadesIn, frontIn}
 use Rattle.setup.specs.Layout.{headAt, frontWords}
 use Rattle.setup.specs.Check.{wordTests, checkHead}
 use Rattle.changes.specs.Words.{changeTests}
-use Rattle.image.specs.Layout.{ownAt, latestAt, earlierAt, leftAt, imageLength}
-use Rattle.image.specs.Words.{ownNumberOk, ownOk, syndromeOk}
+use Rattle.views.specs.Section.{viewTests}
+use Rattle.image.specs.Layout.{ownAt, latestAt, earlierAt, leftAt, viewsAt, imageLength}
+use Rattle.image.specs.Words.{viewIn, ownNumberOk, ownOk, syndromeOk}
 use Rattle.image.specs.Rows.{rowTest, rowTests}
 use Rattle.image.specs.CounterSection.{counterIn, counterOf, basisIn}
 use Rattle.image.specs.Counters.{counterTests, fitsBy}
 
 -- numbers 7 and 8 of the words w of an image of n modules, whose setup fades or counts: own number and view, rows, the two syndromes, accounts, the
--- pending change
+-- pending change, the views
 abbrev pub tailTests : Bool → (ℕ → ℕ) → ℕ → List Test
 tailTests fades w n =
     let front = frontWords fades in
@@ -28,7 +29,9 @@ tailTests fades w n =
     ∷ rowTests w front n
     ∷ single (syndromeOk n (w (latestAt front n))) 8 (latestAt front n)
     ∷ single (syndromeOk n (w (earlierAt front n))) 8 (earlierAt front n)
-    ∷ (counterTests fades w n ++ changeTests fades w n (leftAt front n))
+    ∷ (counterTests fades w n
+    ++ (changeTests fades w n (leftAt front n)
+    ++ viewTests (partitionableIn (w headAt)) w n (viewIn (w (ownAt front n))) (viewsAt front n (w (leftAt front n)))))
 
 unfoldable pub checkTail : Bool → (ℕ → ℕ) → ℕ → Verdict
 checkTail fades w n = firstRefusal (tailTests fades w n)
@@ -43,7 +46,7 @@ leftIn s = wordAt s (leftAt (frontIn (wordAt s)) (sizeIn (wordAt s headAt)))
 
 -- the length in bytes that the head, the kind of the second word and the rounds left ask for
 abbrev pub imageLengthIn : List ℕ → ℕ
-imageLengthIn s = imageLength (frontIn (wordAt s)) (sizeIn (wordAt s headAt)) (leftIn s)
+imageLengthIn s = imageLength (frontIn (wordAt s)) (sizeIn (wordAt s headAt)) (leftIn s) (partitionableIn (wordAt s headAt))
 
 -- N by the head where numbers 1 to 3 accept, else 0
 unfoldable pub imageSize : List ℕ → ℕ

@@ -1,8 +1,10 @@
 -- Where the words of a saved state stand, of n modules and with `front` words before those of the modules, section after section.
--- (document 01, "What runs", kinds 10 to 14; document 02, E6, kind 15, E9 and E10)
+-- (document 01, "What runs", kinds 10 to 14; document 02, E6, kind 15, E9, E10 and E11)
 use Prim.Native.Nat.{ℕ, _+_, _*_}
+use mathlib.Core.Bool.{Bool}
 use Rattle.setup.specs.Layout.{setupWords}
 use Rattle.changes.specs.Words.{newCount}
+use Rattle.views.specs.Section.{viewsCount}
 
 -- after the setup's words: own number and view
 abbrev pub ownAt : ℕ → ℕ → ℕ
@@ -40,10 +42,14 @@ leftAt front n = returnsAt front n + n
 abbrev pub beforeLeft : ℕ → ℕ → ℕ
 beforeLeft front n = leftAt front n * 4
 
--- how many words an image has, by the rounds left
-abbrev pub imageWords : ℕ → ℕ → ℕ → ℕ
-imageWords front n left = leftAt front n + 1 + newCount n left
+-- the views of a partitionable setup, after the rounds left and the new words
+abbrev pub viewsAt : ℕ → ℕ → ℕ → ℕ
+viewsAt front n left = leftAt front n + 1 + newCount n left
+
+-- how many words an image has, by the rounds left and whether its setup is partitionable
+abbrev pub imageWords : ℕ → ℕ → ℕ → Bool → ℕ
+imageWords front n left partitionable = viewsAt front n left + viewsCount partitionable n
 
 -- and how many bytes
-abbrev pub imageLength : ℕ → ℕ → ℕ → ℕ
-imageLength front n left = imageWords front n left * 4
+abbrev pub imageLength : ℕ → ℕ → ℕ → Bool → ℕ
+imageLength front n left partitionable = imageWords front n left partitionable * 4

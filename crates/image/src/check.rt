@@ -11,6 +11,7 @@ use crate::layout::rewards_at;
 use crate::layout::rows_at;
 use crate::rows::row_right;
 use crate::scores::half_right;
+use crate::torn::then_views;
 use crate::word::own_number_ok;
 use crate::word::own_ok;
 use crate::word::syndrome_ok;
@@ -22,6 +23,7 @@ use setup::check::check_words;
 use setup::check::size_at;
 use setup::head_ok;
 use words::Verdict;
+use words::bits::bit_at;
 use words::check::accept;
 use words::check::refusal;
 use words::word::KIND;
@@ -36,6 +38,7 @@ ghost use Rattle.words.specs.Word.{wordAt};
 ghost use Rattle.words.specs.Count.{lowest};
 ghost use Rattle.words.specs.Verdict.{andThen, outcome, single, each, firstRefusal, thenTests};
 ghost use Rattle.setup.specs.Layout.{frontWords};
+ghost use Rattle.setup.specs.Setup.{partitionableIn};
 ghost use Rattle.changes.specs.Words.{newCount, changeTests};
 ghost use Rattle.image.specs.Layout.{ownAt, leftAt, beforeLeft, imageLength};
 ghost use Rattle.image.specs.Words.{ownNumberOk, ownOk, syndromeOk};
@@ -186,7 +189,7 @@ fn then_change(v: Verdict, s: &[u8], fades: bool, n: usize, at: usize) -> Verdic
 
 // Numbers 7 and 8.
 pub fn check_tail(s: &[u8], fades: bool, n: usize) -> Verdict
-    requires { ⌜ (n ≤ 16) × (length (now s) ≡ imageLength (frontWords fades) n (wordAt (now s) (leftAt (frontWords fades) n))) ⌝ }
+    requires { ⌜ (n ≤ 16) × (length (now s) ≡ imageLength (frontWords fades) n (wordAt (now s) (leftAt (frontWords fades) n)) (partitionableIn (wordAt (now s) 0))) ⌝ }
     ensures { λ r. ⌜ r ≡ checkTail fades (wordAt (now (s .entry))) n ⌝ }
 {
     let front = front_words(fades);
@@ -195,19 +198,21 @@ pub fn check_tail(s: &[u8], fades: bool, n: usize) -> Verdict
     let latest = then_syndrome(rows, s, front, n, latest_at(front, n));
     let earlier = then_syndrome(latest, s, front, n, earlier_at(front, n));
     let accounts = then_accounts(earlier, s, fades, n);
-    then_change(accounts, s, fades, n, left_at(front, n))
+    let change = then_change(accounts, s, fades, n, left_at(front, n));
+    then_views(change, s, front, n)
 }
 
-// Whether the length is the one that the rounds left ask for.
+// Whether the length is the one that the rounds left and the head ask for.
 fn length_right(s: &[u8], front: usize, n: usize) -> bool
     requires { ⌜ (front ≤ 6) × (n ≤ 16) ⌝ }
-    ensures { λ r. ⌜ r ≡ eqb (length (now (s .entry))) (imageLength front n (wordAt (now (s .entry)) (leftAt front n))) ⌝ }
+    ensures { λ r. ⌜ r ≡ eqb (length (now (s .entry))) (imageLength front n (wordAt (now (s .entry)) (leftAt front n)) (partitionableIn (wordAt (now (s .entry)) 0))) ⌝ }
 {
     let at = left_at(front, n);
     if s.len() < (at + 1) * 4 {
         return false;
     }
-    s.len() == image_length(front, n, word_at(s, at))
+    let left = word_at(s, at);
+    s.len() == image_length(front, n, left, bit_at(word_at(s, 0), 5))
 }
 
 // N where head and length are right, else 0. Only whether they are counts: a right length is a whole number of words.

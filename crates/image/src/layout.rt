@@ -1,9 +1,10 @@
 // Where the words of a saved state stand, of n modules and with `front` words before those of the modules, section after section.
 use changes::section::new_count;
 use setup::layout::setup_words;
+use views::section::views_count;
 ghost use mathlib.Core.Path.{_≡_};
 ghost use Prim.Native.Nat.{_≤_};
-ghost use Rattle.image.specs.Layout.{ownAt, rowsAt, latestAt, earlierAt, accountsAt, rewardsAt, returnsAt, leftAt, imageLength};
+ghost use Rattle.image.specs.Layout.{ownAt, rowsAt, latestAt, earlierAt, accountsAt, rewardsAt, returnsAt, leftAt, viewsAt, imageLength};
 
 // Own number and view, after the setup's words.
 pub fn own_at(front: usize, n: usize) -> usize
@@ -69,10 +70,18 @@ pub fn left_at(front: usize, n: usize) -> usize
     returns_at(front, n) + n
 }
 
-// How many bytes an image has, by the rounds left.
-pub fn image_length(front: usize, n: usize, left: u32) -> usize
+// The views of a partitionable setup, by the rounds left.
+pub fn views_at(front: usize, n: usize, left: u32) -> usize
     requires { ⌜ (front ≤ 6) × (n ≤ 16) ⌝ }
-    ensures { λ r. ⌜ r ≡ imageLength front n left ⌝ }
+    ensures { λ r. ⌜ r ≡ viewsAt front n left ⌝ }
 {
-    (left_at(front, n) + 1 + new_count(n, left)) * 4
+    left_at(front, n) + 1 + new_count(n, left)
+}
+
+// How many bytes an image has, by the rounds left and whether its setup is partitionable.
+pub fn image_length(front: usize, n: usize, left: u32, partitionable: bool) -> usize
+    requires { ⌜ (front ≤ 6) × (n ≤ 16) ⌝ }
+    ensures { λ r. ⌜ r ≡ imageLength front n left partitionable ⌝ }
+{
+    (views_at(front, n, left) + views_count(partitionable, n)) * 4
 }

@@ -5,12 +5,14 @@ use crate::layout::left_at;
 use crate::read::load_words;
 use crate::rows::load_rows;
 use crate::scores::load_scores;
+use crate::torn::views_good;
 use changes::section::check_change;
 use setup::Limits;
 use setup::bounds::front_words;
 use setup::bounds::limits_at;
 use setup::bounds::limits_right;
 use setup::modules::load_modules;
+use words::bits::bit_at;
 use words::word::field;
 use words::word::word_at;
 ghost use mathlib.Core.Path.{_≡_};
@@ -22,7 +24,7 @@ ghost use Rattle.words.specs.Array.{array};
 ghost use Rattle.words.specs.Verdict.{allRight};
 ghost use Rattle.setup.specs.Layout.{headAt, frontWords};
 ghost use Rattle.setup.specs.Limits.{mostReturnLimit, fades as fadesOf};
-ghost use Rattle.setup.specs.Setup.{sizeIn, returnLimitIn, criticalityIn, fadesIn, limitsIn};
+ghost use Rattle.setup.specs.Setup.{sizeIn, partitionableIn, returnLimitIn, criticalityIn, fadesIn, limitsIn};
 ghost use Rattle.setup.specs.Check.{limitTests};
 ghost use Rattle.image.specs.Layout.{ownAt, leftAt, beforeLeft, imageLength};
 ghost use Rattle.image.specs.Words.{viewIn};
@@ -92,21 +94,23 @@ pub fn load_image(
     second: &mut [u32; 16],
     returns: &mut [u32; 16],
 ) -> ImagePart
-    requires { ⌜ (n ≤ 16) × (length (now s) ≡ imageLength (frontWords fades) n (wordAt (now s) (leftAt (frontWords fades) n))) × (n ≡ sizeIn (wordAt (now s) 0)) × (fades ≡ fadesIn (wordAt (now s)))
+    requires { ⌜ (n ≤ 16) × (length (now s) ≡ imageLength (frontWords fades) n (wordAt (now s) (leftAt (frontWords fades) n)) (partitionableIn (wordAt (now s) 0))) × (n ≡ sizeIn (wordAt (now s) 0)) × (fades ≡ fadesIn (wordAt (now s)))
         × (returnLimitIn (wordAt (now s) 0) ≤ mostReturnLimit) ⌝ }
     requires { ⌜ (now criticality ≡ array 0 (λ _. 0)) × (now rows ≡ array 0 (λ _. 0)) × (now first ≡ array 0 (λ _. 0)) × (now second ≡ array 0 (λ _. 0))
         × (now returns ≡ array 0 (λ _. 0)) ⌝ }
     ensures { λ r. ⌜ (r .good ≡ allRight (imageTests (now (s .entry)) n))
         × (r .good ≡ true → PartOf (now (s .entry)) fades n r (now (criticality .exit)) (now (rows .exit)) (now (first .exit)) (now (second .exit)) (now (returns .exit))) ⌝ }
 {
-    let q = field(word_at(s, 0), 8, 20);
+    let head = word_at(s, 0);
+    let q = field(head, 8, 20);
     let front = front_words(fades);
     let modules = load_modules(s, front, n, criticality);
     let alone = load_words(s, front, n);
-    let read = load_rows(s, front, n, rows);
     let at = left_at(front, n);
     let left = word_at(s, at);
     let change = check_change(s, fades, n, at);
+    let views = views_good(s, bit_at(head, 5), front, n, alone.view, left);
+    let read = load_rows(s, front, n, rows);
     if !limits_right(s, fades) {
         return no_part();
     }
@@ -123,7 +127,7 @@ pub fn load_image(
         returns,
     );
     ImagePart {
-        good: modules.good & (alone.good & (read.good & (right & (change.number == 0)))),
+        good: modules.good & (alone.good & (read.good & (right & ((change.number == 0) & views)))),
         skew: modules.skew,
         q,
         limits,

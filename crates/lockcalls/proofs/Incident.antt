@@ -30,8 +30,12 @@ use Rattle.doubles.specs.Double.{double}
 use Rattle.doubles.specs.Array.{doubles, clearDoubles}
 use Rattle.accounts.specs.Account.{charged, rewarded, awaited, accounted}
 use Rattle.accounts.specs.Round.{accountedBy, accountAt, accountedAt, countersOf}
+use Rattle.views.specs.ViewWord.{viewsSeen}
+use Rattle.views.specs.Views.{noViews, freshViews}
+use Rattle.views.specs.Section.{viewsRoomy}
+use Rattle.presence.specs.Shown.{shownView}
 use Rattle.presence.specs.Opening.{fresh, blank, checkOpening, openOf}
-use Rattle.presence.specs.Step.{placeOf, markOf, ownSyndrome, alignedFor, judgementFor, outgoingFor, afterRound, refusedStep, acceptedStep, readStep, stepOf}
+use Rattle.presence.specs.Step.{placeOf, markOf, ownSyndrome, alignedFor, judgementFor, outgoingFor, viewsFor, outgoingView, afterRound, refusedStep, acceptedStep, readStep, stepOf}
 use Rattle.agreement.specs.Fault.{differ, half, heard, halfIn, breakerIn, unheardIn, within, keptOver, limit}
 use Rattle.agreement.specs.Session.{made, bitIn, wordIn, readRound, state, health, handed, sent, keptBy}
 use Rattle.agreement.specs.Stars.{digits, bound, keptTo, right}
@@ -41,5 +45,5 @@ use Rattle.lockcalls.specs.Cards.{history}
 use Rattle.lockcalls.specs.Incident.{incident}
 
 pub incident-right : right incident ≡ true
-unfolding fits ofInt toBits updated double doubles clearDoubles wordAt bytesOf bit pack count any all lowest array bounded andThen outcome thenTests runWord runsOf fadesIn limitsIn limitList setupBytes setupOf blankSetup moduleFits markFits whole headFits headOk limitOk moduleOk markOk moduleTest checkHead checkWords checkSetup setupRoomy roomVerdict setupVerdict skewed busWord receptionOf isHeard heardRow causeIn entryOf readingOf causesOf alignedOf decision tally voteOf healthOf differsAt accusationOf accusationsOf syndromeOf votersOf judgementOf outgoingOf charged rewarded awaited accounted accountedBy accountAt accountedAt countersOf rowFits ownNumberOk ownOk rowOk syndromeOk rowsRoomy counterOk countersRoomy checkTail roomy stateVerdict fresh blank checkOpening openOf placeOf markOf ownSyndrome alignedFor judgementFor outgoingFor afterRound refusedStep acceptedStep readStep stepOf differ half heard halfIn breakerIn unheardIn within keptOver limit bitIn wordIn readRound state health handed sent keptBy digits bound keptTo present onAxis startedMotion abortedMotion stoppedMotion motion isUnfinished isHalting left latestView named taken number acceptedEvents live history leftOk newTest pendingRoomy nothing newWord countedDown turned counted booksAfter made
+unfolding fits ofInt toBits updated double doubles clearDoubles wordAt bytesOf bit pack count any all lowest array bounded andThen outcome thenTests runWord runsOf fadesIn limitsIn limitList setupBytes setupOf blankSetup moduleFits markFits whole headFits headOk limitOk moduleOk markOk moduleTest checkHead checkWords checkSetup setupRoomy roomVerdict setupVerdict skewed busWord receptionOf isHeard heardRow causeIn entryOf readingOf causesOf alignedOf decision tally voteOf healthOf differsAt accusationOf accusationsOf syndromeOf votersOf judgementOf outgoingOf charged rewarded awaited accounted accountedBy accountAt accountedAt countersOf rowFits ownNumberOk ownOk rowOk syndromeOk rowsRoomy counterOk countersRoomy checkTail roomy stateVerdict fresh blank checkOpening openOf placeOf markOf ownSyndrome alignedFor judgementFor outgoingFor afterRound refusedStep acceptedStep readStep stepOf differ half heard halfIn breakerIn unheardIn within keptOver limit bitIn wordIn readRound state health handed sent keptBy digits bound keptTo present onAxis startedMotion abortedMotion stoppedMotion motion isUnfinished isHalting left latestView named taken number acceptedEvents live history leftOk newTest pendingRoomy nothing newWord countedDown turned counted booksAfter made viewsSeen noViews freshViews viewsRoomy shownView viewsFor outgoingView
 incident-right = refl

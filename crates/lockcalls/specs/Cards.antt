@@ -5,6 +5,7 @@ use Prim.Native.Nat.{ℕ, zero, suc, _≤_, _<_}
 use mathlib.Core.Path.{_≡_}
 use mathlib.Core.Bool.{false}
 use mathlib.Core.List.{List, _∷_, _++_}
+use Rattle.presence.specs.Shown.{shownView}
 use Rattle.presence.specs.Image.{stateOf}
 use Rattle.presence.specs.declared.State.{State}
 use Rattle.agreement.specs.Session.{Offer, Session, Accepted, size, RuleFollower, Common, Bound}
@@ -27,12 +28,12 @@ pub record ViewTaken (n : ℕ) (h : List Event) (view : ℕ) : Type 0 where
   pub freed : (a : ℕ) → 1 ≤ a → a ≤ 8 → present view (axisAt (locksAfter n (View view ∷ h)) a .holder) ≡ false
       → axisAt (locksAfter n (View view ∷ h)) a .depth ≡ 0
 
--- The view that a card's opening or step leaves is taken, whatever its scan lock was told before and whatever changes it was offered since, within the
+-- The view that is shown after a card's opening or step is taken, whatever its scan lock was told before and whatever changes it was offered since, within the
 -- fault limit and outside it.
 abbrev pub ViewsTaken : Type 0
 ViewsTaken =
     (S : Session) → Accepted S → (i : ℕ) → i < size S → (k health : ℕ) (os : List Offer) (st : State) → Life S i k os st health
-    → (h : List Event) → ViewTaken (size S) h (st .counters .view)
+    → (h : List Event) → ViewTaken (size S) h (shownView st)
 
 -- ---- the cards together
 
@@ -44,15 +45,15 @@ pub record Card (S : Session) (i last : ℕ) : Type 0 where
   pub rest : ℕ → List Offer
   pub lives : (k : ℕ) → k ≤ last → Life S i k (rest k) (state k) (health k)
 
--- What a scan lock is handed up to round k, the newest first: after each step the view that it left, and between two steps any events.
+-- What a scan lock is handed up to round k, the newest first: after each step the view that is then shown, and between two steps any events.
 -- `between k` are those after step k and before step k + 1; they may be none, so this speaks of the moment after the step too.
 unfoldable pub history : (ℕ → List Event) → (ℕ → ℕ) → ℕ → List Event
 history between views zero = between zero
 history between views (suc k) = between (suc k) ++ (View (views (suc k)) ∷ history between views k)
 
--- what the scan lock of a card is told: the views of its own states, and the events between
+-- what the scan lock of a card is told: what its own states show, and the events between
 abbrev pub toldCard : {S : Session} {i last : ℕ} → (ℕ → List Event) → Card S i last → ℕ → List Event
-toldCard between card k = history between (λ j. card .state j .counters .view) k
+toldCard between card k = history between (λ j. shownView (card .state j)) k
 
 -- Of two cards after round k.
 pub record AlikeCards (S : Session) (last : ℕ) (between : ℕ → List Event) (i i′ : ℕ) (card : Card S i last) (card′ : Card S i′ last)
@@ -64,10 +65,11 @@ pub record AlikeCards (S : Session) (last : ℕ) (between : ℕ → List Event) 
   pub images : (image image′ : List ℕ) → HeldLock (size S) (toldCard between card k) image → HeldLock (size S) (toldCard between card′ k) image′
       → image ≡ image′
 
--- For every session that demand 3 speaks of, every list of events and every two rule-followers, while the fault limit is kept and changes are common.
+-- For every session that demand 3 speaks of whose setup is not partitionable, every list of events and every two rule-followers, while the fault limit is
+-- kept and changes are common. Where it is partitionable, specs/TornCards.antt says what holds of the views that are adopted.
 abbrev pub CardsAgree : Type 0
 CardsAgree =
-    (S : Session) → Accepted S → (last : ℕ) → Bound S last → Common S last → (k : ℕ) → k ≤ last → KeptTo S k → (between : ℕ → List Event)
+    (S : Session) → Accepted S → S .setup .partitionable ≡ false → (last : ℕ) → Bound S last → Common S last → (k : ℕ) → k ≤ last → KeptTo S k → (between : ℕ → List Event)
     → (i i′ : ℕ) → RuleFollower S i → RuleFollower S i′ → (card : Card S i last) (card′ : Card S i′ last)
     → AlikeCards S last between i i′ card card′ k
 
@@ -80,14 +82,14 @@ pub record ImageCard (S : Session) (setup : List ℕ) (i last : ℕ) : Type 0 wh
   pub rest : ℕ → List Offer
   pub lives : (k : ℕ) → k ≤ last → ImageLife S setup i k (rest k) (image k) (health k)
 
--- what the scan lock of such a card is handed: the views in its images
+-- what the scan lock of such a card is handed: what its images show
 abbrev pub toldImages : {S : Session} {setup : List ℕ} {i last : ℕ} → (ℕ → List Event) → ImageCard S setup i last → ℕ → List Event
-toldImages between card k = history between (λ j. stateOf (card .image j) .counters .view) k
+toldImages between card k = history between (λ j. shownView (stateOf (card .image j))) k
 
--- the scan locks that two such cards hold are equal byte for byte
+-- the scan locks that two such cards hold are equal byte for byte, where the setup is not partitionable
 abbrev pub ImagesAgree : Type 0
 ImagesAgree =
-    (S : Session) (setup : List ℕ) → SetUp S setup → (last : ℕ) → Bound S last → Common S last
+    (S : Session) (setup : List ℕ) → SetUp S setup → S .setup .partitionable ≡ false → (last : ℕ) → Bound S last → Common S last
     → (k : ℕ) → k ≤ last → KeptTo S k → (between : ℕ → List Event) → (i i′ : ℕ) → RuleFollower S i → RuleFollower S i′
     → (card : ImageCard S setup i last) (card′ : ImageCard S setup i′ last) (lock lock′ : List ℕ)
     → HeldLock (size S) (toldImages between card k) lock → HeldLock (size S) (toldImages between card′ k) lock′ → lock ≡ lock′

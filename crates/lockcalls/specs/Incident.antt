@@ -12,6 +12,7 @@ use Rattle.agreement.specs.Stars.{Case, test, sheet, session, bound, keptTo, vi
 use Rattle.scanlock.specs.History.{live}
 use Rattle.scanlock.specs.declared.Event.{Event}
 use Rattle.scanlock.specs.declared.Event.the-variants.{Begin, Start, Abort, Stopped}
+use Rattle.presence.specs.Shown.{shownView}
 use Rattle.lockcalls.specs.Cards.{history}
 
 -- the sheet's setup; the rows that were sent in rounds 1, 2 and 3
@@ -23,7 +24,7 @@ loosePlug =
 -- what a card's scan lock was handed after round k, with these events after the step of round 3
 abbrev pub handedLock : List Event → ℕ → ℕ → List Event
 handedLock late i k =
-    history (λ r. getD ((Start 4 1 ∷ Begin 4 1 ∷ Begin 4 1 ∷ []) ∷ [] ∷ [] ∷ late ∷ []) r []) (λ r. state loosePlug i r .counters .view) k
+    history (λ r. getD ((Start 4 1 ∷ Begin 4 1 ∷ Begin 4 1 ∷ []) ∷ [] ∷ [] ∷ late ∷ []) r []) (λ r. shownView (state loosePlug i r)) k
 
 -- on the cards of modules 1 and 2
 abbrev pub joysticks : List Event → ℕ → Bool → List Case

@@ -2,4 +2,5 @@ pub mod LockImage
 pub mod LockCalls
 pub mod Callers
 pub mod Cards
+pub mod TornCards
 pub mod Incident

@@ -1,6 +1,6 @@
--- The view that rule 8 finds in a step from an image.
+-- The view that rule 8 finds in a step from an image, and the one that is shown of it.
 use mathlib.Core.Path.{_≡_, refl, ap, ap₂, _∙_, sym}
-use mathlib.Core.Bool.{Bool, true, false, _&&_, _||_}
+use mathlib.Core.Bool.{Bool, true, false, cond, _&&_, _||_}
 use mathlib.Core.List.{List}
 use Prim.Native.Nat.{ℕ, _+_, _-_, _*_, _%_, _^_, _<_, _≤_}
 use native.Mathlib.Omega.{arith}
@@ -14,7 +14,7 @@ use Rattle.words.proofs.Truth.{cond-false}
 use Rattle.words.proofs.BitLaws.{pack-lt, pack-ext}
 use Rattle.words.proofs.ArrayLaws.{array-at}
 use Rattle.setup.specs.Layout.{frontWords}
-use Rattle.setup.specs.Setup.{sizeIn, limitIn, criticalityIn, fadesIn, frontIn, setupOf}
+use Rattle.setup.specs.Setup.{sizeIn, partitionableIn, limitIn, criticalityIn, fadesIn, frontIn, setupOf}
 use Rattle.setup.proofs.BoundLaws.{front-most}
 use Rattle.accounts.specs.Round.{accountAt}
 use Rattle.accounts.specs.declared.Account.{Account}
@@ -24,13 +24,16 @@ use Rattle.changes.specs.Words.{newCount, pendingIn}
 use Rattle.changes.specs.declared.Books.{Books}
 use Rattle.changes.specs.declared.Pending.{Pending}
 use Rattle.changes.proofs.TurnLaws.{turned-both, turned-changed, turned-unchanged}
-use Rattle.image.specs.Layout.{ownAt, accountsAt, rewardsAt, leftAt, beforeLeft}
+use Rattle.changes.proofs.SectionTests.{new-most}
+use Rattle.views.specs.Section.{viewsCount, viewsIn}
+use Rattle.image.specs.Layout.{ownAt, accountsAt, rewardsAt, leftAt, viewsAt, beforeLeft}
 use Rattle.image.specs.Words.{viewIn}
 use Rattle.image.specs.CounterSection.{counterIn}
 use Rattle.image.specs.Counters.{countersIn}
 use Rattle.image.specs.Check.{leftIn, checkImage}
 use Rattle.image.proofs.TailLaws.{ImageFits, image-pass}
 use Rattle.presence.specs.Step.{booksOf, foundView}
+use Rattle.presence.specs.Shown.{shownView}
 use Rattle.presence.specs.Image.{stateOf}
 use Rattle.presence.specs.declared.State.{State}
 use Rattle.presence.proofs.ValidLaws.{StateFits, valid-fits}
@@ -171,3 +174,45 @@ module _ (image : List ℕ) (ok : checkImage image .number ≡ 0) where
     found-turned ea ew z ev =
         let (one, f) = due-counts ea ew z in
         ev ∙ ap (λ (m : ℕ). pack m (turnedIn (wordAt image) m)) en ∙ sym (turned-words image ok one f)
+
+    -- ---- the view that is shown
+
+    pub head-room : 0 * 4 + 4 ≤ length image
+    head-room = fits .front .room
+
+    shown-by : shownView (stateOf image)
+        ≡ cond (partitionableIn (wordAt image 0)) (viewsIn (partitionableIn (wordAt image 0)) image n (viewsAt front n (wordAt image (leftAt front n))) .adopted)
+        (viewIn (wordAt image (ownAt front n)))
+    unfolding shownView stateOf setupOf
+    shown-by =
+        ap₂ (λ (i k : ℕ). cond (partitionableIn (wordAt image 0)) (viewsIn (partitionableIn (wordAt image 0)) image k (viewsAt i k (wordAt image (leftAt i k))) .adopted)
+        (countersIn (fadesIn (wordAt image)) image (sizeIn (wordAt image 0)) .view)) (sym ef) (sym en)
+        ∙ ap (λ (v : ℕ). cond (partitionableIn (wordAt image 0)) (viewsIn (partitionableIn (wordAt image 0)) image n (viewsAt front n (wordAt image (leftAt front n))) .adopted) v)
+        (sym view-is)
+
+    module _ {w : ℕ} {b : Bool} (ew : w ≡ wordAt image 0) (eb : b ≡ bit w 5) where
+      parted : b ≡ partitionableIn (wordAt image 0)
+      parted = eb ∙ ap (λ (x : ℕ). bit x 5) ew
+
+      pub shown-local : {r : ℕ} → b ≡ false → r ≡ viewIn (wordAt image (ownAt front n)) → r ≡ shownView (stateOf image)
+      shown-local f e = e ∙ sym (shown-by ∙ cond-false _ _ (sym parted ∙ f))
+
+      module _ {at left v : ℕ} (t : b ≡ true) (ea : at ≡ leftAt front n) (el : left ≡ wordAt image at) (ev : v ≡ viewsAt front n left) where
+        place : v ≡ viewsAt front n (wordAt image (leftAt front n))
+        place = ev ∙ ap (λ (k : ℕ). viewsAt front n k) (el ∙ ap (wordAt image) ea)
+
+        pub adopted-room : (v + n + 2) * 4 + 4 ≤ length image
+        adopted-room =
+            let here : v ≡ viewsAt (frontIn (wordAt image)) (sizeIn (wordAt image 0)) (leftIn image) = place ∙ ap₂ (λ (i k : ℕ). viewsAt i k (wordAt image (leftAt i k))) ef en in
+            let some : viewsCount (partitionableIn (wordAt image 0)) (sizeIn (wordAt image 0)) ≡ sizeIn (wordAt image 0) + 4 = ap (λ (x : Bool). viewsCount x (sizeIn (wordAt image 0))) (sym parted ∙ t) in
+            omega (arith, fits .size, here, some, en)
+
+        pub adopted-small : v < 2 ^ 16
+        adopted-small = omega (arith, ev, bounds .0, bounds .1, new-most n left)
+
+        pub shown-adopted : {r : ℕ} → r ≡ wordAt image (v + n + 2) → r ≡ shownView (stateOf image)
+        unfolding viewsIn
+        shown-adopted e =
+            e ∙ ap (λ (k : ℕ). wordAt image (k + n + 2)) place
+            ∙ sym (shown-by
+            ∙ ap (λ (x : Bool). cond x (viewsIn x image n (viewsAt front n (wordAt image (leftAt front n))) .adopted) (viewIn (wordAt image (ownAt front n)))) (sym parted ∙ t))

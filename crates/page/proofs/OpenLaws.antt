@@ -12,15 +12,18 @@ use Rattle.words.specs.Word.{wordAt}
 use Rattle.words.proofs.Truth.{which, cond-true, cond-false}
 use Rattle.words.specs.Verdict.{isAccepted}
 use Rattle.setup.specs.Layout.{frontWords}
-use Rattle.setup.specs.Setup.{sizeIn, fadesIn, frontOf, setupOf}
+use Rattle.setup.specs.Setup.{sizeIn, fadesIn, frontIn, frontOf, setupOf}
 use Rattle.setup.specs.declared.Setup.{Setup}
 use Rattle.setup.specs.Check.{checkSetup}
 use Rattle.setup.proofs.SetupCheckLaws.{BytesFit, setup-pass}
-use Rattle.image.specs.Layout.{ownAt, beforeLeft}
-use Rattle.image.specs.Words.{viewIn}
+use Rattle.setup.proofs.SetupRoundTrip.{read-shaped}
+use Rattle.image.specs.Check.{checkImage}
 use Rattle.presence.specs.Valid.{Valid}
 use Rattle.presence.specs.Opening.{fresh, blank, openOf}
-use Rattle.presence.specs.Image.{imageOf, roomFor}
+use Rattle.presence.specs.Shown.{shownView}
+use Rattle.presence.specs.RoundTrip.{Shaped}
+use Rattle.presence.specs.Image.{imageOf, stateOf, roomFor}
+use Rattle.presence.proofs.RoundTrip.{round-trip}
 use Rattle.calls.specs.Calls.{Called, called, refusedCall, wrote, openCall}
 use Rattle.calls.specs.declared.Answer.{Answer}
 use Rattle.presence.specs.declared.State.{State}
@@ -31,7 +34,7 @@ use Rattle.calls.proofs.CallAnswers.{open-writes, open-passed}
 use Rattle.page.specs.Page.{pageOpened}
 use Rattle.page.specs.Calls.{pageCalled, pageOpenCall}
 use Rattle.page.proofs.WithPageLaws.{with-accepted, with-refused, with-before, with-nine}
-use Rattle.page.proofs.PageCallLaws.{moved, refused-by, no-room, image-view, image-length}
+use Rattle.page.proofs.PageCallLaws.{moved, refused-by, no-room, image-size, image-form, shown-back}
 
 read-size : (s : List ℕ) → sizeIn (wordAt s 0) ≡ setupOf s .n
 unfolding setupOf
@@ -108,6 +111,11 @@ module _ (setup : List ℕ) (own : ℕ) where
       fresh-valid : Valid (opened .state)
       fresh-valid = open-valid (setupOf setup) own (open-passed setup own out answered .1)
 
+      fresh-shaped : Shaped (opened .state)
+      fresh-shaped =
+          let (ok, zero) = open-passed setup own out answered in
+          round-trip .opens (setupOf setup) own (read-shaped setup ok) zero .1
+
       wrote-image : b ≡ imageOf (opened .state)
       wrote-image = ap (λ (c : Called). c .out) e ∙ open-writes setup own out answered
 
@@ -131,17 +139,22 @@ module _ (setup : List ℕ) (own : ℕ) where
         front-is : front ≡ frontOf (opened .state .setup)
         front-is = at ∙ ap frontWords fades ∙ sym (read-front setup) ∙ ap frontOf (sym setup-is)
 
-        pub in-fresh : (n ≤ 16) × (beforeLeft front n ≤ length b)
-        in-fresh =
+        pub few : n ≤ 16
+        few =
             let f = fits .front .most in
-            (omega arith, omega (arith, ap length wrote-image, image-length (opened .state) fresh-valid, front-is, size-is))
+            omega arith
 
-        pub open-paged : (page : List ℕ) {w : ℕ} {p : List ℕ} → length page ≡ 64 → w ≡ viewIn (wordAt b (ownAt front n)) → p ≡ pageOpened n w
+        -- the image that was written, as what is shown of it is asked for
+        pub in-fresh : (checkImage b .number ≡ 0) × (front ≡ frontIn (wordAt b)) × (n ≡ sizeIn (wordAt b 0))
+        in-fresh = (
+          shown-back (opened .state) fresh-valid fresh-shaped wrote-image .0,
+          front-is ∙ ap frontWords (sym (image-form (opened .state) fresh-valid)) ∙ ap (λ (x : List ℕ). frontIn (wordAt x)) (sym wrote-image),
+          size-is ∙ sym (image-size (opened .state) fresh-valid) ∙ ap (λ (x : List ℕ). sizeIn (wordAt x 0)) (sym wrote-image),
+        )
+
+        pub open-paged : (page : List ℕ) {w : ℕ} {p : List ℕ} → length page ≡ 64 → w ≡ shownView (stateOf b) → p ≡ pageOpened n w
             → pageCalled (called r b) p ≡ pageOpenCall setup own out page
         unfolding pageOpenCall
         open-paged page {w} {p} l view h =
-            let a : w ≡ opened .state .counters .view =
-            view ∙ ap (λ (x : List ℕ). viewIn (wordAt x (ownAt front n))) wrote-image
-            ∙ ap₂ (λ (i k : ℕ). viewIn (wordAt (imageOf (opened .state)) (ownAt i k))) front-is size-is ∙ image-view (opened .state) fresh-valid
-            in
+            let a : w ≡ shownView (opened .state) = view ∙ shown-back (opened .state) fresh-valid fresh-shaped wrote-image .1 in
             ap₂ pageCalled e (h ∙ ap₂ pageOpened size-is a) ∙ with-accepted _ (openCall setup own out) out page _ l answered

@@ -1,6 +1,6 @@
 -- The view in an image, and what an output of no bytes is good for.
-use mathlib.Core.Path.{_≡_, ap, _∙_, sym}
-use mathlib.Core.Bool.{false}
+use mathlib.Core.Path.{_≡_, refl, ap, _∙_, sym}
+use mathlib.Core.Bool.{Bool, true, false, cond}
 use mathlib.Core.List.{List, [], _++_}
 use Prim.Native.Nat.{ℕ, _-_}
 use native.Mathlib.Omega.{arith}
@@ -9,14 +9,23 @@ use borrow.Author.Tests.{ne-eqb}
 use Rattle.words.specs.Word.{wordAt, bytesOf}
 use Rattle.words.specs.Runs.{runsOf}
 use Rattle.words.proofs.ByteLaws.{word-first}
+use Rattle.words.specs.Bits.{full}
+use Rattle.words.specs.declared.Verdict.{Verdict}
 use Rattle.setup.specs.Limits.{fades}
 use Rattle.setup.specs.Setup.{headWord, sizeIn, fadesIn, frontOf}
+use Rattle.setup.specs.declared.Setup.{Setup}
 use Rattle.setup.proofs.BoundLaws.{fades-back}
+use Rattle.views.specs.Views.{fullViews, freshViews}
 use Rattle.image.specs.Layout.{ownAt}
 use Rattle.image.specs.Words.{viewIn}
+use Rattle.image.specs.Check.{checkImage}
 use Rattle.image.proofs.SingleWords.{view-back}
 use Rattle.presence.specs.Valid.{Valid}
-use Rattle.presence.specs.Image.{imageOf, stateLength, roomFor, roomAfter}
+use Rattle.presence.specs.Opening.{fresh}
+use Rattle.presence.specs.Shown.{shownView}
+use Rattle.presence.specs.RoundTrip.{Shaped}
+use Rattle.presence.specs.Image.{imageOf, stateOf, stateLength, roomFor, roomAfter}
+use Rattle.presence.proofs.RoundTrip.{round-trip}
 use Rattle.calls.specs.Calls.{Called, called, refusedCall}
 use Rattle.calls.specs.declared.Answer.{Answer}
 use Rattle.presence.specs.declared.State.{State}
@@ -39,7 +48,7 @@ refused-by number index out g f z = f (ap (λ (x : Called). x .answer .number) (
 module _ (st : State) (v : Valid st) where
   pub image-size : sizeIn (wordAt (imageOf st) 0) ≡ st .setup .n
   unfolding imageOf runsOf bytesOf
-  image-size = ap sizeIn (word-first (headWord (st .setup .q) (st .setup .n)) _) ∙ omega (arith, valid-small st v .size)
+  image-size = ap sizeIn (word-first (headWord (st .setup .q) (st .setup .partitionable) (st .setup .n)) _) ∙ omega (arith, valid-small st v .size)
 
   pub image-form : fadesIn (wordAt (imageOf st)) ≡ fades (st .setup .limits)
   image-form = fades-back (wordAt (imageOf st)) (st .setup .limits) (stands-bytes st .limits)
@@ -51,6 +60,24 @@ module _ (st : State) (v : Valid st) where
 
   pub image-length : length (imageOf st) ≡ stateLength st (st .pending .left)
   image-length = length-of st
+
+-- ---- the view that is shown of an image
+
+-- the image of a state within the limits is accepted, and shows what the state shows
+pub shown-back : (st : State) {b : List ℕ} → Valid st → Shaped st → b ≡ imageOf st → (checkImage b .number ≡ 0) × (shownView (stateOf b) ≡ shownView st)
+shown-back st v a e =
+    let (ok, back) = round-trip .written-read st a v in
+    (ap (λ (x : List ℕ). checkImage x .number) e ∙ ap (λ (x : Verdict). x .number) ok, ap (λ (x : List ℕ). shownView (stateOf x)) e ∙ ap shownView back)
+
+-- a fresh module shows all modules
+opened-full : (b : Bool) (n : ℕ) → cond b (freshViews b n .adopted) (full n) ≡ full n
+unfolding freshViews fullViews
+opened-full true n = refl
+opened-full false n = refl
+
+pub fresh-shown : (s : Setup) (own : ℕ) → shownView (fresh s own) ≡ full (s .n)
+unfolding shownView fresh
+fresh-shown s own = opened-full (s .partitionable) (s .n)
 
 -- an output of no bytes has no room
 none : (st : State) (left : ℕ) → 0 ≡ stateLength st left → ⊥

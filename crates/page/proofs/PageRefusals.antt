@@ -11,18 +11,20 @@ use Rattle.words.specs.Word.{wordAt}
 use Rattle.words.specs.Bits.{full}
 use Rattle.words.proofs.Truth.{which, clash, cond-true, cond-false, and-true}
 use Rattle.words.specs.Verdict.{verdict, accepted, isAccepted, between, single, andThen}
-use Rattle.setup.specs.Setup.{frontIn, setupOf}
+use Rattle.setup.specs.Setup.{partitionableIn, frontIn, setupOf}
 use Rattle.setup.specs.Check.{checkSetup}
 use Rattle.words.specs.declared.Verdict.{Verdict}
 use Rattle.words.proofs.VerdictLaws.{Passed, between-of, tests-ok}
 use Rattle.rules.specs.Hearing.{readingOf, causesOf}
+use Rattle.views.specs.ViewWord.{readWords}
 use Rattle.image.specs.Layout.{imageLength}
 use Rattle.image.specs.Check.{leftIn, checkImage}
 use Rattle.presence.specs.Opening.{fresh, openOf}
 use Rattle.presence.specs.Step.{judgementFor, foundView, afterRound, acceptedStep, stepOf}
+use Rattle.presence.specs.Shown.{shownView}
 use Rattle.presence.specs.Image.{stateOf}
 use Rattle.calls.specs.Calls.{Called, refusedCall, wrote, openCall, stepCall}
-use Rattle.calls.specs.Refusals.{sizeOf, hasRoom, answering}
+use Rattle.calls.specs.Refusals.{sizeOf, hasRoom, hasWords, seenIn, answering}
 use Rattle.rules.specs.declared.Reading.{Reading}
 use Rattle.presence.specs.declared.State.{State}
 use Rattle.presence.specs.declared.Stepped.{Stepped}
@@ -33,6 +35,7 @@ use Rattle.page.specs.Page.{isPage, startsWord, pageOpened, pageStepped,
 use Rattle.page.specs.Host.{tell, written, wrotePage, writeCall}
 use Rattle.page.specs.Calls.{PageCalled, pageCalled, withPage, pageOpenCall, pageStepCall}
 use Rattle.page.specs.Refusals.{pageOpenVerdict, pageStepVerdict, pageAnswering, Refused, opening, step, change, saving, page-opening, page-step, page-of-opening, page-of-step, write, PageRefusals}
+use Rattle.page.proofs.PageCallLaws.{fresh-shown}
 use Rattle.page.proofs.WithPageLaws.{with-zero}
 
 module _ (health : ℕ) (st : State) (out page next : List ℕ) where
@@ -114,16 +117,16 @@ module _ (setup : List ℕ) (own : ℕ) (out page : List ℕ) where
       (two-answers 7 9 refl (between 1 (sizeOf setup) own) (hasRoom setup 0 out && isPage page))
 
   opens : pageOpenCall setup own out page
-      ≡ pageAnswering (pageOpenVerdict setup own out page) 0 (fresh (setupOf setup) own) out (pageOpened (opened .setup .n) (opened .counters .view)) page
+      ≡ pageAnswering (pageOpenVerdict setup own out page) 0 (fresh (setupOf setup) own) out (pageOpened (opened .setup .n) (shownView opened)) page
   unfolding pageOpenCall withPage with-by
   opens =
       ap
       (λ (c : Called).
-      with-by 0 (fresh (setupOf setup) own) out page (pageOpened (opened .setup .n) (opened .counters .view)) (eqb (c .answer .number) 0) (isPage page) c)
+      with-by 0 (fresh (setupOf setup) own) out page (pageOpened (opened .setup .n) (shownView opened)) (eqb (c .answer .number) 0) (isPage page) c)
       (without-page .opening setup own out ∙ ap (λ (v : Verdict). answering v 0 (fresh (setupOf setup) own) out) (open-without setup own out))
       ∙ open-chain 0 (fresh (setupOf setup) own) out page _ (checkSetup setup) (isAccepted (checkSetup setup)) (between 1 (sizeOf setup) own)
       (hasRoom setup 0 out) (isPage page) refl
-      ∙ ap (λ (v : Verdict). pageAnswering v 0 (fresh (setupOf setup) own) out (pageOpened (opened .setup .n) (opened .counters .view)) page) (sym open-verdict)
+      ∙ ap (λ (v : Verdict). pageAnswering v 0 (fresh (setupOf setup) own) out (pageOpened (opened .setup .n) (shownView opened)) page) (sym open-verdict)
 
   -- the module that is opened is fresh
   opened-fresh : pageOpenVerdict setup own out page .number ≡ 0 → opened ≡ fresh (setupOf setup) own
@@ -132,7 +135,7 @@ module _ (setup : List ℕ) (own : ℕ) (out page : List ℕ) where
       let c : pageOpenCall setup own out page .call .answer .number ≡ 0 =
       ap (λ (x : PageCalled). x .call .answer .number) opens ∙ number-is (pageOpenVerdict setup own out page) 0 _ out _ page ∙ z
       in
-      let o = with-zero _ (openCall setup own out) out page (pageOpened (opened .setup .n) (opened .counters .view)) c in
+      let o = with-zero _ (openCall setup own out) out page (pageOpened (opened .setup .n) (shownView opened)) c in
       open-fresh (setupOf setup) own (open-passed setup own out (o .1) .1)
 
   opening-is : pageOpenCall setup own out page
@@ -140,7 +143,7 @@ module _ (setup : List ℕ) (own : ℕ) (out page : List ℕ) where
   unfolding fresh setupOf
   opening-is =
       opens
-      ∙ next-by (pageOpenVerdict setup own out page) 0 _ out _ _ page (λ z. ap (λ (s : State). pageOpened (s .setup .n) (s .counters .view)) (opened-fresh z))
+      ∙ next-by (pageOpenVerdict setup own out page) 0 _ out _ _ page (λ z. ap (λ (s : State). pageOpened (s .setup .n) (shownView s)) (opened-fresh z) ∙ ap (pageOpened (sizeOf setup)) (fresh-shown (setupOf setup) own))
 
 -- ---- step
 
@@ -151,56 +154,59 @@ module _ (image read : List ℕ) (controller : ℕ) (out page : List ℕ) where
   abbrev this : Reading
   this = readingOf (sizeOf image) read controller
 
+  abbrev seen : List ℕ
+  seen = seenIn image read controller
+
   abbrev next : Stepped → List ℕ
-  next t = pageStepped (st .setup .n) (foundView st) (t .health) (t .state .counters .view) (t .causes) page
+  next t = pageStepped (st .setup .n) (foundView st) (t .health) (shownView (t .state)) (t .causes) page
 
   abbrev v : Verdict
   v = pageStepVerdict image read controller out page
 
   step-verdict : v
       ≡ cond (isAccepted (checkImage image))
-      (cond (hasRoom image (leftIn image - 1) out && eqb (length read) (sizeOf image * 4) && isPage page) (cond (ltb controller (2 ^ sizeOf image)) accepted (verdict 10 0))
+      (cond (hasRoom image (leftIn image - 1) out && hasWords image read && isPage page) (cond (ltb controller (2 ^ sizeOf image)) accepted (verdict 10 0))
       (verdict 9 0)) (checkImage image)
   unfolding pageStepVerdict andThen
   step-verdict =
       ap (λ (v : Verdict). cond (isAccepted (checkImage image)) v (checkImage image))
-      (two-answers 9 10 refl (hasRoom image (leftIn image - 1) out && eqb (length read) (sizeOf image * 4) && isPage page) (ltb controller (2 ^ sizeOf image)))
+      (two-answers 9 10 refl (hasRoom image (leftIn image - 1) out && hasWords image read && isPage page) (ltb controller (2 ^ sizeOf image)))
 
   steps : pageStepCall image read controller out page
-      ≡ pageAnswering v (judgementFor st this .health) (afterRound st this) out (next (stepOf st read controller)) page
+      ≡ pageAnswering v (judgementFor st this .health) (afterRound st this seen) out (next (stepOf st read controller)) page
   unfolding pageStepCall withPage with-by
   steps =
       ap
       (λ (c : Called).
-      with-by (judgementFor st this .health) (afterRound st this) out page (next (stepOf st read controller)) (isAccepted (checkImage image)) (isPage page) c)
+      with-by (judgementFor st this .health) (afterRound st this seen) out page (next (stepOf st read controller)) (isAccepted (checkImage image)) (isPage page) c)
       (without-page .step image read controller out
-      ∙ ap (λ (v : Verdict). answering v (judgementFor st this .health) (afterRound st this) out) (step-without image read controller out))
-      ∙ step-chain (judgementFor st this .health) (afterRound st this) out page _ (checkImage image) (isAccepted (checkImage image))
-      (hasRoom image (leftIn image - 1) out) (eqb (length read) (sizeOf image * 4)) (isPage page) (ltb controller (2 ^ sizeOf image)) refl
-      ∙ ap (λ (v : Verdict). pageAnswering v (judgementFor st this .health) (afterRound st this) out (next (stepOf st read controller)) page) (sym step-verdict)
+      ∙ ap (λ (v : Verdict). answering v (judgementFor st this .health) (afterRound st this seen) out) (step-without image read controller out))
+      ∙ step-chain (judgementFor st this .health) (afterRound st this seen) out page _ (checkImage image) (isAccepted (checkImage image))
+      (hasRoom image (leftIn image - 1) out) (hasWords image read) (isPage page) (ltb controller (2 ^ sizeOf image)) refl
+      ∙ ap (λ (v : Verdict). pageAnswering v (judgementFor st this .health) (afterRound st this seen) out (next (stepOf st read controller)) page) (sym step-verdict)
 
   -- the step is an accepted one of the struct
-  stepped-so : v .number ≡ 0 → stepOf st read controller ≡ acceptedStep st this (causesOf (sizeOf image) read controller)
+  stepped-so : v .number ≡ 0 → stepOf st read controller ≡ acceptedStep st this seen (causesOf (sizeOf image) read controller)
   unfolding pageStepCall stateOf setupOf
   stepped-so z =
       let c : pageStepCall image read controller out page .call .answer .number ≡ 0 =
-      ap (λ (x : PageCalled). x .call .answer .number) steps ∙ number-is v (judgementFor st this .health) (afterRound st this) out _ page ∙ z
+      ap (λ (x : PageCalled). x .call .answer .number) steps ∙ number-is v (judgementFor st this .health) (afterRound st this seen) out _ page ∙ z
       in
       let s = with-zero _ (stepCall image read controller out) out page (next (stepOf st read controller)) c in
       step-of-struct st read controller (step-passed image read controller out (s .1) .1) .1
 
   step-is : pageStepCall image read controller out page
-      ≡ pageAnswering v (judgementFor st this .health) (afterRound st this) out
-      (pageStepped (sizeOf image) (foundView st) (judgementFor st this .health) (afterRound st this .counters .view)
+      ≡ pageAnswering v (judgementFor st this .health) (afterRound st this seen) out
+      (pageStepped (sizeOf image) (foundView st) (judgementFor st this .health) (shownView (afterRound st this seen))
       (causesOf (sizeOf image) read controller) page) page
   unfolding acceptedStep stateOf setupOf
   step-is =
-      steps ∙ next-by v (judgementFor st this .health) (afterRound st this) out _ _ page (λ z. ap next (stepped-so z))
+      steps ∙ next-by v (judgementFor st this .health) (afterRound st this seen) out _ _ page (λ z. ap next (stepped-so z))
 
 -- ---- accepted calls
 
 pub open-accepted : (setup : List ℕ) (own : ℕ) (out page : List ℕ) → checkSetup setup .number ≡ 0 → 1 ≤ own → own ≤ sizeOf setup
-    → length out ≡ imageLength (frontIn (wordAt setup)) (sizeOf setup) 0 → length page ≡ 64 → pageOpenCall setup own out page .call .answer .number ≡ 0
+    → length out ≡ imageLength (frontIn (wordAt setup)) (sizeOf setup) 0 (partitionableIn (wordAt setup 0)) → length page ≡ 64 → pageOpenCall setup own out page .call .answer .number ≡ 0
 unfolding pageOpenVerdict Passed
 open-accepted setup own out page z h l room long =
     let e : pageOpenVerdict setup own out page ≡ accepted =
@@ -212,16 +218,17 @@ open-accepted setup own out page z h l room long =
     ∙ ap (λ (v : Verdict). v .number) e
 
 pub step-accepted : (image read : List ℕ) (controller : ℕ) (out page : List ℕ) → checkImage image .number ≡ 0
-    → length out ≡ imageLength (frontIn (wordAt image)) (sizeOf image) (leftIn image - 1) → length read ≡ sizeOf image * 4 → controller < 2 ^ sizeOf image → length page ≡ 64
+    → length out ≡ imageLength (frontIn (wordAt image)) (sizeOf image) (leftIn image - 1) (partitionableIn (wordAt image 0))
+    → length read ≡ readWords (partitionableIn (wordAt image 0)) (sizeOf image) * 4 → controller < 2 ^ sizeOf image → length page ≡ 64
     → pageStepCall image read controller out page .call .answer .number ≡ 0
 unfolding pageStepVerdict Passed
 step-accepted image read controller out page z room whole bits long =
     let e : pageStepVerdict image read controller out page ≡ accepted =
     both-accept (checkImage image) _ z
     (tests-ok
-    (single (hasRoom image (leftIn image - 1) out && eqb (length read) (sizeOf image * 4) && isPage page) 9 0 ∷ single (ltb controller (2 ^ sizeOf image)) 10 0 ∷ []) (
+    (single (hasRoom image (leftIn image - 1) out && hasWords image read && isPage page) 9 0 ∷ single (ltb controller (2 ^ sizeOf image)) 10 0 ∷ []) (
       λ _ _.
-          and-true (hasRoom image (leftIn image - 1) out && eqb (length read) (sizeOf image * 4)) _
+          and-true (hasRoom image (leftIn image - 1) out && hasWords image read) _
           (and-true (hasRoom image (leftIn image - 1) out) _ (eq-eqb _ _ room) (eq-eqb _ _ whole)) (eq-eqb (length page) 64 long),
       (λ _ _. lt-ltb controller _ bits, tt),
     ))

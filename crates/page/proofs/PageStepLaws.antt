@@ -11,19 +11,21 @@ use Rattle.words.specs.Word.{wordAt}
 use Rattle.words.proofs.Truth.{which, cond-true, cond-false}
 use Rattle.words.specs.Verdict.{isAccepted}
 use Rattle.setup.specs.Layout.{frontWords}
-use Rattle.setup.specs.Setup.{sizeIn, fadesIn, frontOf, setupOf}
+use Rattle.setup.specs.Setup.{sizeIn, fadesIn, frontIn, frontOf, setupOf}
+use Rattle.views.proofs.ViewWordLaws.{words-least}
 use Rattle.setup.specs.declared.Setup.{Setup}
 use Rattle.rules.specs.Hearing.{causesOf}
 use Rattle.rules.proofs.Causes.{codes-small}
 use Rattle.changes.specs.Books.{turned, counted, booksAfter}
 use Rattle.changes.proofs.TurnLaws.{turned-size, turned-fades}
-use Rattle.image.specs.Layout.{ownAt, beforeLeft}
-use Rattle.image.specs.Words.{viewIn}
 use Rattle.image.specs.Check.{checkImage}
 use Rattle.image.proofs.TailLaws.{ImageFits, image-pass}
 use Rattle.presence.specs.Valid.{Valid}
 use Rattle.presence.specs.Step.{booksOf, foundView, acceptedStep, afterRound, stepOf}
+use Rattle.presence.specs.Shown.{shownView}
+use Rattle.presence.specs.RoundTrip.{Shaped}
 use Rattle.presence.specs.Image.{imageOf, stateOf}
+use Rattle.presence.proofs.RoundTrip.{round-trip}
 use Rattle.calls.specs.Calls.{Called, called, refusedCall, stepCall}
 use Rattle.calls.specs.declared.Answer.{Answer}
 use Rattle.presence.specs.declared.State.{State}
@@ -36,7 +38,7 @@ use Rattle.calls.proofs.CallAnswers.{step-writes, step-passed}
 use Rattle.page.specs.Page.{pageStepped}
 use Rattle.page.specs.Calls.{pageCalled, pageStepCall}
 use Rattle.page.proofs.WithPageLaws.{with-accepted, with-refused, with-before, with-nine}
-use Rattle.page.proofs.PageCallLaws.{moved, refused-by, no-room-after, image-view, image-length}
+use Rattle.page.proofs.PageCallLaws.{moved, refused-by, no-room-after, image-size, image-form, shown-back}
 use Rattle.page.proofs.FoundLaws.{found-small}
 
 -- the causes of a read are codes
@@ -116,6 +118,9 @@ module _ (image read : List ℕ) (controller : ℕ) where
       next-valid : Valid (s .state)
       next-valid = step-valid st read controller accepted
 
+      next-shaped : Shaped (s .state)
+      next-shaped = round-trip .keeps st read controller (round-trip .read-accepted image checked .1) accepted .1
+
       pub image-room : 4 ≤ length image
       image-room = fits .front .room
 
@@ -127,40 +132,40 @@ module _ (image read : List ℕ) (controller : ℕ) where
         unfolding stateOf setupOf
         size-is = size
 
-        -- the read has N words
-        pub in-read : (n ≤ 16) × (length read ≡ n * 4)
+        -- the read has N words at least
+        pub in-read : (n ≤ 16) × (n * 4 ≤ length read)
         in-read =
             let f = fits .front .most in
-            (omega arith, step-whole st read controller accepted ∙ ap (λ (k : ℕ). k * 4) (sym size-is))
+            (omega arith, omega (arith, step-whole st read controller accepted, words-least (st .setup .partitionable) (st .setup .n), size-is))
 
         module _ {front : ℕ} {form : Bool} (fades : form ≡ fadesIn (wordAt image)) (at : front ≡ frontWords form) where
           front-is : front ≡ frontOf (st .setup)
           front-is = at ∙ ap frontWords (fades ∙ sym (read-form image))
 
-          pub in-output : (n ≤ 16) × (beforeLeft front n ≤ length b)
-          in-output =
-              (in-read .0, omega (arith, ap length wrote-image, image-length (s .state) next-valid, same-front, same-size, front-is, size-is))
+          -- the image that was written, as what is shown of it is asked for
+          pub in-output : (checkImage b .number ≡ 0) × (front ≡ frontIn (wordAt b)) × (n ≡ sizeIn (wordAt b 0))
+          in-output = (
+            shown-back (s .state) next-valid next-shaped wrote-image .0,
+            front-is ∙ sym same-front ∙ ap frontWords (sym (image-form (s .state) next-valid)) ∙ ap (λ (x : List ℕ). frontIn (wordAt x)) (sym wrote-image),
+            size-is ∙ sym same-size ∙ sym (image-size (s .state) next-valid) ∙ ap (λ (x : List ℕ). sizeIn (wordAt x 0)) (sym wrote-image),
+          )
 
           module _ {v : ℕ} (before : v ≡ foundView st) where
             pub before-small : v < 2 ^ n
             before-small =
                 subst (λ (k : ℕ). v < 2 ^ k) (sym size-is) (subst (λ (x : ℕ). x < 2 ^ st .setup .n) (sym before) (found-small st valid))
 
-            pub step-paged : (page : List ℕ) {w : ℕ} {p q : List ℕ} → length page ≡ 64 → w ≡ viewIn (wordAt b (ownAt front n)) → q ≡ causesOf n read controller
+            pub step-paged : (page : List ℕ) {w : ℕ} {p q : List ℕ} → length page ≡ 64 → w ≡ shownView (stateOf b) → q ≡ causesOf n read controller
                 → p ≡ pageStepped n v (r .health) w q page
                 → pageCalled (called r b) p ≡ pageStepCall image read controller out page
             unfolding pageStepCall
             step-paged page {w} {p} {q} l after cs h =
-                let a : w ≡ s .state .counters .view =
-                after ∙ ap (λ (x : List ℕ). viewIn (wordAt x (ownAt front n))) wrote-image
-                ∙ ap₂ (λ (i k : ℕ). viewIn (wordAt (imageOf (s .state)) (ownAt i k))) (front-is ∙ sym same-front) (size-is ∙ sym same-size)
-                ∙ image-view (s .state) next-valid
-                in
+                let a : w ≡ shownView (s .state) = after ∙ shown-back (s .state) next-valid next-shaped wrote-image .1 in
                 let k : r .health ≡ s .health = ap (λ (c : Called). c .answer .health) e ∙ step-writes image read controller out answered .1 in
                 let d : q ≡ s .causes = cs ∙ ap (λ (m : ℕ). causesOf m read controller) size-is ∙ sym causes-are in
-                let g : p ≡ pageStepped (st .setup .n) (foundView st) (s .health) (s .state .counters .view) (s .causes) page =
+                let g : p ≡ pageStepped (st .setup .n) (foundView st) (s .health) (shownView (s .state)) (s .causes) page =
                 h ∙ ap₂ (λ (x y : ℕ). pageStepped x y (r .health) w q page) size-is before
                 ∙ ap₂ (λ (x y : ℕ). pageStepped (st .setup .n) (foundView st) x y q page) k a
-                ∙ ap (λ (x : List ℕ). pageStepped (st .setup .n) (foundView st) (s .health) (s .state .counters .view) x page) d
+                ∙ ap (λ (x : List ℕ). pageStepped (st .setup .n) (foundView st) (s .health) (shownView (s .state)) x page) d
                 in
                 ap₂ pageCalled e g ∙ with-accepted _ (stepCall image read controller out) out page _ l answered

@@ -1,5 +1,5 @@
 -- What a page promises beside the equations of its calls.
-use mathlib.Core.Path.{_≡_, ap, ap₂, _∙_, sym, subst}
+use mathlib.Core.Path.{_≡_, refl, ap, ap₂, _∙_, sym, subst}
 use mathlib.Core.Logic.{_≢_, _↔_, ⊎-elim}
 use mathlib.Core.Bool.{Bool, true, false, not, _&&_, _||_}
 use mathlib.Core.List.{List}
@@ -34,7 +34,11 @@ use Rattle.image.proofs.BooksLaws.{turned-accounts}
 use Rattle.presence.specs.Valid.{Valid}
 use Rattle.presence.specs.Opening.{openOf}
 use Rattle.presence.specs.Step.{booksOf, foundView, acceptedStep, stepOf}
-use Rattle.presence.specs.Change.{changeOf}
+use Rattle.presence.specs.Change.{withPending, changeOf}
+use Rattle.presence.specs.Shown.{shownView}
+use Rattle.presence.proofs.RoundTrip.{round-trip}
+use Rattle.changes.specs.declared.Pending.{Pending}
+use Rattle.setup.proofs.SetupRoundTrip.{read-shaped}
 use Rattle.presence.specs.Image.{imageOf, stateOf}
 use Rattle.calls.specs.Calls.{openCall, stepCall}
 use Rattle.presence.specs.declared.State.{State}
@@ -42,7 +46,7 @@ use Rattle.presence.specs.declared.Stepped.{Stepped}
 use Rattle.presence.proofs.ValidLaws.{valid-fits}
 use Rattle.presence.proofs.StateChangeLaws.{change-taken, change-valid}
 use Rattle.presence.proofs.StateStepLaws.{step-accepted, step-valid, open-valid}
-use Rattle.presence.proofs.ImageState.{view-in, load-valid}
+use Rattle.presence.proofs.ImageState.{load-valid}
 use Rattle.calls.proofs.CallAnswers.{open-writes, open-passed, step-writes, step-passed, change-writes, change-passed, save-writes, save-passed}
 use Rattle.page.specs.Flags.{cleared}
 use Rattle.page.specs.Page.{isPage, pageOpened, causeAt, somebodyCharged, raised, pageStepped, pageWritten, interruptOn}
@@ -50,7 +54,7 @@ use Rattle.page.specs.Host.{writeCall}
 use Rattle.page.specs.Calls.{PageCalled, pageCalled, pageOpenCall, pageStepCall}
 use Rattle.page.specs.Refusals.{page-of-opening}
 use Rattle.page.specs.Promise.{Paged, opens, steps, changes, saves, refused-image, refused-page, writes, Unnamed, here, stepped, not-opened, written, Promise}
-use Rattle.page.proofs.PageCallLaws.{image-view, image-size, image-form}
+use Rattle.page.proofs.PageCallLaws.{shown-back}
 use Rattle.page.proofs.RaisedLaws.{raised-kept, raised-0, raised-1, raised-above, cleared-kept, cleared-bit, turns-on, on-by}
 use Rattle.page.proofs.PageWords.{opened-1, written-1, opened-cause, word-0, word-1, word-2, word-other, cause-of}
 use Rattle.page.proofs.HostLaws.{write-either, write-8, write-12, write-none}
@@ -58,13 +62,6 @@ use Rattle.page.proofs.PageStepLaws.{codes-of}
 use Rattle.page.proofs.WithPageLaws.{lent, goes-on, with-zero, with-either}
 use Rattle.page.proofs.PageRefusals.{refusals}
 use Rattle.page.proofs.ChargeLaws.{charged-grows}
-
--- the view of a state is read back from its image
-view-read : (st : State) → Valid st → stateOf (imageOf st) .counters .view ≡ st .counters .view
-unfolding stateOf
-view-read st v =
-    view-in (fadesIn (wordAt (imageOf st))) (imageOf st) (sizeIn (wordAt (imageOf st) 0))
-    ∙ ap₂ (λ (b : Bool) (k : ℕ). viewIn (wordAt (imageOf st) (ownAt (frontWords b) k))) (image-form st v) (image-size st v) ∙ image-view st v
 
 -- ---- an accepted step
 
@@ -76,7 +73,7 @@ module _ (image read : List ℕ) (controller : ℕ) (out : List ℕ) where
   s = stepOf st read controller
 
   abbrev next : List ℕ → List ℕ
-  next page = pageStepped (st .setup .n) (foundView st) (s .health) (s .state .counters .view) (s .causes) page
+  next page = pageStepped (st .setup .n) (foundView st) (s .health) (shownView (s .state)) (s .causes) page
 
   passes : stepCall image read controller out .answer .number ≡ 0 → isAccepted (checkImage image) ≡ true
   passes z = eq-eqb (checkImage image .number) 0 (step-passed image read controller out z .0)
@@ -112,16 +109,17 @@ module _ (image read : List ℕ) (controller : ℕ) (out : List ℕ) where
     health-is : after .call .answer .health ≡ s .health
     health-is = ap (λ (x : PageCalled). x .call .answer .health) made ∙ step-writes image read controller out (zero .1) .1
 
-    view-is : stateOf (after .call .out) .counters .view ≡ s .state .counters .view
+    view-is : shownView (stateOf (after .call .out)) ≡ shownView (s .state)
     view-is =
-        ap (λ (x : PageCalled). stateOf (x .call .out) .counters .view) made
-        ∙ ap (λ (x : List ℕ). stateOf x .counters .view) (step-writes image read controller out (zero .1) .0)
-        ∙ view-read (s .state) (step-valid st read controller (step-passed image read controller out (zero .1) .1))
+        let (ok, taken) = step-passed image read controller out (zero .1) in
+        let (valid, shaped) = round-trip .keeps st read controller (round-trip .read-accepted image ok .1) taken in
+        ap (λ (x : PageCalled). shownView (stateOf (x .call .out))) made
+        ∙ shown-back (s .state) valid shaped (step-writes image read controller out (zero .1) .0) .1
 
     health-word : wordAt (after .page) 0 ≡ after .call .answer .health
     health-word = ap (λ (x : List ℕ). wordAt x 0) page-is ∙ word-0 _ _ _ _ _ page long ∙ sym health-is
 
-    view-word : wordAt (after .page) 1 ≡ stateOf (after .call .out) .counters .view
+    view-word : wordAt (after .page) 1 ≡ shownView (stateOf (after .call .out))
     view-word = ap (λ (x : List ℕ). wordAt x 1) page-is ∙ word-1 _ _ _ _ _ page long ∙ sym view-is
 
     enable-stays : wordAt (after .page) 3 ≡ wordAt page 3
@@ -165,7 +163,7 @@ module _ (image read : List ℕ) (controller : ℕ) (out : List ℕ) where
         let z = hears (st .setup .n) read controller j h m in
         (λ c. z .0 (sym e ∙ c), λ c. e ∙ z .1 c)
 
-    flags-are : wordAt (after .page) 2 ≡ raised (wordAt page 2) (not (eqb (wordAt page 1) (s .state .counters .view)))
+    flags-are : wordAt (after .page) 2 ≡ raised (wordAt page 2) (not (eqb (wordAt page 1) (shownView (s .state))))
         (somebodyCharged (st .setup .n) (foundView st) (s .health))
     flags-are = ap (λ (x : List ℕ). wordAt x 2) page-is ∙ word-2 _ _ _ _ _ page long
 
@@ -174,7 +172,7 @@ module _ (image read : List ℕ) (controller : ℕ) (out : List ℕ) where
 
     -- whether the view differs from word 1, and whether somebody was charged
     abbrev moves : Bool
-    moves = not (eqb (wordAt page 1) (stateOf (after .call .out) .counters .view))
+    moves = not (eqb (wordAt page 1) (shownView (stateOf (after .call .out))))
 
     abbrev charges : Bool
     charges = somebodyCharged (st .setup .n) (foundView st) (after .call .answer .health)
@@ -194,7 +192,7 @@ module _ (image read : List ℕ) (controller : ℕ) (out : List ℕ) where
     others-are : (j : ℕ) → 2 ≤ j → j < 32 → bit (wordAt (after .page) 2) j ≡ bit (wordAt page 2) j
     others-are j h l = ap (λ (x : ℕ). bit x j) flags-by ∙ raised-above (wordAt page 2) j moves charges h l
 
-    change-set : wordAt page 1 ≢ stateOf (after .call .out) .counters .view → bit (wordAt (after .page) 2) 0 ≡ true
+    change-set : wordAt page 1 ≢ shownView (stateOf (after .call .out)) → bit (wordAt (after .page) 2) 0 ≡ true
     change-set f = change-is ∙ or-r (bit (wordAt page 2) 0) moves (ap not (ne-eqb _ _ f))
 
     charge-set : charges ≡ true → bit (wordAt (after .page) 2) 1 ≡ true
@@ -211,42 +209,48 @@ module _ (setup : List ℕ) (own : ℕ) (out page : List ℕ) (z : pageOpenCall 
 
   opens-zero : (eqb (openCall setup own out .answer .number) 0 && not (isPage page) ≡ false) × (openCall setup own out .answer .number ≡ 0)
   unfolding pageOpenCall
-  opens-zero = with-zero _ (openCall setup own out) out page (pageOpened (fresh .setup .n) (fresh .counters .view)) z
+  opens-zero = with-zero _ (openCall setup own out) out page (pageOpened (fresh .setup .n) (shownView fresh)) z
 
-  opens-made : opening ≡ pageCalled (openCall setup own out) (pageOpened (fresh .setup .n) (fresh .counters .view))
+  opens-made : opening ≡ pageCalled (openCall setup own out) (pageOpened (fresh .setup .n) (shownView fresh))
   unfolding pageOpenCall
   opens-made =
-      goes-on _ (openCall setup own out) out page (pageOpened (fresh .setup .n) (fresh .counters .view)) (opens-zero .0)
+      goes-on _ (openCall setup own out) out page (pageOpened (fresh .setup .n) (shownView fresh)) (opens-zero .0)
       ∙ ap (pageCalled (openCall setup own out)) (cond-true _ page (eq-eqb _ 0 (opens-zero .1)))
 
   same-opening : opening .call ≡ openCall setup own out
   same-opening = ap (λ (x : PageCalled). x .call) opens-made
 
-  opened-view : wordAt (opening .page) 1 ≡ stateOf (opening .call .out) .counters .view
+  opened-view : wordAt (opening .page) 1 ≡ shownView (stateOf (opening .call .out))
   opened-view =
-      ap (λ (x : PageCalled). wordAt (x .page) 1) opens-made ∙ opened-1 (fresh .setup .n) (fresh .counters .view)
-      ∙ sym (ap (λ (x : PageCalled). stateOf (x .call .out) .counters .view) opens-made
-      ∙ ap (λ (x : List ℕ). stateOf x .counters .view) (open-writes setup own out (opens-zero .1))
-      ∙ view-read fresh (open-valid (setupOf setup) own (open-passed setup own out (opens-zero .1) .1)))
+      let (ok, taken) = open-passed setup own out (opens-zero .1) in
+      let (valid, shaped) = round-trip .opens (setupOf setup) own (read-shaped setup ok) taken in
+      ap (λ (x : PageCalled). wordAt (x .page) 1) opens-made ∙ opened-1 (fresh .setup .n) (shownView fresh)
+      ∙ sym (ap (λ (x : PageCalled). shownView (stateOf (x .call .out))) opens-made
+      ∙ shown-back fresh valid shaped (open-writes setup own out (opens-zero .1)) .1)
 
-shows : (image page : List ℕ) → Paged image page → wordAt page 1 ≡ stateOf image .counters .view
+-- a pending change shows nothing
+pending-shown : (st : State) (c : Pending) → shownView (withPending st c) ≡ shownView st
+unfolding shownView
+pending-shown st c = refl
+
+shows : (image page : List ℕ) → Paged image page → wordAt page 1 ≡ shownView (stateOf image)
 unfolding pageStepCall
 shows _ _ (opens setup own out page z) = opened-view setup own out page z
 shows _ _ (steps {image} {page} p read controller out z) = view-word image read controller out page z
 shows _ page (changes {image} p new lead out z) =
     let (v, w, n) = change-passed image new lead out z in
     shows image page p
-    ∙ sym (ap (λ (x : List ℕ). stateOf x .counters .view) (change-writes image new lead out z)
-    ∙ view-read (changeOf (stateOf image) (setupOf new) lead .state) (change-valid (stateOf image) (setupOf new) lead n)
-    ∙ ap (λ (x : State). x .counters .view) (change-taken (stateOf image) (setupOf new) lead n .state))
+    ∙ sym (shown-back (changeOf (stateOf image) (setupOf new) lead .state) (round-trip .changes (stateOf image) (setupOf new) lead (round-trip .read-accepted image v .1) (read-shaped new w) n .0)
+    (round-trip .changes (stateOf image) (setupOf new) lead (round-trip .read-accepted image v .1) (read-shaped new w) n .1) (change-writes image new lead out z) .1
+    ∙ ap shownView (change-taken (stateOf image) (setupOf new) lead n .state) ∙ pending-shown (stateOf image) _)
 shows _ page (saves {image} p out z) =
     shows image page p
-    ∙ sym (ap (λ (x : List ℕ). stateOf x .counters .view) (save-writes image out z) ∙ view-read (stateOf image) (load-valid image (save-passed image out z)))
+    ∙ sym (shown-back (stateOf image) (round-trip .read-accepted image (save-passed image out z) .0) (round-trip .read-accepted image (save-passed image out z) .1) (save-writes image out z) .1)
 shows _ page (refused-image {image} p r) =
-    shows image page p ∙ ap (λ (x : List ℕ). stateOf x .counters .view) (sym (refusals .unaltered image _ r))
+    shows image page p ∙ ap (λ (x : List ℕ). shownView (stateOf x)) (sym (refusals .unaltered image _ r))
 shows image _ (refused-page {page = page} p r) = ap (λ (x : List ℕ). wordAt x 1) (refusals .unaltered page _ r) ∙ shows image page p
 shows image _ (writes {page = page} p offset value) =
-    write-either page offset value (λ x. wordAt x 1 ≡ stateOf image .counters .view) (shows image page p)
+    write-either page offset value (λ x. wordAt x 1 ≡ shownView (stateOf image)) (shows image page p)
     (λ l. written-1 offset value page l ∙ shows image page p)
 
 -- ---- a flag is lost only by a write that names it

@@ -1,4 +1,4 @@
--- Opening and step with a page: what `presence` promises of the same calls without one, and the page beside it. (document 02, E1, E5 and E10)
+-- Opening and step with a page: what `presence` promises of the same calls without one, and the page beside it. (document 02, E1, E5, E10 and E11)
 use Prim.Native.Nat.{ℕ}
 use mathlib.Core.Bool.{Bool, cond, not, _&&_}
 use mathlib.Core.List.{List}
@@ -8,6 +8,7 @@ use Rattle.setup.specs.Setup.{setupOf}
 use Rattle.image.specs.Check.{checkImage}
 use Rattle.presence.specs.Opening.{openOf}
 use Rattle.presence.specs.Step.{foundView, stepOf}
+use Rattle.presence.specs.Shown.{shownView}
 use Rattle.presence.specs.Image.{stateOf}
 use Rattle.calls.specs.Calls.{Called, refusedCall, openCall, stepCall}
 use Rattle.page.specs.Page.{isPage, pageOpened, pageStepped}
@@ -33,14 +34,14 @@ unfoldable pub pageOpenCall : List ℕ → ℕ → List ℕ → List ℕ → Pag
 pageOpenCall setup own out page =
     let c = openCall setup own out in
     let st = openOf (setupOf setup) own .state in
-    withPage (eqb (c .answer .number) 0) c out page (pageOpened (st .setup .n) (st .counters .view))
+    withPage (eqb (c .answer .number) 0) c out page (pageOpened (st .setup .n) (shownView st))
 
--- step: 1 to 8, 9 for the output, the read or the page, 10; charged are modules that rule 8 finds in the view, after a change that is due has taken
--- effect
+-- step: 1 to 8, 9 for the output, the read or the page, 10; charged are modules that rule 8 finds in the local view, after a change that is due has
+-- taken effect; what is shown, and whether it changed, goes by the adopted view where the setup is partitionable
 unfoldable pub pageStepCall : List ℕ → List ℕ → ℕ → List ℕ → List ℕ → PageCalled
 pageStepCall image read controller out page =
     let c = stepCall image read controller out in
     let st = stateOf image in
     let s = stepOf st read controller in
     withPage (isAccepted (checkImage image)) c out page
-    (pageStepped (st .setup .n) (foundView st) (s .health) (s .state .counters .view) (s .causes) page)
+    (pageStepped (st .setup .n) (foundView st) (s .health) (shownView (s .state)) (s .causes) page)

@@ -8,6 +8,7 @@ use lib.Dec.{eqb}
 use lib.ListN.{getD, replicate}
 use Rattle.words.specs.Word.{bytesOf}
 use Rattle.rules.specs.Hearing.{busWord}
+use Rattle.views.specs.ViewWord.{viewWord}
 use Rattle.image.specs.Layout.{imageLength}
 use Rattle.calls.specs.Calls.{changeCall, causeCall}
 use Rattle.calls.specs.declared.Answer.{Answer}
@@ -81,7 +82,11 @@ setup =
 
 -- an output for its image, 27 words
 abbrev pub out : List ℕ
-out = replicate (imageLength 3 4 0) 0
+out = replicate (imageLength 3 4 0 false) 0
+
+-- the same of a partitionable setup, 35 words
+abbrev pub partedOut : List ℕ
+partedOut = replicate (imageLength 3 4 0 true) 0
 
 -- a page before its opening, of any bytes
 abbrev pub lent : List ℕ
@@ -189,7 +194,7 @@ fiveSetup =
 
 -- an output for its image
 abbrev pub fiveOut : List ℕ
-fiveOut = replicate (imageLength 3 5 0) 0
+fiveOut = replicate (imageLength 3 5 0 false) 0
 
 -- opened as module 2
 abbrev pub fiveOpened : PageCalled
@@ -256,7 +261,7 @@ twice head = step (step (wideOpened head) 13 (page 15 15 0 0)) 13 (page 13 15 0 
 
 -- an output for an image with a pending change, 33 words
 abbrev pub longOut : List ℕ
-longOut = replicate (imageLength 3 4 1) 0
+longOut = replicate (imageLength 3 4 1 false) 0
 
 abbrev pub changed : ℕ → ℕ → List ℕ
 changed head lead = changeCall (twice head .call .out) (setupWith head 0x2000_0001) lead longOut .out
@@ -276,9 +281,32 @@ changeCases =
     ++ (refuses (pageStepCall (changed 0x1000_0004 1) (rows 13) 15 longOut (page 13 15 0 0)) 9 (page 13 15 0 0)
     ++ refuses (pageStepCall (changed 0x1000_0004 2) (rows 13) 15 out (page 13 15 0 0)) 9 (page 13 15 0 0)))))))
 
+-- ---- a partitionable setup: word 1 and flag 0 go by the adopted view, flag 1 by the local one (document 02, E11)
+
+-- the same module with head bit 5
+abbrev pub parted : PageCalled
+parted = pageOpenCall (setupWith 0x1000_0024 0x2000_0001) 1 partedOut lent
+
+-- a step in which all four are heard with this row, and with this view word
+abbrev pub seeing : PageCalled → ℕ → ℕ → List ℕ → PageCalled
+seeing c row view p = pageStepCall (c .call .out) (rows row ++ bytesOf 4 (λ j. viewWord view)) 15 partedOut p
+
+abbrev pub shownCases : List Case
+shownCases =
+    accepts parted 0 (page 15 15 0 0)
+    -- the others' view without module 4 is adopted: shown, with flag 0, while the local view stays full and nobody is charged
+    ++ (accepts (seeing parted 15 7 (page 15 15 0 0)) 15 (page 15 7 1 0)
+    -- a charge by the local view, of module 4 that the adopted view does not have: flag 1, and no flag 0
+    ++ (accepts (seeing (seeing parted 15 7 (page 15 15 0 0)) 7 7 (page 15 7 0 0)) 7 (page 7 7 2 0)
+    -- module 2 leaves the local view, and is shown as long as the adopted view has it
+    ++ (accepts (seeing (seeing parted 13 15 (page 15 15 0 0)) 13 15 (page 13 15 0 0)) 13 (page 13 15 2 0)
+    -- the causes go by the syndromes alone: a read whose view words are all of another kind has none, and the module is out
+    ++ accepts (pageStepCall (parted .call .out) (rows 15 ++ rows 15) 15 partedOut (page 15 15 0 0)) 15 (page 15 15 0 0))))
+
 -- the whole table
 abbrev pub cases : List Case
-cases = openCases ++ (stepCases ++ (writeCases ++ (interruptCases ++ (checkCases ++ (causeCases ++ (oneWordCases ++ changeCases))))))
+cases =
+    openCases ++ (stepCases ++ (writeCases ++ (interruptCases ++ (checkCases ++ (causeCases ++ (oneWordCases ++ (changeCases ++ shownCases)))))))
 
 -- what is claimed: every line is right
 abbrev pub CasesRight : Type 0

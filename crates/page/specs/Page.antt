@@ -1,5 +1,5 @@
--- The register page: 16 words, 0 health, 1 view, 2 flags (bit 0 view changed, bit 1 somebody charged), 3 enable, 4 to 7 the causes of the last
--- read, the rest 0. (document 02, E1 and E5)
+-- The register page: 16 words, 0 health, 1 the view that is shown, 2 flags (bit 0 view changed, bit 1 somebody charged), 3 enable, 4 to 7 the causes of the last
+-- read, the rest 0. (document 02, E1, E5 and E11)
 use Prim.Native.Nat.{ℕ, _+_, _-_, _*_, _/_, _%_, _^_}
 use mathlib.Core.Bool.{Bool, cond, not, _&&_}
 use mathlib.Core.List.{List}
@@ -48,7 +48,7 @@ putCauses causes page =
 unfoldable pub causeAt : List ℕ → ℕ → ℕ
 causeAt page j = wordAt page (4 + j / 4) / 2 ^ (24 - 8 * (j % 4)) % 2 ^ 8
 
--- ---- a step of n modules, by the view that rule 8 found, the health vector, the view after it and the causes of its read
+-- ---- a step of n modules, by the local view that rule 8 found, the health vector, the view shown after it and the causes of its read
 
 -- a module that rule 8 found in the view had health 0
 unfoldable pub somebodyCharged : ℕ → ℕ → ℕ → Bool

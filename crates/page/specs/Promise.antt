@@ -1,4 +1,4 @@
--- What a page promises beside the equations of its calls. Proved in proofs/Promise.antt. (document 02, E1, E5 and E10)
+-- What a page promises beside the equations of its calls. Proved in proofs/Promise.antt. (document 02, E1, E5, E10 and E11)
 use Prim.Native.Nat.{ℕ, _≤_, _<_}
 use mathlib.Core.Path.{_≡_}
 use mathlib.Core.Logic.{_≢_, _↔_}
@@ -17,6 +17,7 @@ use Rattle.image.specs.Check.{checkImage}
 use Rattle.changes.specs.Books.{turned}
 use Rattle.changes.specs.declared.Books.{Books}
 use Rattle.presence.specs.Step.{booksOf, foundView}
+use Rattle.presence.specs.Shown.{shownView}
 use Rattle.presence.specs.Image.{stateOf}
 use Rattle.calls.specs.Calls.{openCall, stepCall, changeCall, saveCall}
 use Rattle.page.specs.Page.{causeAt, somebodyCharged, interruptOn}
@@ -57,13 +58,14 @@ pub record Promise : Type 0 where
       → pageOpenCall setup own out page .call ≡ openCall setup own out
   pub same-step : (image read : List ℕ) (controller : ℕ) (out page : List ℕ) → pageStepCall image read controller out page .call .answer .number ≡ 0
       → pageStepCall image read controller out page .call ≡ stepCall image read controller out
-  -- Words 0 and 1 are the health vector that an accepted step answers and the view in the image that it leaves.
+  -- Words 0 and 1 are the health vector that an accepted step answers and the view that is shown of the image that it leaves: the adopted one where
+  -- the setup is partitionable, else the local one.
   pub health : (image read : List ℕ) (controller : ℕ) (out page : List ℕ) → pageStepCall image read controller out page .call .answer .number ≡ 0
       → wordAt (pageStepCall image read controller out page .page) 0 ≡ pageStepCall image read controller out page .call .answer .health
   pub view : (image read : List ℕ) (controller : ℕ) (out page : List ℕ) → pageStepCall image read controller out page .call .answer .number ≡ 0
-      → wordAt (pageStepCall image read controller out page .page) 1 ≡ stateOf (pageStepCall image read controller out page .call .out) .counters .view
-  -- So a page that goes along with its module shows its view at all times; word 1 before a step is the view before it.
-  pub shown : (image page : List ℕ) → Paged image page → wordAt page 1 ≡ stateOf image .counters .view
+      → wordAt (pageStepCall image read controller out page .page) 1 ≡ shownView (stateOf (pageStepCall image read controller out page .call .out))
+  -- So a page that goes along with its module shows that view at all times; word 1 before a step is the one before it.
+  pub shown : (image page : List ℕ) → Paged image page → wordAt page 1 ≡ shownView (stateOf image)
   -- Somebody was charged exactly if rule 8 made a penalty grow, where account is kept by counts: from the accounts that it found, after a change that
   -- is due has taken effect, by the limits that then hold.
   pub grew : (image : List ℕ) (p r health : ℕ) → checkImage image .number ≡ 0
@@ -76,7 +78,7 @@ pub record Promise : Type 0 where
   -- stays set, and the other bits of word 2 stay as they were.
   pub change-flag : (image read : List ℕ) (controller : ℕ) (out page : List ℕ) → pageStepCall image read controller out page .call .answer .number ≡ 0
       → bit (wordAt (pageStepCall image read controller out page .page) 2) 0
-      ≡ bit (wordAt page 2) 0 || not (eqb (wordAt page 1) (stateOf (pageStepCall image read controller out page .call .out) .counters .view))
+      ≡ bit (wordAt page 2) 0 || not (eqb (wordAt page 1) (shownView (stateOf (pageStepCall image read controller out page .call .out))))
   pub charge-flag : (image read : List ℕ) (controller : ℕ) (out page : List ℕ) → pageStepCall image read controller out page .call .answer .number ≡ 0
       → bit (wordAt (pageStepCall image read controller out page .page) 2) 1
       ≡ bit (wordAt page 2) 1
@@ -120,7 +122,7 @@ pub record Promise : Type 0 where
       → interruptOn now ≡ true
   -- So a view that changes, or a charge, turns it on at once where its flag is enabled: a step leaves enable as it is.
   pub changed : (image read : List ℕ) (controller : ℕ) (out page : List ℕ) → pageStepCall image read controller out page .call .answer .number ≡ 0
-      → wordAt page 1 ≢ stateOf (pageStepCall image read controller out page .call .out) .counters .view → bit (wordAt page 3) 0 ≡ true
+      → wordAt page 1 ≢ shownView (stateOf (pageStepCall image read controller out page .call .out)) → bit (wordAt page 3) 0 ≡ true
       → interruptOn (pageStepCall image read controller out page .page) ≡ true
   pub charged : (image read : List ℕ) (controller : ℕ) (out page : List ℕ) → pageStepCall image read controller out page .call .answer .number ≡ 0
       → somebodyCharged (stateOf image .setup .n) (foundView (stateOf image)) (pageStepCall image read controller out page .call .answer .health) ≡ true

@@ -17,9 +17,10 @@ use Rattle.rules.specs.Hearing.{readingOf, causesOf}
 use Rattle.image.specs.Check.{leftIn, checkImage}
 use Rattle.presence.specs.Opening.{fresh}
 use Rattle.presence.specs.Step.{judgementFor, foundView, afterRound}
+use Rattle.presence.specs.Shown.{shownView}
 use Rattle.presence.specs.Image.{stateOf}
 use Rattle.calls.specs.Calls.{refusedCall, wrote, openCall, stepCall, changeCall, saveCall}
-use Rattle.calls.specs.Refusals.{sizeOf, hasRoom}
+use Rattle.calls.specs.Refusals.{sizeOf, hasRoom, hasWords, seenIn}
 use Rattle.presence.specs.declared.State.{State}
 use Rattle.page.specs.Page.{isPage, pageOpened, pageStepped}
 use Rattle.page.specs.Host.{writeCall}
@@ -38,7 +39,7 @@ unfoldable pub pageStepVerdict : List ℕ → List ℕ → ℕ → List ℕ → 
 pageStepVerdict image read controller out page =
     andThen (checkImage image)
     (firstRefusal
-    (single (hasRoom image (leftIn image - 1) out && eqb (length read) (sizeOf image * 4) && isPage page) 9 0
+    (single (hasRoom image (leftIn image - 1) out && hasWords image read && isPage page) 9 0
     ∷ single (ltb controller (2 ^ sizeOf image)) 10 0
     ∷ []))
 
@@ -78,8 +79,8 @@ pub record PageRefusals : Type 0 where
       → let st = stateOf image in
       let this = readingOf (sizeOf image) read controller in
       pageStepCall image read controller out page
-      ≡ pageAnswering (pageStepVerdict image read controller out page) (judgementFor st this .health) (afterRound st this) out
-      (pageStepped (sizeOf image) (foundView st) (judgementFor st this .health) (afterRound st this .counters .view)
+      ≡ pageAnswering (pageStepVerdict image read controller out page) (judgementFor st this .health) (afterRound st this (seenIn image read controller)) out
+      (pageStepped (sizeOf image) (foundView st) (judgementFor st this .health) (shownView (afterRound st this (seenIn image read controller)))
       (causesOf (sizeOf image) read controller) page) page
   -- nothing lent is altered by a refusal
   pub unaltered : (before after : List ℕ) → Refused before after → after ≡ before

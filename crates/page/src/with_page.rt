@@ -6,6 +6,7 @@ use calls::calls::presence_open;
 use calls::calls::presence_step;
 use image::left_at;
 use image::view_in;
+use image::views_at;
 use setup::bounds::fades_at;
 use setup::bounds::front_words;
 use setup::check::size_at;
@@ -23,6 +24,7 @@ ghost use Rattle.setup.specs.Setup.{sizeIn, frontIn};
 ghost use Rattle.image.specs.Layout.{leftAt};
 ghost use Rattle.image.specs.Check.{checkImage};
 ghost use Rattle.presence.specs.Step.{foundView};
+ghost use Rattle.presence.specs.Shown.{shownView};
 ghost use Rattle.presence.specs.Image.{stateOf};
 ghost use Rattle.calls.specs.Calls.{called};
 ghost use Rattle.page.specs.Turned.{turnedIn};
@@ -49,9 +51,21 @@ pub extern "C" fn presence_page_open(
         return answer;
     }
     let n = size_at(bytes);
-    let view = view_in(out, front_words(fades_at(bytes)), n);
+    let view = shown_in(out, front_words(fades_at(bytes)), n);
     open_page(n, view, page);
     answer
+}
+
+// The view that is shown of an image: the adopted one where its setup is partitionable, else the local one.
+fn shown_in(image: &[u8], front: usize, n: usize) -> u32
+    requires { ⌜ (checkImage (now image) .number ≡ 0) × (front ≡ frontIn (wordAt (now image))) × (n ≡ sizeIn (wordAt (now image) 0)) ⌝ }
+    ensures { λ r. ⌜ r ≡ shownView (stateOf (now (image .entry))) ⌝ }
+{
+    if bit_at(word_at(image, 0), 5) {
+        let left = word_at(image, left_at(front, n));
+        return word_at(image, views_at(front, n, left) + n + 2);
+    }
+    view_in(image, front, n)
 }
 
 // The view after a change that is due, of an image that counts: a module in the view stays where the new R clears its penalty, or where its penalty is
@@ -107,7 +121,7 @@ pub extern "C" fn presence_page_step(
     let n = size_at(image);
     let front = front_words(fades_at(image));
     let before = found_view(image, front, n);
-    let after = view_in(out, front, n);
+    let after = shown_in(out, front, n);
     let causes = rules::hearing::causes(n, read, controller);
     step_page(n, before, answer.health, after, causes, page);
     answer

@@ -7,11 +7,12 @@ use native.Mathlib.Omega.{arith}
 use Rattle.words.specs.Word.{wordAt}
 use Rattle.words.proofs.BitLaws.{pack-lt}
 use Rattle.words.proofs.ArrayLaws.{array-clear}
-use Rattle.setup.specs.Setup.{sizeIn, fadesIn, frontIn, setupOf}
+use Rattle.setup.specs.Setup.{sizeIn, partitionableIn, fadesIn, frontIn, setupOf}
 use Rattle.setup.proofs.FrontLaws.{setup-fits}
 use Rattle.setup.specs.Layout.{frontWords}
 use Rattle.changes.proofs.ChangeWords.{read-pending}
-use Rattle.image.specs.Layout.{ownAt, latestAt, earlierAt, leftAt}
+use Rattle.views.proofs.ViewWords.{read-views-fit}
+use Rattle.image.specs.Layout.{ownAt, latestAt, earlierAt, leftAt, viewsAt}
 use Rattle.image.specs.Words.{viewIn}
 use Rattle.image.specs.Rows.{readingIn}
 use Rattle.image.specs.Counters.{countersIn}
@@ -52,6 +53,7 @@ module _ (s : List ℕ) (f : ImageFits s) where
         heard = pack-lt size _;
         no-rows = array-clear size _;
         pending = read-pending s (leftAt front size) (f .words) small (f .tail .change) (setup-fits s (f .front) (f .words) (omega (arith, f .size)));
+        views = read-views-fit (partitionableIn (wordAt s 0)) s (viewsAt front size (wordAt s (leftAt front size))) size _ small (f .tail .views);
       }
 
 -- every accepted image gives a valid state

@@ -11,7 +11,9 @@ use Rattle.words.proofs.VerdictLaws.{and-then-pass, single-pass}
 use Rattle.setup.specs.Limits.{fades}
 use Rattle.setup.specs.Check.{setupVerdict}
 use Rattle.setup.proofs.SetupLaws.{verdict-fits}
+use Rattle.changes.specs.Pending.{pendingRoomy}
 use Rattle.changes.proofs.PendingLaws.{PendingSmall, roomy-pending, pending-roomy}
+use Rattle.views.proofs.ViewsLaws.{ViewsSmall, roomy-views, views-roomy}
 use Rattle.image.specs.Rows.{rowsRoomy}
 use Rattle.image.specs.Counters.{countersRoomy}
 use Rattle.image.specs.Check.{checkTail}
@@ -30,6 +32,7 @@ pub record Small (st : State) : Type 0 where
   pub rows : RowsSmall (st .setup .n) (st .previous)
   pub counters : AccountsSmall (fades (st .setup .limits)) (st .setup .n) (st .counters)
   pub pending : PendingSmall (st .setup .n) (st .pending)
+  pub views : ViewsSmall (st .setup .partitionable) (st .setup .n) (st .views)
 
 pub roomy-small : (st : State) → st .setup .n ≤ 16 → roomy st ≡ true → Small st
 unfolding roomy
@@ -40,6 +43,7 @@ roomy-small st l e =
     let a = and-l (leb (st .own) 16 && ltb (st .counters .view) (2 ^ 16)) _ alone in
     let b = and-r (leb (st .own) 16 && ltb (st .counters .view) (2 ^ 16)) _ alone in
     let counted = and-r (rowsRoomy n (st .previous)) _ parts in
+    let held = and-r (countersRoomy (fades (st .setup .limits)) n (st .counters)) _ counted in
     record {
       size = l;
       own = leb-true (st .own) 16 (and-l (leb (st .own) 16) _ a);
@@ -48,7 +52,8 @@ roomy-small st l e =
       earlier = ltb-true (st .earlier) (2 ^ 16) (and-r (ltb (st .latest) (2 ^ 16)) _ b);
       rows = roomy-rows n (st .previous) l (and-l (rowsRoomy n (st .previous)) _ parts);
       counters = roomy-accounts (fades (st .setup .limits)) n (st .counters) l (and-l (countersRoomy (fades (st .setup .limits)) n (st .counters)) _ counted);
-      pending = roomy-pending n (st .pending) l (and-r (countersRoomy (fades (st .setup .limits)) n (st .counters)) _ counted);
+      pending = roomy-pending n (st .pending) l (and-l (pendingRoomy n (st .pending)) _ held);
+      views = roomy-views n (st .views) (st .setup .partitionable) l (and-r (pendingRoomy n (st .pending)) _ held);
     }
 
 pub small-roomy : (st : State) → Small st → roomy st ≡ true
@@ -58,7 +63,8 @@ small-roomy st m =
     (and-true _ _ (and-true _ _ (le-leb (st .own) 16 (m .own)) (lt-ltb (st .counters .view) (2 ^ 16) (m .view)))
     (and-true _ _ (lt-ltb (st .latest) (2 ^ 16) (m .latest)) (lt-ltb (st .earlier) (2 ^ 16) (m .earlier))))
     (and-true _ _ (rows-roomy (st .setup .n) (st .previous) (m .rows))
-    (and-true _ _ (accounts-roomy (fades (st .setup .limits)) (st .setup .n) (st .counters) (m .counters)) (pending-roomy (st .setup .n) (st .pending) (m .pending))))
+    (and-true _ _ (accounts-roomy (fades (st .setup .limits)) (st .setup .n) (st .counters) (m .counters))
+    (and-true _ _ (pending-roomy (st .setup .n) (st .pending) (m .pending)) (views-roomy (st .setup .n) (st .views) (st .setup .partitionable) (m .views)))))
 
 -- what a valid state is: an accepted setup, room for every field, and words that pass
 pub valid-setup : (st : State) → Valid st → setupVerdict (st .setup) .number ≡ 0

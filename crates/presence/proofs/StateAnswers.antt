@@ -16,6 +16,7 @@ use Rattle.setup.specs.Layout.{frontWords}
 use Rattle.setup.specs.Limits.{fades}
 use Rattle.setup.specs.Check.{setupVerdict}
 use Rattle.changes.proofs.SectionTests.{new-most}
+use Rattle.views.proofs.ViewWords.{views-most}
 use Rattle.image.specs.Layout.{imageLength}
 use Rattle.image.specs.Check.{checkTail, checkImage}
 use Rattle.image.proofs.TailLaws.{image-zero}
@@ -43,13 +44,14 @@ load-accepted s h t =
 
 -- ---- the length of an image, as it is found from the limits
 
-pub length-by : {b : Bool} {front k : ℕ} (st : State) → b ≡ fades (st .setup .limits) → front ≡ frontWords b → k ≡ imageLength front (st .setup .n) (st .pending .left)
+pub length-by : {b : Bool} {front k : ℕ} (st : State) → b ≡ fades (st .setup .limits) → front ≡ frontWords b
+    → k ≡ imageLength front (st .setup .n) (st .pending .left) (st .setup .partitionable)
     → k ≡ stateLength st (st .pending .left)
-length-by st f e l = l ∙ ap (λ (x : ℕ). imageLength x (st .setup .n) (st .pending .left)) (e ∙ ap frontWords f)
+length-by st f e l = l ∙ ap (λ (x : ℕ). imageLength x (st .setup .n) (st .pending .left) (st .setup .partitionable)) (e ∙ ap frontWords f)
 
--- no image is longer than 432 bytes
-pub length-most : (front n left : ℕ) → front ≤ 6 → n ≤ 16 → imageLength front n left ≤ 432
-length-most front n left h l = omega (arith, new-most n left)
+-- no image is longer than 512 bytes
+pub length-most : (front n left : ℕ) (t : Bool) → front ≤ 6 → n ≤ 16 → imageLength front n left t ≤ 512
+length-most front n left t h l = omega (arith, new-most n left, views-most t n)
 
 -- ---- v is the answer for the setup of a struct
 

@@ -10,13 +10,15 @@ use lib.Dec.{leb, ltb}
 use borrow.Author.Tests.{eq-eqb, ne-eqb, lt-ltb, le-ltb, lt-leb, ltb-true, ltb-false}
 use Rattle.words.specs.Bits.{full}
 use Rattle.words.specs.Array.{array}
-use Rattle.words.proofs.Truth.{cond-true, cond-false, and-false-l, and-false-r, or-cases, or-false-l, or-false-r}
+use Rattle.words.proofs.BitLaws.{pack-lt}
+use Rattle.words.proofs.Truth.{cond-true, cond-false, cond-both, and-false-l, and-false-r, or-cases, or-false-l, or-false-r}
 use Rattle.words.specs.Verdict.{verdict, accepted, isAccepted, between}
 use Rattle.setup.specs.Check.{setupVerdict}
 use Rattle.words.specs.declared.Verdict.{Verdict}
 use Rattle.setup.specs.declared.Setup.{Setup}
 use Rattle.words.proofs.VerdictLaws.{between-of, and-then-stops, and-then-goes, single-ok, single-refused}
 use Rattle.rules.specs.Hearing.{readingOf, causesOf}
+use Rattle.rules.proofs.ReceptionLaws.{below-kind}
 use Rattle.rules.specs.Alignment.{alignedOf}
 use Rattle.rules.specs.Syndrome.{judgementOf}
 use Rattle.accounts.specs.Round.{accountAt, countersOf}
@@ -30,16 +32,20 @@ use Rattle.changes.specs.Books.{turned, counted, booksAfter}
 use Rattle.changes.specs.declared.Books.{Books}
 use Rattle.changes.specs.declared.Pending.{Pending}
 use Rattle.changes.proofs.TurnLaws.{turned-setup-fits}
+use Rattle.views.specs.ViewWord.{viewWord}
+use Rattle.views.specs.Views.{noViews, freshViews, viewsAfter}
+use Rattle.views.proofs.ViewWordLaws.{split-aligned}
+use Rattle.views.specs.declared.Views.{Views}
 use Rattle.image.specs.Counters.{zeroCounters}
 use Rattle.image.proofs.CounterLaws.{within-kept, within-waits}
 use Rattle.image.proofs.BooksLaws.{turned-accounts}
 use Rattle.presence.specs.Valid.{stateVerdict, Valid}
 use Rattle.presence.specs.Opening.{fresh, blank, checkOpening, openOf}
-use Rattle.presence.specs.Step.{skewOf, placeOf, ownSyndrome, alignedFor, judgementFor, outgoingFor, booksOf, afterRound, refusedStep, acceptedStep, readStep, stepOf}
+use Rattle.presence.specs.Step.{skewOf, placeOf, markOf, ownSyndrome, alignedFor, judgementFor, outgoingFor, booksOf, votedViews, viewsFor, outgoingView, readLength, seenBy, afterRound, refusedStep, acceptedStep, readStep, stepOf}
 use Rattle.presence.specs.declared.State.{State}
 use Rattle.presence.specs.declared.Opened.{Opened}
 use Rattle.presence.specs.declared.Stepped.{Stepped}
-use Rattle.presence.proofs.ValidLaws.{StateFits}
+use Rattle.presence.proofs.ValidLaws.{StateFits, valid-fits}
 
 -- ---- rules 1 and 3 to 6
 
@@ -64,16 +70,17 @@ place-small st f e =
 
 -- ---- rule 8
 
-pub after-made : (st : State) (this : Reading) {j : Judgement} {c : Counters} {b : Books} → j ≡ judgementFor st this → b ≡ turned (booksOf st)
-    → c ≡ countersOf (b .setup) (j .health) (b .counters)
+pub after-made : (st : State) (this : Reading) (seen : List ℕ) {j : Judgement} {c : Counters} {b : Books} {v : Views} → j ≡ judgementFor st this
+    → b ≡ turned (booksOf st) → c ≡ countersOf (b .setup) (j .health) (b .counters) → v ≡ viewsFor st seen
     → _≡_ {A = State}
-    (record { setup = b .setup; own = st .own; counters = c; previous = this; latest = j .syndrome; earlier = st .latest; pending = b .pending }) (afterRound st this)
+    (record { setup = b .setup; own = st .own; counters = c; previous = this; latest = j .syndrome; earlier = st .latest; pending = b .pending; views = v }) (afterRound st this seen)
 unfolding afterRound booksAfter counted
-after-made st this {j} {c} {b} e f h =
+after-made st this seen {j} {c} {b} e f h g =
     let made : Books → Judgement → Counters → State =
-    λ x k d. record { setup = x .setup; own = st .own; counters = d; previous = this; latest = k .syndrome; earlier = st .latest; pending = x .pending }
+    λ x k d. record { setup = x .setup; own = st .own; counters = d; previous = this; latest = k .syndrome; earlier = st .latest; pending = x .pending; views = viewsFor st seen }
     in
-    ap₂ (made b) e (h ∙ ap (λ (k : Judgement). countersOf (b .setup) (k .health) (b .counters)) e)
+    (λ i. record { setup = b .setup; own = st .own; counters = c; previous = this; latest = j .syndrome; earlier = st .latest; pending = b .pending; views = g i })
+    ∙ ap₂ (made b) e (h ∙ ap (λ (k : Judgement). countersOf (b .setup) (k .health) (b .counters)) e)
     ∙ ap (λ (x : Books). made x (judgementFor st this) (countersOf (x .setup) (judgementFor st this .health) (x .counters))) f
 
 -- the accounts of a valid state are small enough to add to, after a change that is due has taken effect
@@ -98,36 +105,78 @@ books-range st f e =
     × ((j : ℕ) → j < b .setup .n → AccountRange (b .setup .limits) (b .setup .q) (getD (b .setup .criticality) j 0) (accountAt (b .counters) j)))
     (sym e) (turned-setup-fits (booksOf st) (f .pending) (f .setup) .most, in-range st f)
 
+-- ---- the views
+
+pub views-none : (st : State) (seen : List ℕ) {v : Views} → v ≡ noViews → st .setup .partitionable ≡ false → v ≡ viewsFor st seen
+unfolding viewsFor
+views-none st seen e f = e ∙ sym (cond-false _ _ f)
+
+pub views-made : (st : State) (seen : List ℕ) {v : Views} {skew : Bool} {place split : ℕ} → skew ≡ skewOf st → place ≡ placeOf st → split ≡ cond skew place 0
+    → v ≡ viewsAfter (st .setup .n) (st .views) (array (st .setup .n) (λ j. cond (ltb j split) (getD (st .views .words) j 0) (getD seen j 0))) seen (st .counters .view)
+    → st .setup .partitionable ≡ true → v ≡ viewsFor st seen
+unfolding viewsFor votedViews
+views-made st seen {v} {skew} {place} s p e h t =
+    let k = e ∙ ap₂ (λ (b : Bool) (x : ℕ). cond b x 0) s p in
+    h
+    ∙ ap (λ (x : List ℕ). viewsAfter (st .setup .n) (st .views) x seen (st .counters .view)) (split-aligned (st .setup .n) (st .views .words) seen (skewOf st) (placeOf st) k)
+    ∙ sym (cond-true _ _ t)
+
+pub handed-none : (st : State) (view : ℕ) → st .setup .partitionable ≡ false → 0 ≡ outgoingView st view
+unfolding outgoingView
+handed-none st view f = sym (cond-false _ _ f)
+
+pub handed-made : (st : State) (view : ℕ) {r v : ℕ} {mark : Bool} → mark ≡ markOf st → v ≡ cond mark (st .counters .view) view → r ≡ viewWord v
+    → st .setup .partitionable ≡ true → r ≡ outgoingView st view
+unfolding outgoingView
+handed-made st view m h e t =
+    e ∙ ap viewWord (h ∙ ap (λ (b : Bool). cond b (st .counters .view) view) m) ∙ sym (cond-true _ _ t)
+
+pub handed-small : (st : State) (view : ℕ) {v : ℕ} (mark : Bool) → Valid st → view < 2 ^ 28 → v ≡ cond mark (st .counters .view) view → v < 2 ^ 28
+handed-small st view mark v h e =
+    let f = valid-fits st v in
+    subst (λ (x : ℕ). x < 2 ^ 28) (sym e)
+    (cond-both (λ (x : ℕ). x < 2 ^ 28) mark (st .counters .view) view (below-kind (st .setup .n) _ (f .setup .most) (f .view)) h)
+
 -- ---- the round
 
-pub round-made : (st : State) (this : Reading) (causes : List ℕ) {j : Judgement} {word : ℕ} {next : State} → j ≡ judgementFor st this
-    → word ≡ outgoingFor st this → next ≡ afterRound st this
-    → _≡_ {A = Stepped} (record { number = 0; index = 0; health = j .health; accusations = j .accusations; word = word; causes = causes; state = next })
-    (acceptedStep st this causes)
+pub round-made : (st : State) (this : Reading) (seen causes : List ℕ) {j : Judgement} {word view : ℕ} {next : State} → j ≡ judgementFor st this
+    → word ≡ outgoingFor st this → view ≡ outgoingView st (next .counters .view) → next ≡ afterRound st this seen
+    → _≡_ {A = Stepped} (record { number = 0; index = 0; health = j .health; accusations = j .accusations; word = word; second = view; causes = causes; state = next })
+    (acceptedStep st this seen causes)
 unfolding acceptedStep
-round-made st this causes {j} {word} {next} e w n =
-    let made : (k : Judgement) (x : ℕ) (s : State) → Stepped =
-    λ k x s. record { number = 0; index = 0; health = k .health; accusations = k .accusations; word = x; causes = causes; state = s }
+round-made st this seen causes {j} {word} {view} {next} e w v n =
+    let made : (k : Judgement) (x y : ℕ) (s : State) → Stepped =
+    λ k x y s. record { number = 0; index = 0; health = k .health; accusations = k .accusations; word = x; second = y; causes = causes; state = s }
     in
-    ap (λ (k : Judgement). made k word next) e ∙ ap₂ (made (judgementFor st this)) w n
+    ap (λ (k : Judgement). made k word view next) e
+    ∙ ap₂ (λ (x y : ℕ). made (judgementFor st this) x y next) w v
+    ∙ ap (λ (s : State). made (judgementFor st this) (outgoingFor st this) (outgoingView st (s .counters .view)) s) n
+
+-- the local view after it is that of n modules
+pub next-small : (st : State) (this : Reading) (seen : List ℕ) {next : State} → Valid st → next ≡ afterRound st this seen → next .counters .view < 2 ^ 28
+unfolding afterRound booksAfter counted countersOf
+next-small st this seen {next} v e =
+    let n = turned (booksOf st) .setup .n in
+    let most : n ≤ 16 = turned-setup-fits (booksOf st) (valid-fits st v .pending) (valid-fits st v .setup) .most in
+    subst (λ (x : State). x .counters .view < 2 ^ 28) (sym e) (below-kind n _ most (pack-lt n _))
 
 -- ---- 9 and 10
 
 module _ (st : State) (read : List ℕ) (controller : ℕ) {r : Stepped} where
-  pub read-length : r ≡ refusedStep st 9 0 → (length read ≡ st .setup .n * 4 → ⊥) → r ≡ readStep st read controller
+  pub read-length : r ≡ refusedStep st 9 0 → (length read ≡ readLength st → ⊥) → r ≡ readStep st read controller
   unfolding readStep
-  read-length h f = h ∙ sym (cond-false _ _ (ne-eqb (length read) (st .setup .n * 4) f))
+  read-length h f = h ∙ sym (cond-false _ _ (ne-eqb (length read) (readLength st) f))
 
-  pub read-controller : r ≡ refusedStep st 10 0 → length read ≡ st .setup .n * 4 → 2 ^ st .setup .n ≤ controller → r ≡ readStep st read controller
+  pub read-controller : r ≡ refusedStep st 10 0 → length read ≡ readLength st → 2 ^ st .setup .n ≤ controller → r ≡ readStep st read controller
   unfolding readStep
   read-controller h l c =
-      h ∙ sym (cond-true _ _ (eq-eqb (length read) (st .setup .n * 4) l) ∙ cond-false _ _ (le-ltb controller (2 ^ st .setup .n) c))
+      h ∙ sym (cond-true _ _ (eq-eqb (length read) (readLength st) l) ∙ cond-false _ _ (le-ltb controller (2 ^ st .setup .n) c))
 
-  pub read-taken : r ≡ acceptedStep st (readingOf (st .setup .n) read controller) (causesOf (st .setup .n) read controller) → length read ≡ st .setup .n * 4 → controller < 2 ^ st .setup .n
+  pub read-taken : r ≡ acceptedStep st (readingOf (st .setup .n) read controller) (seenBy st read controller) (causesOf (st .setup .n) read controller) → length read ≡ readLength st → controller < 2 ^ st .setup .n
       → r ≡ readStep st read controller
   unfolding readStep
   read-taken h l c =
-      h ∙ sym (cond-true _ _ (eq-eqb (length read) (st .setup .n * 4) l) ∙ cond-true _ _ (lt-ltb controller (2 ^ st .setup .n) c))
+      h ∙ sym (cond-true _ _ (eq-eqb (length read) (readLength st) l) ∙ cond-true _ _ (lt-ltb controller (2 ^ st .setup .n) c))
 
   -- ---- the state first
 
@@ -149,15 +198,15 @@ step-of st {k} read controller {t} e v h =
 
 -- ---- opening
 
-pub fresh-made : (s : Setup) (own : ℕ) {v : ℕ} {rows : List ℕ} {c : Counters} {p : Pending} → v ≡ full (s .n) → rows ≡ array (s .n) (λ j. v)
-    → c ≡ zeroCounters v → p ≡ nothing
-    → _≡_ {A = State} (record { setup = s; own = own; counters = c; previous = record { heard = v; rows = rows }; latest = v; earlier = v; pending = p }) (fresh s own)
+pub fresh-made : (s : Setup) (own : ℕ) {v : ℕ} {rows : List ℕ} {c : Counters} {p : Pending} {w : Views} → v ≡ full (s .n) → rows ≡ array (s .n) (λ j. v)
+    → c ≡ zeroCounters v → p ≡ nothing → w ≡ freshViews (s .partitionable) (s .n)
+    → _≡_ {A = State} (record { setup = s; own = own; counters = c; previous = record { heard = v; rows = rows }; latest = v; earlier = v; pending = p; views = w }) (fresh s own)
 unfolding fresh
-fresh-made s own {v} {rows} {c} {p} e h k n =
+fresh-made s own {v} {rows} {c} {p} e h k n f =
     let made : ℕ → List ℕ → Counters → State =
-    λ x r d. record { setup = s; own = own; counters = d; previous = record { heard = x; rows = r }; latest = x; earlier = x; pending = nothing }
+    λ x r d. record { setup = s; own = own; counters = d; previous = record { heard = x; rows = r }; latest = x; earlier = x; pending = nothing; views = freshViews (s .partitionable) (s .n) }
     in
-    (λ i. record { setup = s; own = own; counters = c; previous = record { heard = v; rows = rows }; latest = v; earlier = v; pending = n i })
+    (λ i. record { setup = s; own = own; counters = c; previous = record { heard = v; rows = rows }; latest = v; earlier = v; pending = n i; views = f i })
     ∙ ap (made v rows) k ∙ ap₂ (λ (x : ℕ) (r : List ℕ). made x r (zeroCounters v)) e (h ∙ ap (λ (x : ℕ). array (s .n) (λ j. x)) e)
     ∙ ap (λ (x : ℕ). made (full (s .n)) (array (s .n) (λ j. full (s .n))) (zeroCounters x)) e
 

@@ -24,7 +24,7 @@ use Rattle.changes.specs.Books.{counted, booksAfter}
 use Rattle.changes.proofs.TurnLaws.{turned-size, turned-places}
 use Rattle.presence.specs.Valid.{stateVerdict, Valid}
 use Rattle.presence.specs.Opening.{fresh, blank, checkOpening, openOf}
-use Rattle.presence.specs.Step.{skewOf, markOf, ownSyndrome, booksOf, judgementFor, outgoingFor, afterRound, refusedStep, acceptedStep, readStep, stepOf}
+use Rattle.presence.specs.Step.{skewOf, markOf, readLength, seenBy, ownSyndrome, booksOf, judgementFor, outgoingFor, afterRound, refusedStep, acceptedStep, readStep, stepOf}
 use Rattle.rules.specs.declared.Reading.{Reading}
 use Rattle.presence.specs.declared.State.{State}
 use Rattle.presence.specs.declared.Opened.{Opened}
@@ -36,11 +36,16 @@ use Rattle.presence.proofs.ValidLaws.{StateFits, valid-fits, fits-verdi
 -- ---- rules 4, 7 and 9
 
 -- An empty vote of the next step falls back on the syndrome of one step before the last where u is 1, else on that of the last.
-pub own-after : (st : State) (this : Reading)
-    → ownSyndrome (afterRound st this) ≡ cond (skewOf st) (st .latest) (judgementFor st this .syndrome)
+pub own-after : (st : State) (this : Reading) (seen : List ℕ)
+    → ownSyndrome (afterRound st this seen) ≡ cond (skewOf st) (st .latest) (judgementFor st this .syndrome)
 unfolding ownSyndrome afterRound booksAfter counted
-own-after st this =
+own-after st this seen =
     ap₂ (λ (n : ℕ) (places : List ℕ). cond (skewed n places) (st .latest) (judgementFor st this .syndrome)) (turned-size (booksOf st)) (turned-places (booksOf st))
+
+-- N stays
+pub after-size : (st : State) (this : Reading) (seen : List ℕ) → afterRound st this seen .setup .n ≡ st .setup .n
+unfolding afterRound booksAfter counted
+after-size st this seen = turned-size (booksOf st)
 
 -- A valid state hands out no word that a receiver would not hear.
 pub outgoing-heard : (st : State) (this : Reading) → StateFits st → wordHeard (st .setup .n) (outgoingFor st this) ≡ true
@@ -51,26 +56,26 @@ outgoing-heard st this f =
 
 -- ---- the step
 
--- a valid state, N read words and no controller bit at N or above
-pub step-accepts : (st : State) (read : List ℕ) (controller : ℕ) → StateFits st → length read ≡ st .setup .n * 4 → controller < 2 ^ st .setup .n
-    → stepOf st read controller ≡ acceptedStep st (readingOf (st .setup .n) read controller) (causesOf (st .setup .n) read controller)
+-- a valid state, N or 2N read words and no controller bit at N or above
+pub step-accepts : (st : State) (read : List ℕ) (controller : ℕ) → StateFits st → length read ≡ readLength st → controller < 2 ^ st .setup .n
+    → stepOf st read controller ≡ acceptedStep st (readingOf (st .setup .n) read controller) (seenBy st read controller) (causesOf (st .setup .n) read controller)
 unfolding stepOf readStep
 step-accepts st read controller f l h =
     cond-true _ _ (ap isAccepted (fits-verdict st f))
-    ∙ cond-true _ _ (eq-eqb (length read) (st .setup .n * 4) l)
+    ∙ cond-true _ _ (eq-eqb (length read) (readLength st) l)
     ∙ cond-true _ _ (lt-ltb controller (2 ^ st .setup .n) h)
 
 -- by the tests of its state, its read and its controller bits
-answered : State → Reading → List ℕ → Verdict → Bool → Bool → Bool → Stepped
-answered st this causes v a b c =
-    cond a (cond b (cond c (acceptedStep st this causes) (refusedStep st 10 0)) (refusedStep st 9 0))
+answered : State → Reading → List ℕ → List ℕ → Verdict → Bool → Bool → Bool → Stepped
+answered st this seen causes v a b c =
+    cond a (cond b (cond c (acceptedStep st this seen causes) (refusedStep st 10 0)) (refusedStep st 9 0))
     (refusedStep st (v .number) (v .index))
 
 pub step-refused : (st : State) (read : List ℕ) (controller : ℕ) → stepOf st read controller .number ≢ 0
     → stepOf st read controller .state ≡ st
 unfolding stepOf readStep acceptedStep refusedStep answered
 step-refused st read controller no-zero =
-    go (isAccepted v) (eqb (length read) (st .setup .n * 4)) (ltb controller (2 ^ st .setup .n)) no-zero
+    go (isAccepted v) (eqb (length read) (readLength st)) (ltb controller (2 ^ st .setup .n)) no-zero
   where
     v : Verdict
     v = stateVerdict st
@@ -78,10 +83,13 @@ step-refused st read controller no-zero =
     this : Reading
     this = readingOf (st .setup .n) read controller
 
+    seen : List ℕ
+    seen = seenBy st read controller
+
     causes : List ℕ
     causes = causesOf (st .setup .n) read controller
 
-    go : (a b c : Bool) → answered st this causes v a b c .number ≢ 0 → answered st this causes v a b c .state ≡ st
+    go : (a b c : Bool) → answered st this seen causes v a b c .number ≢ 0 → answered st this seen causes v a b c .state ≡ st
     go true true true h = absurd (h refl)
     go true true false h = refl
     go true false c h = refl
@@ -89,10 +97,11 @@ step-refused st read controller no-zero =
 
 -- an accepted step is one of a valid state
 pub step-accepted : (st : State) (read : List ℕ) (controller : ℕ) → stepOf st read controller .number ≡ 0
-    → Valid st × (stepOf st read controller ≡ acceptedStep st (readingOf (st .setup .n) read controller) (causesOf (st .setup .n) read controller))
+    → Valid st
+    × (stepOf st read controller ≡ acceptedStep st (readingOf (st .setup .n) read controller) (seenBy st read controller) (causesOf (st .setup .n) read controller))
 unfolding stepOf readStep acceptedStep refusedStep answered
 step-accepted st read controller zero =
-    go (isAccepted v) (eqb (length read) (st .setup .n * 4)) (ltb controller (2 ^ st .setup .n)) refl zero
+    go (isAccepted v) (eqb (length read) (readLength st)) (ltb controller (2 ^ st .setup .n)) refl zero
   where
     v : Verdict
     v = stateVerdict st
@@ -100,20 +109,23 @@ step-accepted st read controller zero =
     this : Reading
     this = readingOf (st .setup .n) read controller
 
+    seen : List ℕ
+    seen = seenBy st read controller
+
     causes : List ℕ
     causes = causesOf (st .setup .n) read controller
 
-    go : (a b c : Bool) → isAccepted v ≡ a → answered st this causes v a b c .number ≡ 0
-        → (v .number ≡ 0) × (answered st this causes v a b c ≡ acceptedStep st this causes)
+    go : (a b c : Bool) → isAccepted v ≡ a → answered st this seen causes v a b c .number ≡ 0
+        → (v .number ≡ 0) × (answered st this seen causes v a b c ≡ acceptedStep st this seen causes)
     go true true true e z = (eqb-true (v .number) 0 e, refl)
     go true true false e z = absurd (omega arith)
     go true false c e z = absurd (omega arith)
     go false b c e z = absurd (eqb-false (v .number) 0 e z)
 
--- with N read words
-pub step-whole : (st : State) (read : List ℕ) (controller : ℕ) → stepOf st read controller .number ≡ 0 → length read ≡ st .setup .n * 4
+-- with N read words, or 2N
+pub step-whole : (st : State) (read : List ℕ) (controller : ℕ) → stepOf st read controller .number ≡ 0 → length read ≡ readLength st
 unfolding stepOf readStep refusedStep
-step-whole st read controller zero = eqb-true (length read) (st .setup .n * 4) (go _ (isAccepted v) (eqb (length read) (st .setup .n * 4)) refl zero)
+step-whole st read controller zero = eqb-true (length read) (readLength st) (go _ (isAccepted v) (eqb (length read) (readLength st)) refl zero)
   where
     v : Verdict
     v = stateVerdict st

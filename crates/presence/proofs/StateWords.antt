@@ -1,5 +1,5 @@
 -- Where the words of a state's image stand, and the fields that are read from them.
-use mathlib.Core.Path.{_≡_, refl, ap, _∙_, subst, sym}
+use mathlib.Core.Path.{_≡_, refl, ap, ap₂, _∙_, subst, sym}
 use mathlib.Core.Bool.{Bool, true, false}
 use mathlib.Core.List.{List, [], _++_}
 use Prim.Native.Nat.{ℕ, _+_, _<_}
@@ -12,15 +12,17 @@ use Rattle.words.proofs.RunLaws.{Follows, runs-length, runs-follow, run-words}
 use Rattle.words.proofs.RunJoinLaws.{total-join, follow-split, follow-moved}
 use Rattle.setup.specs.Layout.{frontWords}
 use Rattle.setup.specs.Limits.{fades}
-use Rattle.setup.specs.Setup.{headWord, returnLimitIn, criticalityIn, frontOf}
+use Rattle.setup.specs.Setup.{headWord, returnLimitIn, partitionableIn, criticalityIn, frontOf}
 use Rattle.setup.proofs.BoundLaws.{LimitsStand, limits-back, fit-room}
 use Rattle.setup.proofs.SetupLaws.{SetupFits}
 use Rattle.setup.proofs.SetupWords.{moduleOf}
-use Rattle.setup.proofs.WordFields.{return-back, criticality-back}
+use Rattle.setup.proofs.WordFields.{return-back, partitionable-back, criticality-back}
 use Rattle.accounts.specs.declared.Counters.{Counters}
 use Rattle.changes.specs.Words.{newCount, changeRuns}
 use Rattle.changes.proofs.ChangeWords.{change-total, change-stands}
-use Rattle.image.specs.Layout.{ownAt, rowsAt, latestAt, earlierAt, accountsAt, leftAt, imageLength}
+use Rattle.views.specs.Section.{viewsCount, viewRuns}
+use Rattle.views.proofs.ViewWords.{views-total}
+use Rattle.image.specs.Layout.{ownAt, rowsAt, latestAt, earlierAt, accountsAt, leftAt, viewsAt, imageLength}
 use Rattle.image.specs.Words.{ownWord, ownIn, viewIn, syndromeWord, syndromeIn}
 use Rattle.image.specs.Rows.{rowWord}
 use Rattle.image.specs.Counters.{counterRuns}
@@ -40,22 +42,32 @@ unfolding total
 counters-total true n c = omega arith
 counters-total false n c = omega arith
 
--- the accounts and the pending change
-abbrev pub lastRuns : State → List Run
-lastRuns st = counterRuns (fades (st .setup .limits)) (st .setup .n) (st .counters) ++ changeRuns (st .setup) (st .pending)
+-- the views
+abbrev pub viewsOf : State → List Run
+viewsOf st = viewRuns (st .setup .partitionable) (st .setup .n) (st .counters .view) (st .views)
 
-last-total : (st : State) → total (lastRuns st) ≡ st .setup .n + st .setup .n + st .setup .n + (1 + newCount (st .setup .n) (st .pending .left))
+-- the accounts, the pending change and the views
+abbrev pub lastRuns : State → List Run
+lastRuns st = counterRuns (fades (st .setup .limits)) (st .setup .n) (st .counters) ++ (changeRuns (st .setup) (st .pending) ++ viewsOf st)
+
+last-total : (st : State)
+    → total (lastRuns st)
+    ≡ st .setup .n + st .setup .n + st .setup .n + (1 + newCount (st .setup .n) (st .pending .left) + viewsCount (st .setup .partitionable) (st .setup .n))
 last-total st =
     let counts = counterRuns (fades (st .setup .limits)) (st .setup .n) (st .counters) in
     omega (
       arith,
-      total-join counts (changeRuns (st .setup) (st .pending)),
+      total-join counts (changeRuns (st .setup) (st .pending) ++ viewsOf st),
+      total-join (changeRuns (st .setup) (st .pending)) (viewsOf st),
       counters-total (fades (st .setup .limits)) (st .setup .n) (st .counters),
       change-total (st .setup) (st .pending),
+      views-total (st .setup .partitionable) (st .setup .n) (st .counters .view) (st .views),
     )
 
 pub state-total : (st : State)
-    → total (stateRuns st) ≡ st .setup .n + 3 + (st .setup .n + st .setup .n + st .setup .n + (1 + newCount (st .setup .n) (st .pending .left)))
+    → total (stateRuns st)
+    ≡ st .setup .n + 3
+    + (st .setup .n + st .setup .n + st .setup .n + (1 + newCount (st .setup .n) (st .pending .left) + viewsCount (st .setup .partitionable) (st .setup .n)))
 unfolding total
 state-total st = omega (arith, last-total st)
 
@@ -65,7 +77,7 @@ image-length st = runs-length (imageRuns st) ∙ omega (arith, last-total st)
 
 -- w are the words of the image
 pub record Stands (st : State) (w : ℕ → ℕ) : Type 0 where
-  pub head : w 0 ≡ headWord (st .setup .q) (st .setup .n)
+  pub head : w 0 ≡ headWord (st .setup .q) (st .setup .partitionable) (st .setup .n)
   pub limits : LimitsStand w (st .setup .limits)
   pub modules : (j : ℕ) → j < st .setup .n → w (frontOf (st .setup) + j) ≡ moduleOf (st .setup) j
   pub own : w (ownAt (frontOf (st .setup)) (st .setup .n)) ≡ ownWord (st .own) (st .counters .view)
@@ -74,13 +86,15 @@ pub record Stands (st : State) (w : ℕ → ℕ) : Type 0 where
   pub earlier : w (earlierAt (frontOf (st .setup)) (st .setup .n)) ≡ syndromeWord (st .earlier)
   pub counters : Follows w (accountsAt (frontOf (st .setup)) (st .setup .n)) (counterRuns (fades (st .setup .limits)) (st .setup .n) (st .counters))
   pub change : Follows w (leftAt (frontOf (st .setup)) (st .setup .n)) (changeRuns (st .setup) (st .pending))
+  pub views : Follows w (viewsAt (frontOf (st .setup)) (st .setup .n) (st .pending .left)) (viewsOf st)
 
 pub stands-bytes : (st : State) → Stands st (wordAt (imageOf st))
 unfolding imageOf runsOf Follows
 stands-bytes st =
     let (head, (limits, (modules, (own, (rows, (latest, (earlier, last))))))) = runs-follow [] 0 (imageRuns st) refl in
     let counts = counterRuns (fades (st .setup .limits)) (st .setup .n) (st .counters) in
-    let (counters, change) = follow-split (wordAt (imageOf st)) _ counts (changeRuns (st .setup) (st .pending)) last in
+    let (counters, later) = follow-split (wordAt (imageOf st)) _ counts (changeRuns (st .setup) (st .pending) ++ viewsOf st) last in
+    let (change, views) = follow-split (wordAt (imageOf st)) _ (changeRuns (st .setup) (st .pending)) (viewsOf st) later in
     record {
       head = head 0 (omega arith);
       limits = limits;
@@ -91,6 +105,9 @@ stands-bytes st =
       earlier = rw (none (earlierAt (frontOf (st .setup)) (st .setup .n))) at (earlier 0 (omega arith));
       counters = counters;
       change = follow-moved (wordAt (imageOf st)) (changeRuns (st .setup) (st .pending)) (omega (arith, counters-total (fades (st .setup .limits)) (st .setup .n) (st .counters))) change;
+      views =
+          follow-moved (wordAt (imageOf st)) (viewsOf st)
+          (omega (arith, counters-total (fades (st .setup .limits)) (st .setup .n) (st .counters), change-total (st .setup) (st .pending))) views;
     }
   where
     none : (k : ℕ) → k + 0 ≡ k
@@ -103,10 +120,19 @@ stands st = subst (Stands st) (image-words st) (stands-bytes st)
 pub image-left : (st : State) → wordAt (imageOf st) (leftAt (frontOf (st .setup)) (st .setup .n)) ≡ st .pending .left
 image-left st = change-stands (wordAt (imageOf st)) (leftAt (frontOf (st .setup)) (st .setup .n)) (st .setup) (st .pending) (stands-bytes st .change) .left
 
--- its length, by the word of the rounds left
-pub length-left : (st : State) {b : Bool} {x : List ℕ} → b ≡ fades (st .setup .limits) → x ≡ imageOf st
-    → length x ≡ imageLength (frontWords b) (st .setup .n) (wordAt x (leftAt (frontWords b) (st .setup .n)))
-length-left st f e = rw (f, e) (image-length st ∙ ap (stateLength st) (sym (image-left st)))
+-- whether its setup is partitionable
+pub words-partitionable : (st : State) {w : ℕ → ℕ} → SetupFits (st .setup) → Stands st w → partitionableIn (w 0) ≡ st .setup .partitionable
+words-partitionable st f d =
+    ap partitionableIn (d .head)
+    ∙ partitionable-back (st .setup .q) (st .setup .partitionable) (st .setup .n) (record { limit = f .q-most; least = f .least; most = f .most })
+
+-- its length, by its head and the word of the rounds left
+pub length-left : (st : State) {b : Bool} {x : List ℕ} → SetupFits (st .setup) → b ≡ fades (st .setup .limits) → x ≡ imageOf st
+    → length x ≡ imageLength (frontWords b) (st .setup .n) (wordAt x (leftAt (frontWords b) (st .setup .n))) (partitionableIn (wordAt x 0))
+length-left st g f e =
+    rw (f, e)
+    (image-length st
+    ∙ ap₂ (λ (left : ℕ) (t : Bool). imageLength (frontOf (st .setup)) (st .setup .n) left t) (sym (image-left st)) (sym (words-partitionable st g (stands-bytes st))))
 
 -- ---- the fields
 
@@ -122,7 +148,7 @@ state-read st w f m d =
       before =
           record {
             limits-there = limits-back w (st .setup .limits) (fit-room (st .setup .limits) (f .limits)) (d .limits);
-            q-there = ap returnLimitIn (d .head) ∙ return-back (st .setup .q) (st .setup .n) (record { limit = f .q-most; least = f .least; most = f .most });
+            q-there = ap returnLimitIn (d .head) ∙ return-back (st .setup .q) (st .setup .partitionable) (st .setup .n) (record { limit = f .q-most; least = f .least; most = f .most });
             criticality-there = λ j h.
                 ap criticalityIn (d .modules j h)
                 ∙ criticality-back j (bit (st .setup .marks) j) _ _ (omega (arith, f .each j h .within, f .most)) (omega (arith, f .each j h .most));

@@ -1,6 +1,6 @@
 -- A valid state, field by field; a fresh module is valid, and a round keeps it so.
-use mathlib.Core.Path.{_≡_, refl, ap, _∙_, sym}
-use mathlib.Core.Bool.{Bool, true}
+use mathlib.Core.Path.{_≡_, refl, ap, _∙_, sym, subst}
+use mathlib.Core.Bool.{Bool, true, false, cond}
 use mathlib.Core.List.{List}
 use Prim.Native.Nat.{ℕ, _+_, _^_, _<_, _≤_}
 use native.Mathlib.Omega.{arith}
@@ -8,15 +8,15 @@ use lib.ListN.{getD}
 use lib.Pow.{pow-mono}
 use borrow.Author.Tests.{lt-ltb}
 use Rattle.words.specs.Bits.{bit, full}
-use Rattle.words.specs.Verdict.{accepted, single, outcome}
+use Rattle.words.specs.Verdict.{accepted, Test, single, outcome}
 use Rattle.words.specs.Runs.{runWord}
 use Rattle.words.specs.declared.Verdict.{Verdict}
 use Rattle.words.proofs.BitLaws.{pack-lt, full-lt, bit-full}
 use Rattle.words.proofs.ArrayLaws.{clearFrom, array-at, array-clear}
-use Rattle.words.proofs.VerdictLaws.{and-then-next, single-ok}
-use Rattle.setup.specs.Layout.{frontWords}
+use Rattle.words.proofs.VerdictLaws.{Passed, and-then-next, single-ok}
+use Rattle.setup.specs.Layout.{headAt, frontWords}
 use Rattle.setup.specs.Limits.{fades}
-use Rattle.setup.specs.Setup.{frontOf}
+use Rattle.setup.specs.Setup.{partitionableIn, frontOf}
 use Rattle.setup.specs.Check.{setupVerdict}
 use Rattle.setup.specs.declared.Setup.{Setup}
 use Rattle.setup.proofs.SetupLaws.{SetupFits, verdict-fits, fits-verdict as setup-accepted}
@@ -27,9 +27,15 @@ use Rattle.changes.specs.Pending.{pendingOf}
 use Rattle.changes.specs.Books.{turned, counted, booksAfter}
 use Rattle.changes.specs.Frame.{frameVerdict}
 use Rattle.changes.proofs.PendingLaws.{PendingFits, nothing-fits, frame-fits, fits-small as fits-pending}
-use Rattle.changes.proofs.ChangeWords.{ModulesStand, change-ok, change-pass}
-use Rattle.changes.proofs.TurnLaws.{turned-size, turned-setup-fits, turned-pending-fits}
-use Rattle.image.specs.Layout.{ownAt, leftAt}
+use Rattle.changes.proofs.ChangeWords.{ModulesStand, change-stands, change-ok, change-pass}
+use Rattle.changes.proofs.TurnLaws.{turned-size, turned-partitionable, turned-setup-fits, turned-pending-fits}
+use Rattle.views.specs.ViewWord.{viewsSeen}
+use Rattle.views.specs.Views.{noViews, viewsAfter}
+use Rattle.views.specs.Section.{viewTests}
+use Rattle.views.proofs.ViewsLaws.{ViewsFit, small-views as fits-views, none-fits, opened-fits, read-fits, after-fits as views-fit}
+use Rattle.views.proofs.ViewWords.{views-ok, views-pass}
+use Rattle.image.specs.Layout.{ownAt, leftAt, viewsAt}
+use Rattle.image.specs.Words.{viewIn}
 use Rattle.image.specs.Rows.{rowFits}
 use Rattle.image.proofs.TailLaws.{TailFits, tail-pass, tail-ok}
 use Rattle.image.proofs.SingleWords.{own-made, syndrome-made, own-number-right, own-right, syndrome-right}
@@ -39,11 +45,11 @@ use Rattle.image.proofs.BooksLaws.{turned-accounts}
 use Rattle.presence.specs.Image.{imageRuns}
 use Rattle.presence.specs.Valid.{roomy, stateVerdict, Valid}
 use Rattle.presence.specs.Opening.{fresh}
-use Rattle.presence.specs.Step.{judgementFor, booksOf, afterRound}
+use Rattle.presence.specs.Step.{seenBy, judgementFor, booksOf, votedViews, viewsFor, afterRound}
 use Rattle.presence.specs.Change.{withPending}
 use Rattle.presence.specs.declared.State.{State}
 use Rattle.presence.proofs.SmallLaws.{Small, small-roomy, valid-setup, valid-small, valid-tail}
-use Rattle.presence.proofs.StateWords.{Stands, stands, state-read}
+use Rattle.presence.proofs.StateWords.{Stands, stands, words-partitionable, state-read}
 use Rattle.presence.proofs.FrameLaws.{frame-pass, follows-lead}
 
 pub record StateFits (st : State) : Type 0 where
@@ -58,10 +64,35 @@ pub record StateFits (st : State) : Type 0 where
   pub heard : st .previous .heard < 2 ^ st .setup .n
   pub no-rows : clearFrom (st .setup .n) (st .previous .rows) ≡ true
   pub pending : PendingFits (st .setup) (st .pending)
+  pub views : ViewsFit (st .setup .partitionable) (st .setup .n) (st .views)
 
 -- the module words of a setup that counts
 modules-stand : (st : State) {w : ℕ → ℕ} → Stands st w → ModulesStand w (st .setup)
 modules-stand st {w} d e j h = ap (λ (b : Bool). w (frontWords b + j)) (sym e) ∙ d .modules j h
+
+-- the tests of the views, by the words and by the state
+abbrev viewsTests : State → (ℕ → ℕ) → List Test
+viewsTests st w =
+    let front = frontOf (st .setup) in
+    viewTests (partitionableIn (w headAt)) w (st .setup .n) (viewIn (w (ownAt front (st .setup .n)))) (viewsAt front (st .setup .n) (w (leftAt front (st .setup .n))))
+
+tests-same : (st : State) {w : ℕ → ℕ} → SetupFits (st .setup) → Small st → Stands st w
+    → viewsTests st w ≡ viewTests (st .setup .partitionable) w (st .setup .n) (st .counters .view) (viewsAt (frontOf (st .setup)) (st .setup .n) (st .pending .left))
+tests-same st {w} f m d =
+    let front = frontOf (st .setup) in
+    let t = words-partitionable st f d in
+    let v = state-read st w f m d .before .view-there in
+    let l = change-stands w (leftAt front (st .setup .n)) (st .setup) (st .pending) (d .change) .left in
+    λ i. viewTests (t i) w (st .setup .n) (v i) (viewsAt front (st .setup .n) (l i))
+
+views-tests : (st : State) {w : ℕ → ℕ} → SetupFits (st .setup) → Small st → Stands st w → Passed (viewsTests st w)
+    → Passed (viewTests (st .setup .partitionable) w (st .setup .n) (st .counters .view) (viewsAt (frontOf (st .setup)) (st .setup .n) (st .pending .left)))
+views-tests st {w} f m d t = subst Passed (tests-same st f m d) t
+
+tests-views : (st : State) {w : ℕ → ℕ} → SetupFits (st .setup) → Small st → Stands st w
+    → Passed (viewTests (st .setup .partitionable) w (st .setup .n) (st .counters .view) (viewsAt (frontOf (st .setup)) (st .setup .n) (st .pending .left)))
+    → Passed (viewsTests st w)
+tests-views st {w} f m d t = subst Passed (sym (tests-same st f m d)) t
 
 pub valid-fits : (st : State) → Valid st → StateFits st
 valid-fits st e =
@@ -86,6 +117,7 @@ valid-fits st e =
       heard = m .rows .heard;
       no-rows = m .rows .no-rows;
       pending = change-pass w (leftAt front n) (st .setup) (st .pending) f (modules-stand st d) (d .change) (m .pending) (t .change);
+      views = views-pass (st .setup .partitionable) w (viewsAt front n (st .pending .left)) n (st .counters .view) _ (st .views) (d .views) (m .views) (views-tests st f m d (t .views));
     }
 
 below : (v n : ℕ) → v < 2 ^ n → n ≤ 16 → v < 2 ^ 16
@@ -109,6 +141,7 @@ fits-small st f =
           };
       counters = accounts-small (st .setup .limits) (st .setup) (st .counters) (f .setup .limits) (f .setup) (f .counters);
       pending = fits-pending (st .setup) (st .pending) (f .setup) (f .pending);
+      views = fits-views (st .setup .partitionable) n (st .views) k (f .views);
     }
 
 -- the words of its image are right
@@ -127,6 +160,9 @@ tail-fits st f =
       earlier = rw (d .earlier) (syndrome-right n (st .earlier) (m .earlier) (f .earlier));
       counters = accounts-ok w (st .setup .limits) (st .setup) (st .counters) (f .setup .most) (m .counters) (d .counters) (b .before) (f .counters);
       change = change-ok w (leftAt (frontOf (st .setup)) n) (st .setup) (st .pending) (f .setup) (modules-stand st d) (d .change) (f .pending);
+      views =
+          tests-views st (f .setup) m d
+          (views-ok (st .setup .partitionable) w (viewsAt (frontOf (st .setup)) n (st .pending .left)) n (st .counters .view) _ (st .views) (d .views) refl (f .views));
     }
 
 pub fits-verdict : (st : State) → StateFits st → stateVerdict st ≡ accepted
@@ -157,12 +193,25 @@ fresh-fits s own f h l =
       heard = full-lt (s .n);
       no-rows = array-clear (s .n) (λ j. full (s .n));
       pending = nothing-fits s;
+      views = opened-fits (s .partitionable) (s .n) (f .most);
     }
 
 -- ---- a round
 
+-- the views after it
+views-after : (st : State) (read : List ℕ) (controller : ℕ) → StateFits st
+    → ViewsFit (st .setup .partitionable) (st .setup .n) (viewsFor st (seenBy st read controller))
+unfolding viewsFor viewsSeen
+views-after st read controller f = go (st .setup .partitionable) (f .views)
+  where
+    go : (b : Bool) → ViewsFit b (st .setup .n) (st .views)
+        → ViewsFit b (st .setup .n)
+        (cond b (viewsAfter (st .setup .n) (st .views) (votedViews st (viewsSeen b (st .setup .n) read controller)) (viewsSeen b (st .setup .n) read controller) (st .counters .view)) noViews)
+    go true v = views-fit (st .setup .n) (st .views) _ _ _ (f .view) (read-fits (st .setup .n) read controller (f .setup .most)) v
+    go false v = none-fits (st .setup .n)
+
 pub after-fits : (st : State) (read : List ℕ) (controller : ℕ) → StateFits st
-    → StateFits (afterRound st (readingOf (st .setup .n) read controller))
+    → StateFits (afterRound st (readingOf (st .setup .n) read controller) (seenBy st read controller))
 unfolding afterRound judgementFor readingOf booksAfter counted countersOf
 after-fits st read controller f =
     let n = st .setup .n in
@@ -181,6 +230,7 @@ after-fits st read controller f =
       heard = rw e (pack-lt n _);
       no-rows = rw e (array-clear n _);
       pending = turned-pending-fits (booksOf st) (f .pending);
+      views = rw (turned-partitionable (booksOf st), e) (views-after st read controller f);
     }
 
 -- ---- a change
@@ -202,6 +252,7 @@ change-fits st new lead f g e =
       heard = f .heard;
       no-rows = f .no-rows;
       pending = frame-fits (st .setup) new (f .setup) g same lead least most;
+      views = f .views;
     }
 
 -- ---- a change that takes effect

@@ -30,6 +30,7 @@ withPending st pending = record {
   latest = st .latest;
   earlier = st .earlier;
   pending = pending;
+  views = st .views;
 }
 
 -- what a change answers: the state with the change pending, or as it was where the change is refused

@@ -1,5 +1,5 @@
 -- The image of a state: the words that it is written as, and the state that words hold. (document 01, "What runs", kinds 10 to 14;
--- document 02, E10)
+-- document 02, E10 and E11)
 use mathlib.Core.Bool.{Bool, cond}
 use mathlib.Core.List.{List, _++_}
 use Prim.Native.Nat.{ℕ, _-_}
@@ -10,9 +10,10 @@ use Rattle.words.specs.Verdict.{isAccepted}
 use Rattle.words.specs.Runs.{Run, runsOf}
 use Rattle.setup.specs.Layout.{headAt}
 use Rattle.setup.specs.Limits.{fades}
-use Rattle.setup.specs.Setup.{sizeIn, fadesIn, frontIn, frontOf, setupOf, setupRuns}
+use Rattle.setup.specs.Setup.{sizeIn, partitionableIn, fadesIn, frontIn, frontOf, setupOf, setupRuns}
 use Rattle.changes.specs.Words.{changeRuns, pendingIn}
-use Rattle.image.specs.Layout.{ownAt, latestAt, earlierAt, leftAt, imageLength}
+use Rattle.views.specs.Section.{viewsIn, viewRuns}
+use Rattle.image.specs.Layout.{ownAt, latestAt, earlierAt, leftAt, viewsAt, imageLength}
 use Rattle.image.specs.Words.{ownIn, syndromeIn}
 use Rattle.image.specs.Rows.{readingIn}
 use Rattle.image.specs.Counters.{countersIn}
@@ -24,11 +25,11 @@ use Rattle.presence.specs.declared.Opened.{Opened}
 
 -- ---- written
 
--- the words after the setup's, section by section, then the pending change
+-- the words after the setup's, section by section, then the pending change, then the views
 abbrev pub stateRuns : State → List Run
 stateRuns st =
     sectionRuns (fades (st .setup .limits)) (st .setup .n) (st .own) (st .counters) (st .previous) (st .latest) (st .earlier)
-    ++ changeRuns (st .setup) (st .pending)
+    ++ (changeRuns (st .setup) (st .pending) ++ viewRuns (st .setup .partitionable) (st .setup .n) (st .counters .view) (st .views))
 
 -- all words: those of its setup, then the others
 abbrev pub imageRuns : State → List Run
@@ -53,6 +54,7 @@ stateOf s =
       latest = syndromeIn (wordAt s (latestAt front n));
       earlier = syndromeIn (wordAt s (earlierAt front n));
       pending = pendingIn s n (leftAt front n);
+      views = viewsIn (partitionableIn (wordAt s headAt)) s n (viewsAt front n (wordAt s (leftAt front n)));
     }
 
 -- ---- reading as a call, and the room that saving needs
@@ -65,7 +67,7 @@ loadOf image =
 
 -- how long the image of a state is, with so many rounds left
 abbrev pub stateLength : State → ℕ → ℕ
-stateLength st left = imageLength (frontOf (st .setup)) (st .setup .n) left
+stateLength st left = imageLength (frontOf (st .setup)) (st .setup .n) left (st .setup .partitionable)
 
 -- the output has the length of the state's image
 unfoldable pub roomFor : State → List ℕ → Bool

@@ -2,6 +2,7 @@ pub mod Opening
 pub mod Image
 pub mod Valid
 pub mod Step
+pub mod Shown
 pub mod Change
 pub mod Outgoing
 pub mod RoundTrip

@@ -1,4 +1,4 @@
--- Opening a module from a setup and its own number. (document 01, "One step", last paragraph; number 7)
+-- Opening a module from a setup and its own number. (document 01, "One step", last paragraph; number 7; document 02, E11: the views)
 use Prim.Native.Nat.{ℕ}
 use mathlib.Core.Bool.{cond}
 use mathlib.Core.List.{List}
@@ -11,11 +11,12 @@ use Rattle.setup.specs.Check.{setupVerdict}
 use Rattle.words.specs.declared.Verdict.{Verdict}
 use Rattle.setup.specs.declared.Setup.{Setup}
 use Rattle.changes.specs.Pending.{nothing}
+use Rattle.views.specs.Views.{noViews, freshViews}
 use Rattle.image.specs.Counters.{zeroCounters}
 use Rattle.presence.specs.declared.State.{State}
 use Rattle.presence.specs.declared.Opened.{Opened}
 
--- a fresh module: all-ones syndromes and rows, all heard, zero counters, full view, no pending change
+-- a fresh module: all-ones syndromes and rows, all heard, zero counters, full view, no pending change; where the setup is partitionable, full views
 unfoldable pub fresh : Setup → ℕ → State
 fresh s own = record {
   setup = s;
@@ -25,6 +26,7 @@ fresh s own = record {
   latest = full (s .n);
   earlier = full (s .n);
   pending = nothing;
+  views = freshViews (s .partitionable) (s .n);
 }
 
 -- What a refused opening or reading holds, which document 01 leaves free: all zeros. A step of it is refused by 2 at 0, since no setup has N = 0.
@@ -39,6 +41,7 @@ blank =
       latest = 0;
       earlier = 0;
       pending = nothing;
+      views = noViews;
     }
 
 -- numbers 2, 4 to 6 and 22 of the setup, then 7 with index 0

@@ -6,6 +6,7 @@ use lib.ListN.{getD, length}
 use Rattle.words.specs.Verdict.{accepted}
 use Rattle.setup.specs.RoundTrip.{ShapedSetup}
 use Rattle.setup.specs.declared.Setup.{Setup}
+use Rattle.views.specs.Views.{ShapedViews}
 use Rattle.image.specs.Counters.{ShapedCounters}
 use Rattle.image.specs.Check.{checkImage}
 use Rattle.presence.specs.Valid.{Valid}
@@ -21,6 +22,7 @@ pub record Shaped (st : State) : Type 0 where
   pub rows : length (st .previous .rows) ≡ 16
   pub counters : ShapedCounters (st .counters)
   pub pending : length (st .pending .criticality) ≡ 16
+  pub views : ShapedViews (st .views)
 
 -- of every state, and of all bytes
 pub record RoundTrip : Type 0 where

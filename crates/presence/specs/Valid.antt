@@ -11,6 +11,7 @@ use Rattle.words.specs.declared.Verdict.{Verdict}
 use Rattle.setup.specs.Limits.{mostModules, fades}
 use Rattle.setup.specs.Check.{setupVerdict}
 use Rattle.changes.specs.Pending.{pendingRoomy}
+use Rattle.views.specs.Section.{viewsRoomy}
 use Rattle.image.specs.Words.{vectorUnit}
 use Rattle.image.specs.Rows.{rowsRoomy}
 use Rattle.image.specs.Counters.{countersRoomy}
@@ -18,12 +19,14 @@ use Rattle.image.specs.Check.{checkTail}
 use Rattle.presence.specs.Image.{imageRuns, imageOf, roomFor}
 use Rattle.presence.specs.declared.State.{State}
 
--- every field has room in its word, and the previous read, the counters and the pending change hold nothing from N on: no word of an image shows it
+-- every field has room in its word, and the previous read, the counters, the pending change and the views hold nothing from N on: no word
+-- of an image shows it
 unfoldable pub roomy : State → Bool
 roomy st =
     ((leb (st .own) mostModules && ltb (st .counters .view) vectorUnit) && (ltb (st .latest) vectorUnit && ltb (st .earlier) vectorUnit))
     && (rowsRoomy (st .setup .n) (st .previous)
-    && (countersRoomy (fades (st .setup .limits)) (st .setup .n) (st .counters) && pendingRoomy (st .setup .n) (st .pending)))
+    && (countersRoomy (fades (st .setup .limits)) (st .setup .n) (st .counters)
+    && (pendingRoomy (st .setup .n) (st .pending) && viewsRoomy (st .setup .partitionable) (st .setup .n) (st .views))))
 
 -- the verdict on a state: that on its setup, 8 with index 0 where its words would not show it, then that on its words
 unfoldable pub stateVerdict : State → Verdict

@@ -50,6 +50,7 @@ impl State {
         let setup = self.setup;
         let counters = self.counters;
         let previous = self.previous;
+        let views = self.views;
         let pending = pending_of(new, lead);
         let state = State {
             setup,
@@ -59,6 +60,7 @@ impl State {
             latest: self.latest,
             earlier: self.earlier,
             pending,
+            views,
         };
         Changed {
             number: v.number,

@@ -14,9 +14,10 @@ use accounts::Counters;
 use changes::Pending;
 use rules::Reading;
 use setup::Setup;
+use views::Views;
 
-// A module's state: its setup, its own number, its counters, its previous read, the last two syndromes that it computed, and the change of limits that
-// is pending.
+// A module's state: its setup, its own number, its counters, its previous read, the last two syndromes that it computed, the change of limits that is
+// pending, and, where the setup is partitionable, what it holds of views.
 pub struct State {
     setup: Setup,
     own: usize,
@@ -25,6 +26,7 @@ pub struct State {
     latest: u32,
     earlier: u32,
     pending: Pending,
+    views: Views,
 }
 
 // What an opening answers.
@@ -41,13 +43,15 @@ pub struct Changed {
     pub state: State,
 }
 
-// What a step answers: the word is the one handed out for the bus, the causes are the codes of this read, as it came (0 to 3).
+// What a step answers: the word and the second word, which holds the local view, are those handed out for the bus, the second 0 where the setup is not
+// partitionable; the causes are the codes of this read, as it came (0 to 3).
 pub struct Stepped {
     pub number: u32,
     pub index: u32,
     pub health: u32,
     pub accusations: [u32; 16],
     pub word: u32,
+    pub second: u32,
     pub causes: [u32; 16],
     pub state: State,
 }

@@ -10,10 +10,16 @@ use image::lent_counters;
 use image::load_accounts;
 use image::load_rows;
 use image::load_words;
+use image::views_at;
+use image::views_good;
 use rules::Reading;
 use setup::bounds::fades_at;
 use setup::bounds::front_words;
 use setup::read::load_setup;
+use views::Views;
+use views::after::no_views;
+use views::section::load_views;
+use words::word::word_at;
 ghost use mathlib.Core.Path.{_≡_};
 ghost use mathlib.Core.Bool.{true};
 ghost use Prim.Native.Nat.{_≤_};
@@ -22,8 +28,9 @@ ghost use Rattle.words.specs.Word.{wordAt};
 ghost use Rattle.words.specs.Verdict.{allRight};
 ghost use Rattle.setup.specs.Layout.{frontWords};
 ghost use Rattle.setup.specs.Limits.{mostReturnLimit};
-ghost use Rattle.setup.specs.Setup.{sizeIn, fadesIn, returnLimitIn};
-ghost use Rattle.image.specs.Layout.{leftAt, imageLength};
+ghost use Rattle.setup.specs.Setup.{sizeIn, partitionableIn, fadesIn, returnLimitIn};
+ghost use Rattle.views.specs.Section.{viewsIn};
+ghost use Rattle.image.specs.Layout.{leftAt, viewsAt, imageLength};
 ghost use Rattle.image.specs.Check.{imageTests, checkImage};
 ghost use Rattle.presence.specs.Opening.{blank as blankState};
 ghost use Rattle.presence.specs.Image.{stateOf, loadOf};
@@ -34,9 +41,20 @@ struct Loaded {
     state: State,
 }
 
+// The views of an image, by head bit 5.
+fn views_of(s: &[u8], partitionable: bool, front: usize, n: usize, left: u32) -> Views
+    requires { ⌜ (front ≤ 6) × (n ≤ 16) × (length (now s) ≡ imageLength front n left partitionable) ⌝ }
+    ensures { λ r. ⌜ r ≡ viewsIn partitionable (now (s .entry)) n (viewsAt front n left) ⌝ }
+{
+    if partitionable {
+        return load_views(s, n, views_at(front, n, left));
+    }
+    no_views()
+}
+
 // Whether all words are right, and then the state, in an image whose head and length are.
 fn load(s: &[u8], fades: bool, n: usize) -> Loaded
-    requires { ⌜ (n ≤ 16) × (length (now s) ≡ imageLength (frontWords fades) n (wordAt (now s) (leftAt (frontWords fades) n))) × (n ≡ sizeIn (wordAt (now s) 0)) × (fades ≡ fadesIn (wordAt (now s)))
+    requires { ⌜ (n ≤ 16) × (length (now s) ≡ imageLength (frontWords fades) n (wordAt (now s) (leftAt (frontWords fades) n)) (partitionableIn (wordAt (now s) 0))) × (n ≡ sizeIn (wordAt (now s) 0)) × (fades ≡ fadesIn (wordAt (now s)))
         × (returnLimitIn (wordAt (now s) 0) ≤ mostReturnLimit) ⌝ }
     ensures { λ r. ⌜ (r .good ≡ allRight (imageTests (now (s .entry)) n)) × (r .good ≡ true → r .state ≡ stateOf (now (s .entry))) ⌝ }
 {
@@ -70,8 +88,11 @@ fn load(s: &[u8], fades: bool, n: usize) -> Loaded
     let at = left_at(front, n);
     let change = check_change(s, fades, n, at);
     let pending = load_change(s, n, at);
+    let left = word_at(s, at);
+    let agreed = views_good(s, setup.partitionable, front, n, alone.view, left);
+    let views = views_of(s, setup.partitionable, front, n, left);
     Loaded {
-        good: alone.good & (read.good & (right & (change.number == 0))),
+        good: alone.good & (read.good & (right & ((change.number == 0) & agreed))),
         state: State {
             setup,
             own: alone.own,
@@ -83,6 +104,7 @@ fn load(s: &[u8], fades: bool, n: usize) -> Loaded
             latest: alone.latest,
             earlier: alone.earlier,
             pending,
+            views,
         },
     }
 }

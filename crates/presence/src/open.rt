@@ -5,6 +5,8 @@ use changes::change::nothing;
 use image::zero_counters;
 use rules::Reading;
 use setup::Setup;
+use views::after::fresh_views;
+use views::after::no_views;
 use words::array::filled;
 use words::bits::full_of;
 ghost use mathlib.Core.Path.{_≡_};
@@ -12,7 +14,7 @@ ghost use Prim.Native.Nat.{_≤_};
 ghost use Rattle.presence.specs.Opening.{fresh, blank, openOf};
 
 impl State {
-    // A fresh module: all-ones syndromes and rows, all heard, zero counters, full view, no pending change.
+    // A fresh module: all-ones syndromes and rows, all heard, zero counters, full view, no pending change, full views.
     fn fresh(setup: Setup, own: usize) -> State
         requires { ⌜ setup .n ≤ 16 ⌝ }
         ensures { λ r. ⌜ r ≡ fresh setup own ⌝ }
@@ -22,6 +24,7 @@ impl State {
         let counters = zero_counters(full);
         let rows = filled(n, full);
         let pending = nothing();
+        let views = fresh_views(setup.partitionable, n);
         State {
             setup,
             own,
@@ -30,6 +33,7 @@ impl State {
             latest: full,
             earlier: full,
             pending,
+            views,
         }
     }
 
@@ -41,6 +45,7 @@ impl State {
         let counters = zero_counters(0);
         let zeros = [0u32; 16];
         let pending = nothing();
+        let views = no_views();
         State {
             setup,
             own: 0,
@@ -52,6 +57,7 @@ impl State {
             latest: 0,
             earlier: 0,
             pending,
+            views,
         }
     }
 

@@ -10,6 +10,7 @@ use image::rows_roomy;
 use setup::bounds::fades;
 use setup::bounds::front_words;
 use setup::layout::MOST_MODULES;
+use views::section::views_roomy;
 use words::Verdict;
 use words::check::refusal;
 ghost use mathlib.Core.Path.{_≡_};
@@ -36,7 +37,8 @@ fn roomy(state: State) -> bool
     let own = (state.own <= MOST_MODULES) & (counters.view < VECTOR);
     let alone = own & ((state.latest < VECTOR) & (state.earlier < VECTOR));
     let pending = state.pending;
-    let held = pending_roomy(n, pending);
+    let views = state.views;
+    let held = pending_roomy(n, pending) & views_roomy(setup.partitionable, n, views);
     alone & (rows_roomy(n, previous) & (counters_roomy(fades(limits), n, counters) & held))
 }
 
@@ -67,8 +69,9 @@ impl State {
         }
         // room for the longest image
         let limits = setup.limits;
-        let mut out = [0u8; 432];
-        let k = image_length(front_words(fades(limits)), setup.n, pending.left);
+        let mut out = [0u8; 512];
+        let front = front_words(fades(limits));
+        let k = image_length(front, setup.n, pending.left, setup.partitionable);
         image_verdict(self, &mut out[..k])
     }
 }

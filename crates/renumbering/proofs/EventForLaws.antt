@@ -1,4 +1,5 @@
--- What the events of a renumbered script do in each round: the word from sender j to receiver i has the fate that it had before the renumbering.
+-- What the events of a renumbered script do in each round: the word from sender j to receiver i, and its view word, have the fate that they had before
+-- the renumbering.
 -- It goes by which events count (script/specs/Effect.antt), without playing.
 use Prim.Native.Nat.{ℕ, zero, suc, _+_, _-_, _/_, _≤_, _<_}
 use mathlib.Core.Path.{_≡_, refl, sym, ap, ap₂, _∙_, subst}
@@ -7,25 +8,25 @@ use mathlib.Core.Bool.{Bool, true, false, cond, not, _&&_}
 use mathlib.Core.List.{List}
 use native.Mathlib.Omega.{arith}
 use native.Mathlib.Nat.{eq-or-lt-of-le}
-use native.Mathlib.Numerals.{add-one}
 use lib.Dec.{eqb, leb}
 use lib.ListN.{length}
-use borrow.Author.Tests.{eqb-true, eq-eqb, leb-true, le-leb, leb-false, not-true}
+use borrow.Author.Tests.{eqb-true, leb-true, leb-false}
 use Rattle.words.specs.Word.{wordAt}
 use Rattle.words.specs.Bits.{bit}
-use Rattle.words.proofs.Truth.{which, clash, and-l, and-r, and-true}
+use Rattle.words.proofs.Truth.{which, clash, and-l, and-r}
 use Rattle.setup.specs.Setup.{sizeIn}
-use Rattle.script.specs.Words.{kindOf, senderIn, receiversIn, roundsIn}
+use Rattle.script.specs.Words.{isPartitionable, kindOf, senderIn, receiversIn, roundsIn, toldWords, dueAfter, isPlay}
 use Rattle.script.specs.Check.{checkScript}
 use Rattle.script.specs.Rounds.{roundsOf}
-use Rattle.script.specs.Effect.{fateIn, toldIn, afterCast, toldAt, playAt, roundsBefore, Counts, Effect}
+use Rattle.script.specs.Effect.{fateIn, toldIn, toldViewIn, afterCast, dueAt, toldAt, playAt, roundsBefore, Counts, Effect}
 use Rattle.script.proofs.ScanLaws.{event-sender}
 use Rattle.script.proofs.CastLaws.{events-count}
+use Rattle.script.proofs.EffectLaws.{told-next, told-second}
 use Rattle.renumbering.specs.Renumbering.{Renumbering, wordFor}
 use Rattle.renumbering.specs.Scripts.{scriptFor}
 use Rattle.renumbering.proofs.VectorForLaws.{vector-bit}
 use Rattle.renumbering.proofs.ScriptWordLaws.{sender-below, event-sends, event-receives}
-use Rattle.renumbering.proofs.ScriptForLaws.{few, count′, events-at′}
+use Rattle.renumbering.proofs.ScriptForLaws.{few, count′, partitionable′, events-at′}
 use Rattle.renumbering.proofs.LastEventLaws.{Last, last-or-none, over-fate}
 use Rattle.renumbering.proofs.ScanForLaws.{ToldWord, PlayWord, EventWord, sort-at, told-end, rounds′}
 
@@ -51,36 +52,47 @@ module _ (s : List ℕ) (ok : checkScript s .number ≡ 0) (π : Renumbering (si
       go (inr (inl q)) = ap kindOf (q .is)
       go (inr (inr q)) = q .same-kind
 
-  -- word w of a script comes after the cast, is no told word, and has the kind c
-  abbrev plainKind : List ℕ → ℕ → ℕ → Bool
-  plainKind t c w = leb (afterCast t) w && (not (toldAt t w) && eqb (kindOf (wordAt t w)) c)
+  -- the same where word w comes after the cast and no told word is due at it; elsewhere its kind does not matter
+  kind-when : (w : ℕ) → w < count → leb (afterCast s) w ≡ true → eqb (dueAt s w) 0 ≡ true → kindOf (wordAt s′ w) ≡ kindOf (wordAt s w)
+  kind-when w h p q = kind′ w (leb-true (afterCast s) w p) h (ap not q)
 
-  kind-test : (c w : ℕ) → w < count → toldAt s′ w ≡ toldAt s w → plainKind s′ c w ≡ plainKind s c w
-  kind-test c w h e =
-      ap₂ (λ (a : ℕ) (t : Bool). leb a w && (not t && eqb (kindOf (wordAt s′ w)) c)) after′ e
-      ∙ go (leb (afterCast s) w) (toldAt s w) refl refl
+  due′ : (w : ℕ) → w ≤ count → dueAt s′ w ≡ dueAt s w
+  unfolding dueAt dueAfter
+  due′ zero h = refl
+  due′ (suc w) h =
+      (λ t. cond (leb (after′ t) w)
+      (cond (eqb (due′ w (omega arith) t) 0) (cond (eqb (kindOf (wordAt s′ w)) 8) (toldWords (partitionable′ s ok π t)) 0) (due′ w (omega arith) t - 1)) 0)
+      ∙ go (leb (afterCast s) w) (eqb (dueAt s w) 0) (kind-when w (omega arith))
     where
-      go : (a t : Bool) → leb (afterCast s) w ≡ a → toldAt s w ≡ t
-          → a && (not t && eqb (kindOf (wordAt s′ w)) c) ≡ a && (not t && eqb (kindOf (wordAt s w)) c)
-      go true true x y = refl
-      go true false x y = ap (λ (z : ℕ). eqb z c) (kind′ w (leb-true (afterCast s) w x) h y)
-      go false t x y = refl
+      due : Bool → Bool → ℕ → ℕ
+      due a z kind = cond a (cond z (cond (eqb kind 8) (toldWords (isPartitionable s)) 0) (dueAt s w - 1)) 0
+
+      go : (a z : Bool) → (a ≡ true → z ≡ true → kindOf (wordAt s′ w) ≡ kindOf (wordAt s w)) → due a z (kindOf (wordAt s′ w)) ≡ due a z (kindOf (wordAt s w))
+      go true true e = ap (due true true) (e refl refl)
+      go true false e = refl
+      go false z e = refl
 
   told′ : (w : ℕ) → w ≤ count → toldAt s′ w ≡ toldAt s w
-  unfolding toldAt
-  told′ zero h = refl
-  told′ (suc w) h = kind-test 8 w (omega arith) (told′ w (omega arith))
+  told′ w h = ap (λ (d : ℕ). not (eqb d 0)) (due′ w h)
 
   play′ : (w : ℕ) → w < count → playAt s′ w ≡ playAt s w
-  unfolding playAt
-  play′ w h = kind-test 9 w h (told′ w (omega arith))
+  unfolding playAt isPlay
+  play′ w h =
+      (λ t. leb (after′ t) w && (eqb (due′ w (omega arith) t) 0 && eqb (kindOf (wordAt s′ w)) 9))
+      ∙ go (leb (afterCast s) w) (eqb (dueAt s w) 0) (kind-when w h)
+    where
+      go : (a z : Bool) → (a ≡ true → z ≡ true → kindOf (wordAt s′ w) ≡ kindOf (wordAt s w))
+          → a && (z && eqb (kindOf (wordAt s′ w)) 9) ≡ a && (z && eqb (kindOf (wordAt s w)) 9)
+      go true true e = ap (λ (k : ℕ). eqb k 9) (e refl refl)
+      go true false e = refl
+      go false z e = refl
 
   play-word : (w : ℕ) → w < count → playAt s w ≡ true → wordAt s′ w ≡ wordAt s w
-  unfolding playAt
+  unfolding playAt isPlay
   play-word w h t =
       let l = leb-true (afterCast s) w (and-l (leb (afterCast s) w) _ t) in
       let a = and-r (leb (afterCast s) w) _ t in
-      go (not-true (toldAt s w) (and-l (not (toldAt s w)) _ a)) (and-r (not (toldAt s w)) _ a) (sort-at s ok π w l h)
+      go (ap not (and-l (eqb (dueAt s w) 0) _ a)) (and-r (eqb (dueAt s w) 0) _ a) (sort-at s ok π w l h)
     where
       go : toldAt s w ≡ false → eqb (kindOf (wordAt s w)) 9 ≡ true → ToldWord s ok π w ⊎ (PlayWord s ok π w ⊎ EventWord s ok π w)
           → wordAt s′ w ≡ wordAt s w
@@ -165,39 +177,48 @@ module _ (s : List ℕ) (ok : checkScript s .number ≡ 0) (π : Renumbering (si
 
     -- ---- the fate of a word
 
-    abbrev Same : Type 0
-    Same =
-        (fateIn s′ k (π .to i) (π .to j) ≡ fateIn s k i j)
-        × (fateIn s k i j ≡ 8 → toldIn s′ k (π .to i) (π .to j) ≡ wordFor n π (toldIn s k i j))
+    pub record Same : Type 0 where
+      pub fate : fateIn s′ k (π .to i) (π .to j) ≡ fateIn s k i j
+      pub told : fateIn s k i j ≡ 8 → toldIn s′ k (π .to i) (π .to j) ≡ wordFor n π (toldIn s k i j)
+      pub told-view : isPartitionable s ≡ true → fateIn s k i j ≡ 8 → toldViewIn s′ k (π .to i) (π .to j) ≡ wordFor n π (toldViewIn s k i j)
 
-    -- the word after a lie is its told word
-    told-word : (w : ℕ) → w < count → Counts s k i j w → kindOf (wordAt s w) ≡ 8 → wordAt s′ (w + 1) ≡ wordFor n π (wordAt s (w + 1))
-    unfolding toldAt
-    told-word w h c e =
-        let t : toldAt s (w + 1) ≡ true
-        = ap (toldAt s) (add-one w)
-        ∙ and-true _ _ (le-leb (afterCast s) w (c .after)) (and-true _ _ (ap not (c .plain)) (eq-eqb (kindOf (wordAt s w)) 8 e)) in
-        let l = c .after in
-        ⊎-elim (λ (z : w + 1 ≡ count). clash (toldAt s count) (ap (toldAt s) (sym z) ∙ t) (told-end s ok π))
-        (λ (z : w + 1 < count). go t (sort-at s ok π (w + 1) (omega arith) z))
-        (eq-or-lt-of-le (omega arith))
+    -- a told word is there, and renumbered
+    told-word : (w : ℕ) → afterCast s ≤ w → w ≤ count → toldAt s w ≡ true → (w < count) × (wordAt s′ w ≡ wordFor n π (wordAt s w))
+    told-word w l h t =
+        ⊎-elim (λ (z : w ≡ count). clash (toldAt s count) (ap (toldAt s) (sym z) ∙ t) (told-end s ok π))
+        (λ (z : w < count). (z, go (sort-at s ok π w l z)))
+        (eq-or-lt-of-le h)
       where
-        go : toldAt s (w + 1) ≡ true → ToldWord s ok π (w + 1) ⊎ (PlayWord s ok π (w + 1) ⊎ EventWord s ok π (w + 1))
-            → wordAt s′ (w + 1) ≡ wordFor n π (wordAt s (w + 1))
-        go t (inl q) = q .is
-        go t (inr (inl q)) = clash (toldAt s (w + 1)) t (q .plain)
-        go t (inr (inr q)) = clash (toldAt s (w + 1)) t (q .plain)
+        go : ToldWord s ok π w ⊎ (PlayWord s ok π w ⊎ EventWord s ok π w) → wordAt s′ w ≡ wordFor n π (wordAt s w)
+        go (inl q) = q .is
+        go (inr (inl q)) = clash (toldAt s w) t (q .plain)
+        go (inr (inr q)) = clash (toldAt s w) t (q .plain)
+
+    -- the word after a lie is its told word, and where the setup is partitionable the next one its told view word
+    module _ (w : ℕ) (h : w < count) (c : Counts s k i j w) (e : kindOf (wordAt s w) ≡ 8) where
+      first-told : (w + 1 < count) × (wordAt s′ (w + 1) ≡ wordFor n π (wordAt s (w + 1)))
+      first-told = let l = c .after in told-word (w + 1) (omega arith) (omega arith) (told-next s w (c .after) (c .plain) e)
+
+      second-told : isPartitionable s ≡ true → wordAt s′ (w + 2) ≡ wordFor n π (wordAt s (w + 2))
+      second-told p =
+          let l = c .after in
+          let b = first-told .0 in
+          told-word (w + 2) (omega arith) (omega arith) (told-second s w (c .after) (c .plain) e ∙ p) .1
 
     module _ (ok′ : checkScript s′ .number ≡ 0) where
-      abbrev effect : k ≤ roundsOf s → Effect s k i j count (fateIn s k i j) (toldIn s k i j)
+      abbrev effect : k ≤ roundsOf s → Effect s k i j count (fateIn s k i j) (toldIn s k i j) (toldViewIn s k i j)
       effect h = let m = few s ok π in events-count s ok .events k h i j (omega arith) (omega arith)
 
-      effect′ : k ≤ roundsOf s → Effect s′ k (π .to i) (π .to j) count (fateIn s′ k (π .to i) (π .to j)) (toldIn s′ k (π .to i) (π .to j))
+      abbrev Effect′ : ℕ → Type 0
+      Effect′ c =
+          Effect s′ k (π .to i) (π .to j) c (fateIn s′ k (π .to i) (π .to j)) (toldIn s′ k (π .to i) (π .to j)) (toldViewIn s′ k (π .to i) (π .to j))
+
+      effect′ : k ≤ roundsOf s → Effect′ count
       effect′ h =
           let m = few s ok π in
           let a = π .to-below i hi in
           let b = π .to-below j hj in
-          subst (λ (c : ℕ). Effect s′ k (π .to i) (π .to j) c (fateIn s′ k (π .to i) (π .to j)) (toldIn s′ k (π .to i) (π .to j))) (count′ s ok π)
+          subst Effect′ (count′ s ok π)
           (events-count s′ ok′ .events k (rw (rounds′ s ok π) h) (π .to i) (π .to j) (omega arith) (omega arith))
 
       by-last : k ≤ roundsOf s → Last s k i j count → Same
@@ -205,17 +226,27 @@ module _ (s : List ℕ) (ok : checkScript s .number ≡ 0) (π : Renumbering (si
           let w = l .word in
           let (x, y) = effect h .last w (l .below) (l .counts) (l .none-later) in
           let (x′, y′) = effect′ h .last w (l .below) (counts-to w (l .below) (l .counts)) (λ v a b c. l .none-later v a b (counts-from v b c)) in
-          let e = kind′ w (l .counts .after) (l .below) (l .counts .plain) in (
-            x′ ∙ e ∙ sym x,
-            λ z. let eight = sym x ∙ z in
-                y′ (e ∙ eight) ∙ told-word w (l .below) (l .counts) eight ∙ ap (wordFor n π) (sym (y eight)),
-          )
+          let e = kind′ w (l .counts .after) (l .below) (l .counts .plain) in
+          record {
+            fate = x′ ∙ e ∙ sym x;
+            told = λ z.
+                let eight = sym x ∙ z in
+                y′ (e ∙ eight) .word ∙ first-told w (l .below) (l .counts) eight .1 ∙ ap (wordFor n π) (sym (y eight .word));
+            told-view = λ p z.
+                let eight = sym x ∙ z in
+                y′ (e ∙ eight) .view-word (partitionable′ s ok π ∙ p) ∙ second-told w (l .below) (l .counts) eight p
+                ∙ ap (wordFor n π) (sym (y eight .view-word p));
+          }
+
+      -- no event decides
+      by-fate : fateIn s k i j ≡ 0 → fateIn s′ k (π .to i) (π .to j) ≡ 0 → Same
+      by-fate x x′ = record { fate = x′ ∙ sym x; told = λ z. absurd (omega arith); told-view = λ p z. absurd (omega arith) }
 
       by-none : k ≤ roundsOf s → ((w : ℕ) → w < count → Counts s k i j w → ⊥) → Same
       by-none h o =
           let x = effect h .as-sent o in
           let x′ = effect′ h .as-sent (λ w b c. o w b (counts-from w b c)) in
-          (x′ ∙ sym x, λ z. absurd (omega arith))
+          by-fate x x′
 
       by-end : roundsOf s < k → Same
       by-end h =
@@ -224,7 +255,7 @@ module _ (s : List ℕ) (ok : checkScript s .number ≡ 0) (π : Renumbering (si
           let b = π .to-below j hj in
           let x = over-fate s ok k i j h (omega arith) (omega arith) in
           let x′ = over-fate s′ ok′ k (π .to i) (π .to j) (rw (rounds′ s ok π) h) (omega arith) (omega arith) in
-          (x′ ∙ sym x, λ z. absurd (omega arith))
+          by-fate x x′
 
       pub fate-for : Same
       fate-for =

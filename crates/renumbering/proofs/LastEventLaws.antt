@@ -12,10 +12,10 @@ use borrow.Author.Tests.{eqb-true, eq-eqb, leb-true, le-leb, not-true}
 use Rattle.words.specs.Word.{wordAt}
 use Rattle.words.specs.Bits.{bit}
 use Rattle.words.proofs.Truth.{which, clash, and-l, and-r, and-true, or-l, or-r, or-cases}
-use Rattle.script.specs.Words.{kindOf, senderIn, receiversIn, roundsIn}
+use Rattle.script.specs.Words.{isPartitionable, kindOf, senderIn, receiversIn, roundsIn, dueAfter, isPlay}
 use Rattle.script.specs.Check.{checkScript}
 use Rattle.script.specs.Events.{none}
-use Rattle.script.specs.Cursor.{isPlay, lieAfter, eventsAfter, gather, advanced, cursorAt, start}
+use Rattle.script.specs.Cursor.{eventsAfter, gather, advanced, cursorAt, start}
 use Rattle.script.specs.Rounds.{roundsOf}
 use Rattle.script.specs.Effect.{fateIn, afterCast, toldAt, roundsBefore, Counts}
 use Rattle.script.specs.declared.Events.{Events}
@@ -93,14 +93,14 @@ module _ (s : List ℕ) (k i j : ℕ) where
 
 -- ---- a script that is over has no events
 
-gather-none : (s : List ℕ) (words at lie : ℕ) (e : Events) → gather s words at lie e .over ≡ true → gather s words at lie e .events ≡ none
+gather-none : (s : List ℕ) (words at due : ℕ) (e : Events) → gather s words at due e .over ≡ true → gather s words at due e .events ≡ none
 unfolding gather
-gather-none s zero at lie e t = refl
-gather-none s (suc words) at lie e t =
-    go (isPlay lie (wordAt s at)) t (gather-none s words (at + 1) (lieAfter lie (wordAt s at)) (eventsAfter lie (wordAt s at) e))
+gather-none s zero at due e t = refl
+gather-none s (suc words) at due e t =
+    go (isPlay due (wordAt s at)) t (gather-none s words (at + 1) (dueAfter (isPartitionable s) due (wordAt s at)) (eventsAfter s due at e))
   where
     later : Cursor
-    later = gather s words (at + 1) (lieAfter lie (wordAt s at)) (eventsAfter lie (wordAt s at) e)
+    later = gather s words (at + 1) (dueAfter (isPartitionable s) due (wordAt s at)) (eventsAfter s due at e)
 
     next : Bool → Cursor
     next b = cond b (record { at = at + 1; left = roundsIn (wordAt s at) - 1; over = false; events = e }) later

@@ -1,6 +1,7 @@
 pub mod PermutationLaws
 pub mod VectorForLaws
 pub mod WordForLaws
+pub mod ViewForLaws
 pub mod StepForLaws
 pub mod LimitForLaws
 pub mod ZeroLagLaws

@@ -8,9 +8,9 @@ use native.Mathlib.Nat.{lt-suc-self}
 use lib.Dec.{eqb}
 use borrow.Author.Tests.{eqb-true, ne-eqb, eq-eqb}
 use Rattle.words.specs.Bits.{b2n}
-use Rattle.words.specs.Count.{count, any}
+use Rattle.words.specs.Count.{count, any, all}
 use Rattle.words.proofs.Truth.{which, and-true, iff-eq}
-use Rattle.words.proofs.CountLaws.{count-mono, count-ext, count-split, count-pos, any-intro, any-witness}
+use Rattle.words.proofs.CountLaws.{count-mono, count-ext, count-split, count-pos, any-intro, any-witness, all-at, all-intro}
 use Rattle.vote.specs.Vote.{tally}
 use Rattle.renumbering.specs.Renumbering.{Renumbering}
 
@@ -63,6 +63,12 @@ module _ (n : ℕ) (π : Renumbering n) where
         (λ t. let (l, h, e) = any-witness n p′ t in any-intro n p (π .from l) (π .from-below l h) (sym (same l h) ∙ e))
         (λ t. let (l, h, e) = any-witness n p t in
         any-intro n p′ (π .to l) (π .to-below l h) (same (π .to l) (π .to-below l h) ∙ ap p (π .from-to l h) ∙ e))
+
+    pub all-renumbered : all n p′ ≡ all n p
+    all-renumbered =
+        iff-eq (all n p′) (all n p)
+        (λ t. all-intro n p (λ l h. ap p (sym (π .from-to l h)) ∙ sym (same (π .to l) (π .to-below l h)) ∙ all-at n p′ t (π .to l) (π .to-below l h)))
+        (λ t. all-intro n p′ (λ l h. same l h ∙ all-at n p t (π .from l) (π .from-below l h)))
 
   -- a vote with the same rows under other numbers
   pub tally-renumbered : (p q p′ q′ : ℕ → Bool) (own own′ : Bool) → ((l : ℕ) → l < n → p′ l ≡ p (π .from l))

@@ -55,6 +55,11 @@ renumbers-images S setup up unoffered z π S′ r =
           let kept′ = demand-3-c .kept S′ setup′ up′ (π .to i) (below′ up′ i below) k h′ os′ image′ l′ in
           ap (λ (x : WordAnswer). x .word) (kept′ .outgoing) ∙ p .handed i k below
           ∙ ap (wordFor (size S) π) (sym (ap (λ (x : WordAnswer). x .word) (kept .outgoing)));
+      outgoing-view = λ setup′ up′ i k h h′ os os′ image image′ below l l′.
+          let kept = demand-3-c .kept S setup up i below k h os image l in
+          let kept′ = demand-3-c .kept S′ setup′ up′ (π .to i) (below′ up′ i below) k h′ os′ image′ l′ in
+          ap (λ (x : WordAnswer). x .word) (kept′ .outgoing-view) ∙ p .view-handed i k below
+          ∙ ap (wordFor (size S) π) (sym (ap (λ (x : WordAnswer). x .word) (kept .outgoing-view)));
     }
   where
     below′ : {setup′ : List ℕ} → SetUp S′ setup′ → (i : ℕ) → i < size S → π .to i < size S′

@@ -1,34 +1,34 @@
 -- The check of a renumbered script goes as that of the script: no word is refused, and the plays have as many rounds.
 use Prim.Native.Nat.{ℕ, zero, suc, _+_, _-_, _*_, _/_, _≤_, _<_}
 use mathlib.Core.Path.{_≡_, refl, sym, ap, ap₂, _∙_, subst}
-use mathlib.Core.Bool.{true, false}
+use mathlib.Core.Bool.{Bool, true, false, cond, not}
 use mathlib.Core.Logic.{_⊎_, inl, inr, ⊎-elim}
 use mathlib.Core.List.{List, [], _∷_}
 use native.Mathlib.Omega.{arith}
 use lib.Dec.{eqb, leb, ltb}
 use lib.ListN.{length}
-use borrow.Author.Tests.{lt-ltb, le-leb}
+use borrow.Author.Tests.{lt-ltb, le-leb, not-true}
 use Rattle.words.specs.Word.{wordAt}
 use Rattle.words.specs.Verdict.{verdict, accepted, single, andThen, outcome}
 use Rattle.words.specs.declared.Verdict.{Verdict}
-use Rattle.words.proofs.Truth.{which, cond-true, cond-false}
+use Rattle.words.proofs.Truth.{which, not-neither, cond-true, cond-false}
 use Rattle.words.proofs.VerdictLaws.{Passed, and-then-next, single-ok, tests-ok}
 use Rattle.setup.specs.Setup.{sizeIn, placeIn}
 use Rattle.setup.specs.Check.{checkWords, checkFront}
 use Rattle.setup.proofs.SetupCheckLaws.{WordsFit, head-ok, words-ok}
-use Rattle.script.specs.Words.{castAt, eventsAt, mostBytes, kindOf, castIn, castOk, eventOk}
+use Rattle.script.specs.Words.{castAt, eventsAt, isPartitionable, mostBytes, kindOf, castIn, castOk, eventOk, toldWords}
 use Rattle.script.specs.Check.{eventRefusal, wordRefusal, scanned, scan, unscanned, checkCast, checkPlay, checkScript}
 use Rattle.script.specs.Told.{castOf}
 use Rattle.script.specs.Rounds.{lastScan, roundsOf}
 use Rattle.script.specs.Effect.{toldAt}
 use Rattle.script.specs.declared.Scan.{Scan}
 use Rattle.script.proofs.ScanLaws.{scan-step}
-use Rattle.script.proofs.AheadLaws.{Ahead, ahead-next, ahead-ends, scanned-told, scanned-event, refusal-play, refusal-event}
-use Rattle.script.proofs.EffectLaws.{Linked, linked-next, play-kind, told-first, rounds-first}
+use Rattle.script.proofs.AheadLaws.{Ahead, ahead-next, ahead-ends, scanned-told, scanned-event, refusal-told, refusal-play, refusal-event}
+use Rattle.script.proofs.EffectLaws.{Linked, linked-next, told-is, play-kind, due-first, rounds-first}
 use Rattle.renumbering.specs.Renumbering.{Renumbering, vectorFor, wordFor}
 use Rattle.renumbering.specs.Scripts.{eventWordFor, playWordFor, scriptFor}
 use Rattle.renumbering.proofs.ScriptWordLaws.{cast-vector, cast-ok, event-kind, taken-ok, event-taken}
-use Rattle.renumbering.proofs.ScriptForLaws.{fits, few, cast-within, length′, count′, start, word-cast, word-after, size′, cast-at′, events-at′, head′, words′}
+use Rattle.renumbering.proofs.ScriptForLaws.{fits, few, cast-within, length′, count′, start, word-cast, word-after, size′, partitionable′, cast-at′, events-at′, head′, words′}
 
 module _ (s : List ℕ) (ok : checkScript s .number ≡ 0) (π : Renumbering (sizeIn (wordAt s 0))) where
   abbrev n : ℕ
@@ -52,11 +52,11 @@ module _ (s : List ℕ) (ok : checkScript s .number ≡ 0) (π : Renumbering (si
   first = record { within = cast-within s ok π; taken = fits s ok π .words; last = refl }
 
   first-linked : Linked s (eventsAt s) unscanned
-  first-linked = record { after = omega arith; told = sym (told-first s); rounds = sym (rounds-first s (eventsAt s) (omega arith)) }
+  first-linked = record { after = omega arith; due = sym (due-first s); rounds = sym (rounds-first s (eventsAt s) (omega arith)) }
 
   -- ---- one word
 
-  -- a told word
+  -- a told word, or a told view word
   pub record ToldWord (at : ℕ) : Type 0 where
     pub told : toldAt s at ≡ true
     pub is : wordAt s′ at ≡ wordFor n π (wordAt s at)
@@ -89,54 +89,73 @@ module _ (s : List ℕ) (ok : checkScript s .number ≡ 0) (π : Renumbering (si
     taken-here : wordRefusal n (castOf s) sc w ≡ 0
     taken-here = ahead-next s n (castOf s) count (roundsOf s) at sc h a .0
 
-    event-here : sc .told ≡ false → eqb (kindOf w) 9 ≡ false → EventWord at
+    -- whether a told word is due
+    told-here : eqb (sc .due) 0 ≡ false → toldAt s at ≡ true
+    told-here f = told-is s at sc l ∙ ap not f
+
+    plain-here : eqb (sc .due) 0 ≡ true → toldAt s at ≡ false
+    plain-here z = told-is s at sc l ∙ ap not z
+
+    due-here : toldAt s at ≡ true → eqb (sc .due) 0 ≡ false
+    due-here t = not-true _ (sym (told-is s at sc l) ∙ t)
+
+    none-here : toldAt s at ≡ false → eqb (sc .due) 0 ≡ true
+    none-here f = not-neither _ (sym (told-is s at sc l) ∙ f)
+
+    event-here : eqb (sc .due) 0 ≡ true → eqb (kindOf w) 9 ≡ false → EventWord at
     unfolding playWordFor
-    event-here f p =
-        let z = sym (refusal-event sc w n (castOf s) f p) ∙ taken-here in
+    event-here d p =
+        let z = sym (refusal-event sc w n (castOf s) d p) ∙ taken-here in
         let o = taken-ok n π (few s ok π) (castOf s) w z in
         let q : w′ ≡ eventWordFor n π w
-        = word-after s ok π at (l .after) h ∙ cond-false _ _ (sym (l .told) ∙ f) ∙ cond-false _ _ (play-kind s at sc l f ∙ p) in
-        record { plain = sym (l .told) ∙ f; kind = p; taken = z; fits = o; is = q; same-kind = ap kindOf q ∙ event-kind n π (few s ok π) w o }
+        = word-after s ok π at (l .after) h ∙ cond-false _ _ (plain-here d) ∙ cond-false _ _ (play-kind s at sc l d ∙ p) in
+        record { plain = plain-here d; kind = p; taken = z; fits = o; is = q; same-kind = ap kindOf q ∙ event-kind n π (few s ok π) w o }
 
     sort : Sort at
     unfolding playWordFor
     sort =
         ⊎-elim
-        (λ (t : sc .told ≡ true).
-        inl (record { told = sym (l .told) ∙ t; is = word-after s ok π at (l .after) h ∙ cond-true _ _ (sym (l .told) ∙ t) }))
-        (λ (f : sc .told ≡ false).
+        (λ (z : eqb (sc .due) 0 ≡ true).
         inr (⊎-elim
         (λ (p : eqb (kindOf w) 9 ≡ true).
         inl (record {
-          plain = sym (l .told) ∙ f;
+          plain = plain-here z;
           kind = p;
-          is = word-after s ok π at (l .after) h ∙ cond-false _ _ (sym (l .told) ∙ f) ∙ cond-true _ _ (play-kind s at sc l f ∙ p);
+          is = word-after s ok π at (l .after) h ∙ cond-false _ _ (plain-here z) ∙ cond-true _ _ (play-kind s at sc l z ∙ p);
         }))
-        (λ (p : eqb (kindOf w) 9 ≡ false). inr (event-here f p))
+        (λ (p : eqb (kindOf w) 9 ≡ false). inr (event-here z p))
         (which (eqb (kindOf w) 9))))
-        (which (sc .told))
+        (λ (f : eqb (sc .due) 0 ≡ false).
+        inl (record { told = told-here f; is = word-after s ok π at (l .after) h ∙ cond-true _ _ (told-here f) }))
+        (which (eqb (sc .due) 0))
 
     -- the scan goes on as before
-    scanned-same : Sort at → scanned sc w′ ≡ scanned sc w
-    scanned-same (inl q) =
-        let t = l .told ∙ q .told in
-        scanned-told sc w′ t ∙ sym (scanned-told sc w t)
-    scanned-same (inr (inl q)) = ap (scanned sc) (q .is)
-    scanned-same (inr (inr q)) =
-        let f = l .told ∙ q .plain in
-        let e = q .same-kind in
-        scanned-event sc w′ f (ap (λ (x : ℕ). eqb x 9) e ∙ q .kind)
-        ∙ ap (λ (x : ℕ). record { told = eqb x 8; pending = true; rounds = sc .rounds }) e ∙ sym (scanned-event sc w f (q .kind))
+    scanned-same : Sort at → scanned (isPartitionable s′) sc w′ ≡ scanned (isPartitionable s) sc w
+    scanned-same q = ap (λ (b : Bool). scanned b sc w′) (partitionable′ s ok π) ∙ go q
+      where
+        pairs : Bool
+        pairs = isPartitionable s
+
+        go : Sort at → scanned pairs sc w′ ≡ scanned pairs sc w
+        go (inl q) =
+            let f = due-here (q .told) in
+            scanned-told pairs sc w′ f ∙ sym (scanned-told pairs sc w f)
+        go (inr (inl q)) = ap (scanned pairs sc) (q .is)
+        go (inr (inr q)) =
+            let z = none-here (q .plain) in
+            let e = q .same-kind in
+            scanned-event pairs sc w′ z (ap (λ (x : ℕ). eqb x 9) e ∙ q .kind)
+            ∙ ap (λ (x : ℕ). record { due = cond (eqb x 8) (toldWords pairs) 0; pending = true; rounds = sc .rounds }) e
+            ∙ sym (scanned-event pairs sc w z (q .kind))
 
     -- and refuses nothing
     taken-same : Sort at → wordRefusal n cast′ sc w′ ≡ 0
-    unfolding wordRefusal
-    taken-same (inl q) = cond-true _ _ (l .told ∙ q .told)
+    taken-same (inl q) = refusal-told sc w′ n cast′ (due-here (q .told))
     taken-same (inr (inl q)) =
-        let f = l .told ∙ q .plain in
+        let f = none-here (q .plain) in
         ap (wordRefusal n cast′ sc) (q .is) ∙ refusal-play sc w n cast′ f (q .kind) ∙ sym (refusal-play sc w n (castOf s) f (q .kind)) ∙ taken-here
     taken-same (inr (inr q)) =
-        let f = l .told ∙ q .plain in
+        let f = none-here (q .plain) in
         refusal-event sc w′ n cast′ f (ap (λ (x : ℕ). eqb x 9) (q .same-kind) ∙ q .kind)
         ∙ ap (eventRefusal n cast′) (q .is) ∙ event-taken n π (few s ok π) (castOf s) w (q .taken)
 
@@ -158,7 +177,7 @@ module _ (s : List ℕ) (ok : checkScript s .number ≡ 0) (π : Renumbering (si
       let k = known m (omega arith) in
       rw e
       (record {
-        scan = scanned (k .scan) (wordAt s at);
+        scan = scanned (isPartitionable s) (k .scan) (wordAt s at);
         linked = linked-next s at (k .scan) (k .linked);
         rest = ahead-next s n (castOf s) count (roundsOf s) at (k .scan) (omega arith) (k .rest) .1;
       })
@@ -176,7 +195,8 @@ module _ (s : List ℕ) (ok : checkScript s .number ≡ 0) (π : Renumbering (si
 
   -- no told word is missing at the end
   end-known : Known count → toldAt s count ≡ false
-  end-known k = sym (k .linked .told) ∙ ahead-ends s n (castOf s) count (roundsOf s) (k .scan) (k .rest) .0
+  end-known k =
+      told-is s count (k .scan) (k .linked) ∙ ap (λ (d : ℕ). not (eqb d 0)) (ahead-ends s n (castOf s) count (roundsOf s) (k .scan) (k .rest) .0)
 
   pub told-end : toldAt s count ≡ false
   told-end = end-known (known-at count (cast-within s ok π) (omega arith))
@@ -192,7 +212,7 @@ module _ (s : List ℕ) (ok : checkScript s .number ≡ 0) (π : Renumbering (si
       let q = sort at sc h l a in
       let b = ahead-next s n (castOf s) count (roundsOf s) at sc h a .1 in
       let same = scanned-same at sc h l a q in
-      let (x, y) = scan-for words (at + 1) (scanned sc (wordAt s at)) (omega arith) (linked-next s at sc l) b in (
+      let (x, y) = scan-for words (at + 1) (scanned (isPartitionable s) sc (wordAt s at)) (omega arith) (linked-next s at sc l) b in (
         ap (λ (v : Verdict). v .number)
             (scan-step s′ n cast′ count at sc h
             ∙ and-then-next (verdict _ at) _ (taken-same at sc h l a q)

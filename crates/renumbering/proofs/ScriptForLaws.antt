@@ -16,13 +16,13 @@ use Rattle.words.proofs.Truth.{and-r, and-true}
 use Rattle.words.proofs.BitLaws.{pack-ext}
 use Rattle.words.proofs.RunLaws.{Follows, runs-length, runs-follow}
 use Rattle.setup.specs.Layout.{frontWords, setupWords}
-use Rattle.setup.specs.Setup.{sizeIn, returnLimitIn, markIn, placeIn, criticalityIn, fadesIn, frontIn, limitsIn, setupOf}
+use Rattle.setup.specs.Setup.{sizeIn, returnLimitIn, partitionableIn, markIn, placeIn, criticalityIn, fadesIn, frontIn, limitsIn, setupOf}
 use Rattle.setup.specs.Check.{headOk, limitTests, moduleFits, moduleOk, markOk}
 use Rattle.setup.specs.declared.Limits.{Limits}
 use Rattle.setup.specs.declared.Setup.{Setup}
 use Rattle.setup.proofs.BoundLaws.{front-least, limits-same, right-same, fades-same}
 use Rattle.setup.proofs.SetupCheckLaws.{HeadFits, WordsFit}
-use Rattle.script.specs.Words.{castAt, eventsAt, castIn}
+use Rattle.script.specs.Words.{castAt, eventsAt, isPartitionable, castIn}
 use Rattle.script.specs.Check.{checkScript}
 use Rattle.script.specs.Told.{castOf}
 use Rattle.script.proofs.CastLaws.{ScriptFits, script-pass}
@@ -38,6 +38,7 @@ setupBy : ℕ → ℕ → Limits → (ℕ → ℕ) → Setup
 setupBy n front limits words = record {
   n = n;
   q = returnLimitIn (words 0);
+  partitionable = partitionableIn (words 0);
   limits = limits;
   marks = pack n (λ j. markIn (words (front + j)));
   places = array n (λ j. placeIn (words (front + j)));
@@ -49,6 +50,7 @@ abbrev pub setupWith : ℕ → (ℕ → ℕ) → Setup
 setupWith n words = record {
   n = n;
   q = returnLimitIn (words 0);
+  partitionable = partitionableIn (words 0);
   limits = limitsIn (fadesIn words) words;
   marks = pack n (λ j. markIn (words (frontIn words + j)));
   places = array n (λ j. placeIn (words (frontIn words + j)));
@@ -129,6 +131,9 @@ module _ (s : List ℕ) (ok : checkScript s .number ≡ 0) (π : Renumbering (si
   pub size′ : sizeIn (wordAt s′ 0) ≡ n
   size′ = ap sizeIn (word-front 0 (omega (arith, three)))
 
+  pub partitionable′ : isPartitionable s′ ≡ isPartitionable s
+  partitionable′ = ap partitionableIn (word-front 0 (omega (arith, three)))
+
   -- it counts or fades as before, and so do its places
   form′ : fadesIn (wordAt s′) ≡ fadesIn (wordAt s)
   form′ = fades-same (wordAt s′) (wordAt s) (word-front 1 (omega (arith, three)))
@@ -166,6 +171,7 @@ module _ (s : List ℕ) (ok : checkScript s .number ≡ 0) (π : Renumbering (si
       ∙ λ i. record {
         n = n;
         q = returnLimitIn (word-front 0 (omega (arith, three)) i);
+        partitionable = partitionable′ i;
         limits = limitsIn (fadesIn (wordAt s)) (wordAt s);
         marks = marks-for i;
         places =

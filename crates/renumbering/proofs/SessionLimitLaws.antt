@@ -12,7 +12,7 @@ use Rattle.rules.specs.Hearing.{entryOf}
 use Rattle.rules.specs.declared.Entry.{Entry}
 use Rattle.presence.specs.declared.State.{State}
 use Rattle.agreement.specs.Fault.{limit}
-use Rattle.agreement.specs.Session.{Session, Accepted, size, u, follows, RuleFollower, bitIn, wordIn, round, sent, Bound, viewOf, keptBy, kept}
+use Rattle.agreement.specs.Session.{Session, Accepted, size, u, follows, RuleFollower, bitIn, wordIn, viewWordIn, hearsView, round, sent, Bound, viewWordSent, BoundViews, viewOf, keptBy, kept}
 use Rattle.agreement.specs.Existence.{NoChanges}
 use Rattle.agreement.proofs.Demand.{demand-3}
 use Rattle.agreement.proofs.Without.{common-without}
@@ -21,7 +21,7 @@ use Rattle.renumbering.specs.Sessions.{Renumbered}
 use Rattle.renumbering.proofs.VectorForLaws.{vector-bit}
 use Rattle.renumbering.proofs.LimitForLaws.{RoundFor, limit-for, no-followers}
 use Rattle.renumbering.proofs.SetupForLaws.{straight′}
-use Rattle.renumbering.proofs.SessionForLaws.{S′, ok′, word-for, entry-at, state-for, sent-for}
+use Rattle.renumbering.proofs.SessionForLaws.{S′, ok′, word-for, view-for, hears-view-for, entry-at, state-for, sent-for, view-sent-for}
 
 -- without rule-followers the limit is kept
 alone : (S : Session) (ρ : ℕ) → ((j : ℕ) → j < size S → follows S j ≡ false) → kept S ρ ≡ true
@@ -71,6 +71,23 @@ module _ (S : Session) (ok : Accepted S) (unoffered : NoChanges S) (zero-u : u S
       ∙ limit-for n π (follows S) (follows R) follows-for (round S ρ) (round R ρ) (round S (ρ - u S - 1)) (round R (ρ - u S - 1))
       (round-for ρ) (round-for (ρ - u S - 1)) (bit (viewOf S i (ρ + u S - 1))) (bit (viewOf R (π .to i) (ρ + u S - 1)))
       (λ j h. ap (λ (st : State). bit (st .counters .view) j) (state-for S ok unoffered zero-u π T r i below (ρ + u S - 1)) ∙ vector-bit n π _ j h)
+
+  pub bound-views′ : (last : ℕ) → BoundViews S last → BoundViews R last
+  bound-views′ last bound p k i l pos hk fi fl t =
+      let bi = π .from-below i (fi .below) in
+      let bl = π .from-below l (fl .below) in
+      let heard : hearsView S k (π .from i) (π .from l) ≡ true
+      = sym (hears-view-for S ok unoffered zero-u π T r p k (π .from i) (π .from l) bi bl)
+      ∙ ap₂ (hearsView R k) (π .to-from i (fi .below)) (π .to-from l (fl .below)) ∙ t in
+      let said : viewWordIn S k (π .from i) (π .from l) ≡ viewWordSent S (π .from l) k
+      = bound p k (π .from i) (π .from l) pos hk (follower-from i fi) (follower-from l fl) heard in
+      ap₂ (viewWordIn R k) (sym (π .to-from i (fi .below))) (sym (π .to-from l (fl .below)))
+      ∙ view-for S ok unoffered zero-u π T r p k (π .from i) (π .from l) bi bl ∙ ap (wordFor n π) said ∙ resent k pos l (fl .below)
+    where
+      resent : (k : ℕ) → 0 < k → (l : ℕ) → l < n → wordFor n π (viewWordSent S (π .from l) k) ≡ viewWordSent R l k
+      resent zero pos l h = absurd (omega arith)
+      resent (suc k) pos l h =
+          sym (view-sent-for S ok unoffered zero-u π T r (π .from l) (π .from-below l h) k) ∙ ap (λ (m : ℕ). viewWordSent R m (suc k)) (π .to-from l h)
 
   module _ (last : ℕ) (bound : Bound S last) where
     pub bound′ : Bound R last

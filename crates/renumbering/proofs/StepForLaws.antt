@@ -1,7 +1,7 @@
 -- Rules 4 to 8 and a whole round of a renumbered module, where u is 0.
 use Prim.Native.Nat.{ℕ, _+_, _-_, _≤_, _<_}
 use mathlib.Core.Path.{_≡_, sym, ap, ap₂, _∙_}
-use mathlib.Core.Bool.{Bool, false, cond, not, _&&_, Bool·beq}
+use mathlib.Core.Bool.{Bool, true, false, cond, not, _&&_, Bool·beq}
 use mathlib.Core.List.{List}
 use lib.ListN.{getD}
 use Rattle.words.specs.Bits.{bit, pack}
@@ -22,12 +22,17 @@ use Rattle.rules.proofs.AlignmentLaws.{aligned-heard, aligned-row}
 use Rattle.rules.proofs.SyndromeLaws.{voter-bit, health-lt, syndrome-lt, health-bit, syndrome-bit}
 use Rattle.changes.specs.Pending.{nothing, countedDown}
 use Rattle.changes.specs.Books.{turned, counted, booksAfter}
-use Rattle.presence.specs.Step.{ownSyndrome, alignedFor, judgementFor, afterRound}
+use Rattle.views.specs.ViewWord.{alignedViews}
+use Rattle.views.specs.Views.{noViews, viewsAfter}
+use Rattle.views.specs.declared.Views.{Views}
+use Rattle.views.proofs.ViewWordLaws.{aligned-at}
+use Rattle.presence.specs.Step.{ownSyndrome, alignedFor, judgementFor, votedViews, viewsFor, afterRound}
 use Rattle.presence.specs.declared.State.{State}
-use Rattle.renumbering.specs.Renumbering.{Renumbering, vectorFor, arrayFor, rowsFor}
-use Rattle.renumbering.specs.States.{setupFor, readingFor, countersFor, stateFor}
+use Rattle.renumbering.specs.Renumbering.{Renumbering, vectorFor, arrayFor, rowsFor, wordFor, viewWordsFor}
+use Rattle.renumbering.specs.States.{setupFor, readingFor, countersFor, heldViewsFor, stateFor}
 use Rattle.renumbering.proofs.PermutationLaws.{eqb-renumbered, any-renumbered, tally-renumbered}
 use Rattle.renumbering.proofs.VectorForLaws.{zeros-for, vector-bit, vector-by, vector-pack, array-entry, rows-entry, array-pack, doubles-entry, doubles-pack}
+use Rattle.renumbering.proofs.ViewForLaws.{view-words-entry, views-after-for, no-views-for}
 
 -- with u = 0 nothing comes from the previous read
 module _ (n : ℕ) (skew : Bool) (place : ℕ) (previous this : Reading) (straight : skew ≡ false) (j : ℕ) (h : j < n) where
@@ -40,6 +45,12 @@ module _ (n : ℕ) (skew : Bool) (place : ℕ) (previous this : Reading) (straig
   straight-row small =
       aligned-row n skew place previous this j h small
       ∙ ap (λ (b : Bool). cond (fromPrevious b place j) (getD (previous .rows) j 0) (getD (this .rows) j 0)) straight
+
+straight-views : (n : ℕ) (skew : Bool) (place : ℕ) (previous this : List ℕ) → skew ≡ false → (j : ℕ) → j < n → n ≤ 16
+    → getD (alignedViews n skew place previous this) j 0 ≡ getD this j 0
+straight-views n skew place previous this straight j h small =
+    aligned-at n previous this skew place j h small
+    ∙ ap (λ (b : Bool). cond (fromPrevious b place j) (getD previous j 0) (getD this j 0)) straight
 
 module _ (n : ℕ) (π : Renumbering n) (small : n ≤ 16) where
   -- ---- what is renumbered bit by bit
@@ -136,15 +147,18 @@ module _ (s : Setup) (π : Renumbering (s .n)) (small : s .n ≤ 16) where
 
   -- ---- a round, where u is 0 before and after, and nothing is pending
   module _ (straight : skewed (s .n) (s .places) ≡ false) (straight′ : skewed (s .n) (arrayFor (s .n) π (s .places)) ≡ false)
-      (own : ℕ) (c : Counters) (previous : Reading) (latest earlier : ℕ) (this : Reading) where
+      (own : ℕ) (c : Counters) (previous : Reading) (latest earlier : ℕ) (v : Views) (this : Reading) (seen : List ℕ) where
     abbrev before : State
-    before = record { setup = s; own = own; counters = c; previous = previous; latest = latest; earlier = earlier; pending = nothing }
+    before = record { setup = s; own = own; counters = c; previous = previous; latest = latest; earlier = earlier; pending = nothing; views = v }
 
     abbrev before′ : State
     before′ = stateFor (s .n) π before
 
     abbrev this′ : Reading
     this′ = readingFor (s .n) π this
+
+    abbrev seen′ : List ℕ
+    seen′ = viewWordsFor (s .n) π seen
 
     aligned-hears : Vector (s .n) π small (alignedFor before this .heard) (alignedFor before′ this′ .heard)
     unfolding alignedFor
@@ -178,8 +192,25 @@ module _ (s : Setup) (π : Renumbering (s .n)) (small : s .n ≤ 16) where
         ap (λ (h : ℕ). countersOf (setupFor (s .n) π s) h (countersFor (s .n) π c)) judged-health
         ∙ counters-for (judgementFor before this .health) c
 
+    -- the view words that it votes on, and what it then holds of views
+    voted-for : (l : ℕ) → l < s .n → getD (votedViews before′ seen′) l 0 ≡ wordFor (s .n) π (getD (votedViews before seen) (π .from l) 0)
+    unfolding votedViews
+    voted-for l h =
+        straight-views (s .n) _ _ _ _ straight′ l h small ∙ view-words-entry (s .n) π small seen l h
+        ∙ ap (wordFor (s .n) π) (sym (straight-views (s .n) _ _ _ _ straight (π .from l) (π .from-below l h) small))
+
+    views-for : viewsFor before′ seen′ ≡ heldViewsFor (s .n) π (viewsFor before seen)
+    unfolding viewsFor
+    views-for = go (s .partitionable)
+      where
+        go : (b : Bool)
+            → cond b (viewsAfter (s .n) (heldViewsFor (s .n) π v) (votedViews before′ seen′) seen′ (vectorFor (s .n) π (c .view))) noViews
+            ≡ heldViewsFor (s .n) π (cond b (viewsAfter (s .n) v (votedViews before seen) seen (c .view)) noViews)
+        go true = views-after-for (s .n) π (votedViews before seen) (votedViews before′ seen′) voted-for v seen (c .view)
+        go false = no-views-for (s .n) π small
+
     -- the state after the round, and the health vector
-    pub round-for : (afterRound before′ this′ ≡ stateFor (s .n) π (afterRound before this))
+    pub round-for : (afterRound before′ this′ seen′ ≡ stateFor (s .n) π (afterRound before this seen))
         × (judgementFor before′ this′ .health ≡ vectorFor (s .n) π (judgementFor before this .health))
     unfolding afterRound booksAfter counted turned countedDown nothing
     round-for = (
@@ -191,6 +222,7 @@ module _ (s : Setup) (π : Renumbering (s .n)) (small : s .n ≤ 16) where
         latest = judged-syndrome i;
         earlier = vectorFor (s .n) π latest;
         pending = record { left = 0; p = 0; r = 0; criticality = zeros-for (s .n) π small i };
+        views = views-for i;
       },
       judged-health,
     )

@@ -1,7 +1,7 @@
--- Rule 2 of a renumbered word: it is heard, or not for the same cause, and its row is renumbered.
+-- Rule 2 of a renumbered word: it is heard, or not for the same cause, and its row is renumbered. So is a view word and its view.
 use Prim.Native.Nat.{ℕ, zero, suc, _+_, _-_, _*_, _/_, _%_, _^_, _≤_, _<_}
 use mathlib.Core.Path.{_≡_, refl, sym, ap, ap₂, _∙_}
-use mathlib.Core.Bool.{Bool}
+use mathlib.Core.Bool.{Bool, true, false, cond, not, _&&_}
 use native.Mathlib.Omega.{arith}
 use native.Mathlib.Nat.{add-comm, mul-assoc, mod-lt}
 use lib.Dec.{eqb, ltb}
@@ -15,7 +15,9 @@ use Rattle.rules.specs.Causes.{causeOf}
 use Rattle.rules.specs.declared.Reception.{Reception}
 use Rattle.rules.specs.declared.Reception.the-variants.{Heard, ControllerLoss, WrongKind, StrayBits}
 use Rattle.rules.specs.declared.Entry.{Entry}
-use Rattle.rules.proofs.ReceptionLaws.{word-lost, word-other, word-stray, word-clean, word-cases, row-of-bus, below-kind}
+use Rattle.rules.proofs.ReceptionLaws.{word-lost, word-other, word-stray, word-clean, word-cases, below-kind}
+use Rattle.views.specs.ViewWord.{viewWord, viewWordHeard, viewEntry}
+use Rattle.views.specs.Adoption.{isThere}
 use Rattle.renumbering.specs.Renumbering.{Renumbering, vectorFor, wordFor}
 use Rattle.renumbering.proofs.VectorForLaws.{vector-bit, vector-lt, vector-by, vector-zero}
 
@@ -46,6 +48,14 @@ module _ (n : ℕ) (π : Renumbering n) where
   word-bit w j h =
       ap (λ (x : ℕ). bit x j) (add-comm (w / 2 ^ n * 2 ^ n) (vectorFor n π w))
       ∙ bit-low (w / 2 ^ n) (vectorFor n π w) n j h ∙ vector-bit n π w j h
+
+  -- 0, where no view word is there
+  pub word-zero : wordFor n π 0 ≡ 0
+  unfolding wordFor
+  word-zero =
+      let e : 0 ≡ 0 * 2 ^ n + 0 = omega arith in
+      let z : 0 / 2 ^ n ≡ 0 = ap (λ (x : ℕ). x / 2 ^ n) e ∙ high 0 n (pow-pos n) in
+      ap₂ (λ (x y : ℕ). x * 2 ^ n + y) z (vector-zero n π) ∙ sym e
 
   -- what is read of a word, with its row renumbered
   unfoldable receptionFor : Reception → Reception
@@ -120,24 +130,46 @@ module _ (n : ℕ) (π : Renumbering n) where
         ap (λ (x : Reception). record { heard = isHeard x; row = heardRow x }) (reception-for on w)
         ∙ ap₂ (λ (b : Bool) (v : ℕ). record { heard = b; row = v }) (heard-same r) (row-same r)
 
-    -- ---- the word of a syndrome
+    -- ---- the word of a syndrome, and that of a view
 
-    bus-vector : (v : ℕ) → v < 2 ^ n → vectorFor n π (busWord v) ≡ vectorFor n π v
+    kind-vector : (c v : ℕ) → v < 2 ^ n → vectorFor n π (c * 2 ^ 28 + v) ≡ vectorFor n π v
     unfolding vectorFor
-    bus-vector v h =
+    kind-vector c v h =
+        let e : (c * 2 ^ 28 + v) % 2 ^ 28 ≡ v = low c 28 (below-kind n v small h) in
         pack-ext n _ _ (λ j l. let b = π .from-below j l in
-        sym (bit-mod 28 (busWord v) (π .from j) (omega arith)) ∙ ap (λ (x : ℕ). bit x (π .from j)) (row-of-bus v (below-kind n v small h)))
+        sym (bit-mod 28 (c * 2 ^ 28 + v) (π .from j) (omega arith)) ∙ ap (λ (x : ℕ). bit x (π .from j)) e)
+
+    kind-for : (c v : ℕ) → v < 2 ^ n → wordFor n π (c * 2 ^ 28 + v) ≡ c * 2 ^ 28 + vectorFor n π v
+    unfolding wordFor
+    kind-for c v h =
+        let e : 28 - n + n ≡ 28 = omega arith in
+        let q = c * 2 ^ (28 - n) in
+        let s : c * 2 ^ 28 ≡ q * 2 ^ n
+        = ap (λ (m : ℕ). c * 2 ^ m) (sym e) ∙ ap (λ (x : ℕ). c * x) (pow-add 2 (28 - n) n) ∙ sym (mul-assoc c (2 ^ (28 - n)) (2 ^ n)) in
+        let d : (c * 2 ^ 28 + v) / 2 ^ n ≡ q = ap (λ (x : ℕ). (x + v) / 2 ^ n) s ∙ high q n h in
+        ap₂ (λ (x y : ℕ). x * 2 ^ n + y) d (kind-vector c v h) ∙ ap (λ (x : ℕ). x + vectorFor n π v) (sym s)
 
     pub bus-for : (v : ℕ) → v < 2 ^ n → wordFor n π (busWord v) ≡ busWord (vectorFor n π v)
-    unfolding wordFor busWord
-    bus-for v h =
-        let e : 28 - n + n ≡ 28 = omega arith in
-        let q = 5 * 2 ^ (28 - n) in
-        let s : 5 * 2 ^ 28 ≡ q * 2 ^ n
-        = ap (λ (m : ℕ). 5 * 2 ^ m) (sym e) ∙ ap (λ (x : ℕ). 5 * x) (pow-add 2 (28 - n) n) ∙ sym (mul-assoc 5 (2 ^ (28 - n)) (2 ^ n)) in
-        let d : (5 * 2 ^ 28 + v) / 2 ^ n ≡ q = ap (λ (x : ℕ). (x + v) / 2 ^ n) s ∙ high q n h in
-        let rest : vectorFor n π (5 * 2 ^ 28 + v) ≡ vectorFor n π v = bus-vector v h in
-        ap₂ (λ (x y : ℕ). x * 2 ^ n + y) d rest ∙ ap (λ (x : ℕ). x + vectorFor n π v) (sym s)
+    unfolding busWord
+    bus-for v h = kind-for 5 v h
+
+    pub view-word-for : (v : ℕ) → v < 2 ^ n → wordFor n π (viewWord v) ≡ viewWord (vectorFor n π v)
+    view-word-for v h = kind-for 10 v h
+
+    -- ---- a view word is heard as before
+
+    pub view-heard-for : (w : ℕ) → viewWordHeard n (wordFor n π w) ≡ viewWordHeard n w
+    unfolding viewWordHeard
+    view-heard-for w = ap₂ (λ (k : ℕ) (b : Bool). eqb k 10 && b) (word-kind w) (word-rest w)
+
+    pub view-entry-for : (on : Bool) (w : ℕ) → viewEntry n on (wordFor n π w) ≡ wordFor n π (viewEntry n on w)
+    unfolding viewEntry
+    view-entry-for on w =
+        ap (λ (b : Bool). cond (on && b) (wordFor n π w) 0) (view-heard-for w) ∙ go (on && viewWordHeard n w)
+      where
+        go : (b : Bool) → cond b (wordFor n π w) 0 ≡ wordFor n π (cond b w 0)
+        go true = refl
+        go false = sym word-zero
 
   -- ---- words that are renumbered alike were alike
 
@@ -159,3 +191,6 @@ module _ (n : ℕ) (π : Renumbering n) where
   word-eqb w v =
       iff-eq (eqb (wordFor n π w) (wordFor n π v)) (eqb w v) (λ t. eq-eqb w v (word-inj w v (eqb-true _ _ t)))
       (λ t. eq-eqb _ _ (ap (wordFor n π) (eqb-true w v t)))
+
+  pub word-there : (w : ℕ) → isThere (wordFor n π w) ≡ isThere w
+  word-there w = ap (λ (z : ℕ). not (eqb (wordFor n π w) z)) (sym word-zero) ∙ ap not (word-eqb w 0)

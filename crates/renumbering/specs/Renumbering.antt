@@ -38,3 +38,7 @@ module _ (n : ℕ) (π : Renumbering n) where
   -- a word of any bits: its n low bits as a vector, the others as they are
   unfoldable pub wordFor : ℕ → ℕ
   wordFor w = w / 2 ^ n * 2 ^ n + vectorFor w
+
+  -- an array with a view word for each module: each in its module's place, and renumbered itself; one that is missing, 0, stays 0
+  unfoldable pub viewWordsFor : List ℕ → List ℕ
+  viewWordsFor a = array n (λ j. wordFor (getD a (π .from j) 0))

@@ -1,10 +1,10 @@
--- The same for a C caller, whose state is its saved image. (document 02, E8) Proved in proofs/SameImages.antt.
+-- The same for a C caller, whose state is its saved image. (document 02, E8 and E11) Proved in proofs/SameImages.antt.
 use Prim.Native.Nat.{ℕ, _<_}
 use mathlib.Core.Path.{_≡_}
 use mathlib.Core.List.{List}
 use Rattle.setup.specs.Setup.{setupBytes}
 use Rattle.presence.specs.Image.{imageOf, stateOf}
-use Rattle.calls.specs.Calls.{outgoingCall}
+use Rattle.calls.specs.Calls.{outgoingCall, outgoingViewCall}
 use Rattle.agreement.specs.Session.{Offer, Session, size, u}
 use Rattle.agreement.specs.Existence.{NoChanges}
 use Rattle.agreement.specs.Images.{ImageLife, SetUp}
@@ -24,6 +24,10 @@ pub record SameImages (S : Session) (setup : List ℕ) (π : Renumbering (size S
   pub outgoing : (setup′ : List ℕ) → SetUp S′ setup′ → (i k h h′ : ℕ) (os os′ : List Offer) (image image′ : List ℕ) → i < size S
       → ImageLife S setup i k os image h → ImageLife S′ setup′ (π .to i) k os′ image′ h′
       → outgoingCall image′ .word ≡ wordFor (size S) π (outgoingCall image .word)
+  -- and so is the view word; without head bit 5 there is none, 0, before and after
+  pub outgoing-view : (setup′ : List ℕ) → SetUp S′ setup′ → (i k h h′ : ℕ) (os os′ : List Offer) (image image′ : List ℕ) → i < size S
+      → ImageLife S setup i k os image h → ImageLife S′ setup′ (π .to i) k os′ image′ h′
+      → outgoingViewCall image′ .word ≡ wordFor (size S) π (outgoingViewCall image .word)
 
 -- every renumbering of every session with an accepted setup whose u is 0, in which nobody is offered a change
 abbrev pub RenumbersImages : Type 0

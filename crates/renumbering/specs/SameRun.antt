@@ -1,4 +1,4 @@
--- Where u is 0, the bench plays a renumbered script as it plays the script, and prints the same lines renumbered. (document 02, E8)
+-- Where u is 0, the bench plays a renumbered script as it plays the script, and prints the same lines renumbered. (document 02, E8 and E11)
 -- Proved in proofs/SameRun.antt.
 use Prim.Native.Nat.{ℕ, zero, suc, _≤_, _<_}
 use mathlib.Core.Path.{_≡_}
@@ -8,6 +8,7 @@ use lib.ListN.{getD}
 use Rattle.words.specs.Word.{wordAt}
 use Rattle.setup.specs.Setup.{sizeIn, setupOf}
 use Rattle.rules.specs.Lag.{lag}
+use Rattle.presence.specs.Shown.{shownView}
 use Rattle.presence.specs.declared.State.{State}
 use Rattle.script.specs.Check.{checkScript}
 use Rattle.script.specs.Rounds.{roundsOf}
@@ -30,6 +31,10 @@ scriptSize s = sizeIn (wordAt s 0)
 abbrev pub stateIn : List ℕ → ℕ → ℕ → State
 stateIn s k i = stateAt (runAt s k .backplane .states) i
 
+-- the view that its line shows: the adopted one where the setup is partitionable, else the local view
+abbrev pub shownIn : List ℕ → ℕ → ℕ → ℕ
+shownIn s k i = shownView (stateIn s k i)
+
 -- the health vector that it answered
 abbrev pub healthIn : List ℕ → ℕ → ℕ → ℕ
 healthIn s k i = getD (runAt s k .backplane .health) i 0
@@ -41,10 +46,10 @@ keptIn s k = runAt s k .backplane .kept
 -- ---- the lines of a script of n modules, renumbered
 
 module _ (n : ℕ) (π : Renumbering n) (s : List ℕ) where
-  -- of round k: each module has the line of the module that it was, with its new number, and with health vector and view renumbered
+  -- of round k: each module has the line of the module that it was, with its new number, and with health vector and shown view renumbered
   unfoldable pub linesFor : ℕ → List ℕ
   linesFor k =
-      linesOf n k (keptIn s k) (λ i. vectorFor n π (healthIn s k (π .from i))) (λ i. vectorFor n π (stateIn s k (π .from i) .counters .view)) n
+      linesOf n k (keptIn s k) (λ i. vectorFor n π (healthIn s k (π .from i))) (λ i. vectorFor n π (shownIn s k (π .from i))) n
 
   -- of rounds 1 to k
   unfoldable pub linesToFor : ℕ → List ℕ
@@ -60,8 +65,12 @@ module _ (s : List ℕ) (π : Renumbering (scriptSize s)) where
 
   -- after round k; "the module" is `to i`, which was i
   pub record SameRound (k : ℕ) : Type 0 where
-    -- the module holds its state renumbered: the view, penalties, rewards, return counts, the previous read and both syndromes
+    -- the module holds its state renumbered: the view, penalties, rewards, return counts, the previous read, both syndromes, and what it holds of views
     pub states : (i : ℕ) → i < scriptSize s → stateIn renumberedScript k (π .to i) ≡ stateFor (scriptSize s) π (stateIn s k i)
+    -- so the view that its line shows is renumbered, and it is out or not as before
+    pub shown : (i : ℕ) → i < scriptSize s
+        → (shownIn renumberedScript k (π .to i) ≡ vectorFor (scriptSize s) π (shownIn s k i))
+        × (stateIn renumberedScript k (π .to i) .views .out ≡ stateIn s k i .views .out)
     -- it answered its health vector renumbered
     pub health : (i : ℕ) → i < scriptSize s → healthIn renumberedScript k (π .to i) ≡ vectorFor (scriptSize s) π (healthIn s k i)
     -- `in` and `out` stay

@@ -1,4 +1,4 @@
--- A run script renumbered, word by word. (document 02, E8)
+-- A run script renumbered, word by word. (document 02, E8; "E8 renumbers told views as well", E11)
 use Prim.Native.Nat.{ℕ, _+_, _-_, _*_, _/_}
 use mathlib.Core.Bool.{cond}
 use mathlib.Core.List.{List, [], _∷_}
@@ -23,7 +23,8 @@ module _ (n : ℕ) (π : Renumbering n) where
   unfoldable pub eventWordFor : ℕ → ℕ
   eventWordFor w = kindOf w * kindUnit + (π .to (senderIn w - 1) + 1) * numberUnit + vectorFor n π (receiversIn w)
 
-  -- word `at` of the script s, after the cast: a told word with its row renumbered, a play as it is, a loss or a lie
+  -- word `at` of the script s, after the cast: a told word with its row renumbered and, where the setup is partitionable, the told view word after it with
+  -- its view renumbered; a play as it is; a loss or a lie
   unfoldable pub playWordFor : List ℕ → ℕ → ℕ
   playWordFor s at =
       let w = wordAt s at in

@@ -2,7 +2,7 @@
 -- of two modules that change places. (document 02, E8) Proved in proofs/ZeroLag.antt.
 use Prim.Native.Nat.{ℕ, _-_, _<_}
 use mathlib.Core.Path.{_≡_}
-use mathlib.Core.Bool.{not, _&&_}
+use mathlib.Core.Bool.{false, not, _&&_}
 use mathlib.Core.List.{List, [], _∷_, _++_}
 use native.Mathlib.Omega.{arith}
 use lib.Dec.{eqb}
@@ -36,10 +36,11 @@ swapped = record {
 -- the read place of both is 1, and nobody hears module 1 in round 1
 abbrev pub lostRun : Session
 lostRun = record {
-  setup = record { n = 2; q = 0; limits = Counts 1 3; marks = 0; places = (1 ∷ 1 ∷ []) ++ replicate 14 0; criticality = (1 ∷ 1 ∷ []) ++ replicate 14 0 };
+  setup = record { n = 2; q = 0; partitionable = false; limits = Counts 1 3; marks = 0; places = (1 ∷ 1 ∷ []) ++ replicate 14 0; criticality = (1 ∷ 1 ∷ []) ++ replicate 14 0 };
   cast = 0;
   controller = λ k i j. not (eqb k 1 && eqb j 0);
   word = λ k i j. busWord 3;
+  view = λ k i j. 0;
   offers = λ k i. [];
 }
 

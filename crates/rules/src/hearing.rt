@@ -89,7 +89,7 @@ fn entry(n: usize, on: bool, w: u32) -> Entry
 
 // All modules of a read.
 pub fn reading(n: usize, read: &[u8], controller: u32) -> Reading
-    requires { ⌜ (n ≤ 16) × (length (now read) ≡ n * 4) ⌝ }
+    requires { ⌜ (n ≤ 16) × (n * 4 ≤ length (now read)) ⌝ }
     ensures { λ r. ⌜ r ≡ readingOf n (now (read .entry)) controller ⌝ }
 {
     let mut heard: u32 = 0;
@@ -104,7 +104,7 @@ pub fn reading(n: usize, read: &[u8], controller: u32) -> Reading
 
 // The causes of a read, by their codes; 0 from n on. They are found apart from the reading: who needs none does not pay for them.
 pub fn causes(n: usize, read: &[u8], controller: u32) -> [u32; 16]
-    requires { ⌜ (n ≤ 16) × (length (now read) ≡ n * 4) ⌝ }
+    requires { ⌜ (n ≤ 16) × (n * 4 ≤ length (now read)) ⌝ }
     ensures { λ r. ⌜ r ≡ causesOf n (now (read .entry)) controller ⌝ }
 {
     let mut causes = [0u32; 16];

@@ -74,7 +74,7 @@ pub fn judged_read(
     rows: &mut [u32; 16],
     this: &mut [u32; 16],
 ) -> Judged
-    requires { ⌜ (n ≤ 16) × (view < 2 ^ n) × (place < 31) × (length (now read) ≡ n * 4) × Filled n (now rows) × (now this ≡ array 0 (λ _. 0)) ⌝ }
+    requires { ⌜ (n ≤ 16) × (view < 2 ^ n) × (place < 31) × (n * 4 ≤ length (now read)) × Filled n (now rows) × (now this ≡ array 0 (λ _. 0)) ⌝ }
     ensures { λ r. ⌜ (r .heard ≡ readingOf n (now (read .entry)) controller .heard) × (now (this .exit) ≡ readingOf n (now (read .entry)) controller .rows)
         × (r .health ≡ judgementOf n view (alignedOf n skew place (record { heard = before; rows = now (rows .entry) }) (readingOf n (now (read .entry)) controller)) own .health)
         × (r .syndrome ≡ judgementOf n view (alignedOf n skew place (record { heard = before; rows = now (rows .entry) }) (readingOf n (now (read .entry)) controller)) own .syndrome) ⌝ }

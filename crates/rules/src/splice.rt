@@ -34,7 +34,7 @@ pub fn read_aligned(
     rows: &mut [u32; 16],
     this: &mut [u32; 16],
 ) -> u32
-    requires { ⌜ (n ≤ 16) × (length (now read) ≡ n * 4) × Filled n (now rows) × (now this ≡ array 0 (λ _. 0)) ⌝ }
+    requires { ⌜ (n ≤ 16) × (n * 4 ≤ length (now read)) × Filled n (now rows) × (now this ≡ array 0 (λ _. 0)) ⌝ }
     ensures { λ r. ⌜ (r ≡ readingOf n (now (read .entry)) controller .heard)
         × (now (this .exit) ≡ readingOf n (now (read .entry)) controller .rows)
         × (now (rows .exit) ≡ array n (λ j. cond (ltb j split) (getD (now (rows .entry)) j 0) (getD (readingOf n (now (read .entry)) controller .rows) j 0))) ⌝ }

@@ -18,7 +18,7 @@ use Rattle.setup.specs.Check.{checkFront}
 use Rattle.setup.proofs.SetupCheckLaws.{FrontFits, front-pass}
 use Rattle.script.specs.declared.Scan.{Scan}
 use Rattle.script.specs.declared.Cursor.{Cursor}
-use Rattle.script.specs.Words.{castAt, eventsAt, mostBytes, castOk}
+use Rattle.script.specs.Words.{castAt, eventsAt, isPartitionable, mostBytes, castOk}
 use Rattle.script.specs.Check.{unscanned, scanned, scan, checkCast, checkPlay, checkScript}
 use Rattle.script.specs.Cursor.{start, advanced, cursorAt}
 use Rattle.script.specs.Told.{castOf, OnlyCast}
@@ -26,7 +26,7 @@ use Rattle.script.specs.Rounds.{roundsOf, PlaysAll}
 use Rattle.script.specs.Effect.{roundsBefore, EventsCount}
 use Rattle.script.proofs.EventLaws.{told-none}
 use Rattle.script.proofs.AheadLaws.{Ahead, ahead-next, ahead-ends, ahead-total, ahead-most}
-use Rattle.script.proofs.EffectLaws.{Linked, linked-next, told-first, rounds-first, rounds-mono, tells-none}
+use Rattle.script.proofs.EffectLaws.{Linked, linked-next, due-first, rounds-first, rounds-mono, tells-none}
 use Rattle.script.proofs.GatherLaws.{next-round, next-play}
 use Rattle.script.proofs.PlaceLaws.{Running, Placed, placed-round, placed-play}
 
@@ -82,14 +82,14 @@ module _ (s : List ℕ) (ok : checkScript s .number ≡ 0) where
       (which (eqb (c .left) 0))
 
   first-linked : Linked s (eventsAt s) unscanned
-  first-linked = record { after = omega arith; told = sym (told-first s); rounds = sym (rounds-first s (eventsAt s) (omega arith)) }
+  first-linked = record { after = omega arith; due = sym (due-first s); rounds = sym (rounds-first s (eventsAt s) (omega arith)) }
 
   placed : (k : ℕ) → At k (cursorAt s k)
   unfolding cursorAt start
   placed zero =
       record {
         scan = unscanned;
-        told = refl;
+        due = refl;
         linked = first-linked;
         ahead = behind-cast;
         by-cast = told-none (castOf s);
@@ -125,7 +125,7 @@ module _ (s : List ℕ) (ok : checkScript s .number ≡ 0) where
       ap (roundsBefore s) (sym e) ∙ sym (l .rounds) ∙ t
   all-rounds (suc words) at sc h l a =
       let next = ahead-next s n (castOf s) (length s / 4) (roundsOf s) at sc (omega arith) a .1 in
-      all-rounds words (at + 1) (scanned sc (wordAt s at)) (omega arith) (linked-next s at sc l) next
+      all-rounds words (at + 1) (scanned (isPartitionable s) sc (wordAt s at)) (omega arith) (linked-next s at sc l) next
 
   rounds-are : roundsBefore s (length s / 4) ≡ roundsOf s
   rounds-are =

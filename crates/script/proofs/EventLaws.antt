@@ -29,17 +29,18 @@ told-none cast x h e =
     absurd (omega arith)
 
 -- the events of a loop that has gone through all entries
-pub with-by : {fate told : List ℕ} {x : ℕ} (e : Events) (w t : ℕ) → x ≡ 256
+pub with-by : {fate told views : List ℕ} {x : ℕ} (e : Events) (w t v : ℕ) → x ≡ 256
     → fate ≡ updated x (λ y. cond (concerns w y) (kindOf w) (getD (e .fate) y 0)) (replicate 256 0)
     → told ≡ updated x (λ y. cond (concerns w y) t (getD (e .told) y 0)) (replicate 256 0)
-    → record { fate = fate; told = told } ≡ withEvent e w t
+    → views ≡ updated x (λ y. cond (concerns w y) v (getD (e .views) y 0)) (replicate 256 0)
+    → record { fate = fate; told = told; views = views } ≡ withEvent e w t v
 unfolding withEvent table
-with-by e w t h f g = rw (f, g, h)
+with-by e w t v h f g k = rw (f, g, k, h)
 
 -- one more event, which is a loss, or a lie by a sender of the cast
-pub told-with : (cast w t : ℕ) (e : Events) → ToldBy cast e → (kindOf w ≡ 8 → bit cast (senderIn w - 1) ≡ true) → ToldBy cast (withEvent e w t)
+pub told-with : (cast w t v : ℕ) (e : Events) → ToldBy cast e → (kindOf w ≡ 8 → bit cast (senderIn w - 1) ≡ true) → ToldBy cast (withEvent e w t v)
 unfolding withEvent
-told-with cast w t e old lie x h q =
+told-with cast w t v e old lie x h q =
     let p : cond (concerns w x) (kindOf w) (getD (e .fate) x 0) ≡ 8 =
     sym (table-at (λ y. cond (concerns w y) (kindOf w) (getD (e .fate) y 0)) x h) ∙ q
     in
@@ -68,10 +69,11 @@ concerns-at w i j l =
 
 pub replaces : Replaces
 unfolding withEvent
-replaces e w t i j h l =
+replaces e w t v i j h l =
     let x = i * 16 + j in
     let c = concerns-at w i j l in (
       table-at (λ y. cond (concerns w y) (kindOf w) (getD (e .fate) y 0)) x (entry-below i j h l)
           ∙ ap (λ (b : Bool). cond b (kindOf w) (getD (e .fate) x 0)) c,
       table-at (λ y. cond (concerns w y) t (getD (e .told) y 0)) x (entry-below i j h l) ∙ ap (λ (b : Bool). cond b t (getD (e .told) x 0)) c,
+      table-at (λ y. cond (concerns w y) v (getD (e .views) y 0)) x (entry-below i j h l) ∙ ap (λ (b : Bool). cond b v (getD (e .views) x 0)) c,
     )

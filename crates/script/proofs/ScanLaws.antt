@@ -1,5 +1,5 @@
 -- One word of the scan after another: refused, or taken and the scan goes on behind it.
-use mathlib.Core.Path.{_≡_, refl, ap, _∙_, sym}
+use mathlib.Core.Path.{_≡_, refl, ap, ap₂, _∙_, sym}
 use mathlib.Core.Bool.{Bool, true, false, cond, not, _&&_, _||_}
 use mathlib.Core.List.{List}
 use Prim.Native.Nat.{ℕ, suc, _+_, _-_, _/_, _≤_, _<_}
@@ -17,7 +17,7 @@ use Rattle.setup.specs.Check.{checkFront}
 use Rattle.words.proofs.VerdictLaws.{between-is, and-then-next, and-then-stays, and-then-stops, and-then-goes, single-ok, single-refused}
 use Rattle.words.proofs.SearchLaws.{begins-refused, begins-well, ends-well}
 use Rattle.script.specs.declared.Scan.{Scan}
-use Rattle.script.specs.Words.{castAt, mostBytes, mostOfPlay, mostRounds, kindOf, castIn, castOk, senderIn, receiversIn, roundsIn, eventOk, playOk}
+use Rattle.script.specs.Words.{castAt, isPartitionable, mostBytes, mostOfPlay, mostRounds, kindOf, castIn, castOk, senderIn, receiversIn, roundsIn, eventOk, playOk, dueAfter, isPlay}
 use Rattle.script.specs.Check.{playRefusal, eventRefusal, wordRefusal, scanned, finished, scan, unscanned, checkCast, checkPlay, checkScript}
 
 -- ---- what a test that passed says
@@ -62,17 +62,22 @@ play-sum rounds w e = go (playOk w) (leb (rounds + roundsIn w) mostRounds) refl 
     go false b t q = absurd (omega arith)
 
 -- a word that is taken keeps the rounds within their limit
-pub taken-rounds : (n cast : ℕ) (sc : Scan) (w : ℕ) → wordRefusal n cast sc w ≡ 0 → sc .rounds ≤ mostRounds → scanned sc w .rounds ≤ mostRounds
-unfolding wordRefusal scanned
-taken-rounds n cast sc w e h = go (sc .told) (eqb (kindOf w) 9) e
+pub taken-rounds : (pairs : Bool) (n cast : ℕ) (sc : Scan) (w : ℕ) → wordRefusal n cast sc w ≡ 0 → sc .rounds ≤ mostRounds
+    → scanned pairs sc w .rounds ≤ mostRounds
+unfolding wordRefusal scanned isPlay
+taken-rounds pairs n cast sc w e h = go (eqb (sc .due) 0) (eqb (kindOf w) 9) e
   where
-    go : (t p : Bool) → cond t 0 (cond p (playRefusal (sc .rounds) w) (eventRefusal n cast w)) ≡ 0
-        → (cond {A = Scan} t (record { told = false; pending = true; rounds = sc .rounds })
-        (cond p (record { told = false; pending = false; rounds = sc .rounds + roundsIn w })
-        (record { told = eqb (kindOf w) 8; pending = true; rounds = sc .rounds }))) .rounds ≤ mostRounds
-    go true p q = h
-    go false true q = play-sum (sc .rounds) w q
-    go false false q = h
+    go : (d p : Bool) → cond d (cond p (playRefusal (sc .rounds) w) (eventRefusal n cast w)) 0 ≡ 0
+        → cond (d && p) (sc .rounds + roundsIn w) (sc .rounds) ≤ mostRounds
+    go true true q = play-sum (sc .rounds) w q
+    go true false q = h
+    go false p q = h
+
+-- what the code knows after a word
+pub scanned-by : {play : Bool} {due rounds : ℕ} (pairs : Bool) (sc : Scan) (w : ℕ) → play ≡ isPlay (sc .due) w → due ≡ dueAfter pairs (sc .due) w
+    → rounds ≡ cond play (sc .rounds + roundsIn w) (sc .rounds) → record { due = due; pending = not play; rounds = rounds } ≡ scanned pairs sc w
+unfolding scanned
+scanned-by pairs sc w p d r = rw (r, d, p)
 
 -- ---- a turn of the scan
 
@@ -84,7 +89,7 @@ module _ (s : List ℕ) (n cast : ℕ) where
       rw z e
 
   pub scan-step : (count at : ℕ) (sc : Scan) → at < count → scan s n cast (count - at) at sc
-      ≡ andThen (verdict (wordRefusal n cast sc (wordAt s at)) at) (scan s n cast (count - (at + 1)) (at + 1) (scanned sc (wordAt s at)))
+      ≡ andThen (verdict (wordRefusal n cast sc (wordAt s at)) at) (scan s n cast (count - (at + 1)) (at + 1) (scanned (isPartitionable s) sc (wordAt s at)))
   unfolding scan
   scan-step count at sc h =
       let z : count - at ≡ suc (count - (at + 1)) = omega arith in
@@ -99,13 +104,14 @@ module _ (s : List ℕ) (n cast : ℕ) where
     scan-refused f q =
         q ∙ ap (λ (x : ℕ). verdict x at) same ∙ sym (scan-step count at sc h ∙ and-then-stays (verdict _ at) _ (λ z. f (same ∙ z)))
 
-    pub scan-next : {next : Scan} → number ≡ 0 → next ≡ scanned sc w → scan s n cast (count - (at + 1)) (at + 1) next ≡ scan s n cast (count - at) at sc
-    scan-next z q =
-        ap (scan s n cast (count - (at + 1)) (at + 1)) (q ∙ ap (scanned sc) e)
+    pub scan-next : {pairs : Bool} {next : Scan} → number ≡ 0 → pairs ≡ isPartitionable s → next ≡ scanned pairs sc w
+        → scan s n cast (count - (at + 1)) (at + 1) next ≡ scan s n cast (count - at) at sc
+    scan-next z p q =
+        ap (scan s n cast (count - (at + 1)) (at + 1)) (q ∙ ap₂ (λ (b : Bool) (x : ℕ). scanned b sc x) p e)
         ∙ sym (scan-step count at sc h ∙ and-then-next (verdict _ at) _ (sym same ∙ z))
 
-    pub rounds-next : {next : Scan} → number ≡ 0 → next ≡ scanned sc w → sc .rounds ≤ mostRounds → next .rounds ≤ mostRounds
-    rounds-next z q l = rw q (taken-rounds n cast sc w (sym r ∙ z) l)
+    pub rounds-next : {next : Scan} (pairs : Bool) → number ≡ 0 → next ≡ scanned pairs sc w → sc .rounds ≤ mostRounds → next .rounds ≤ mostRounds
+    rounds-next pairs z q l = rw q (taken-rounds pairs n cast sc w (sym r ∙ z) l)
 
 -- ---- the cast, which the code has found at its place
 

@@ -1,5 +1,5 @@
--- Run scripts and their verdicts: cases of numbers 1 to 5 and 12 to 15 of document 01's table of answers, of 22 of document 02, E9, and of their
--- order. Then run scripts and what their events do in each round. Computed in proofs/Cases.antt.
+-- Run scripts and their verdicts: cases of numbers 1 to 5 and 12 to 15 of document 01's table of answers, of 22 of document 02, E9, of told words in
+-- pairs, E11, and of their order. Then run scripts and what their events do in each round. Computed in proofs/Cases.antt.
 use Prim.Native.Nat.{ℕ, _+_, _-_, _/_, _%_, _^_}
 use mathlib.Core.Path.{_≡_}
 use mathlib.Core.Bool.{Bool, true, not, _&&_, _||_}
@@ -10,7 +10,7 @@ use Rattle.words.specs.Word.{bytesOf}
 use Rattle.words.specs.declared.Verdict.{Verdict}
 use Rattle.script.specs.Check.{checkScript}
 use Rattle.script.specs.Rounds.{roundsOf}
-use Rattle.script.specs.Effect.{fateIn, toldIn}
+use Rattle.script.specs.Effect.{fateIn, toldIn, toldViewIn}
 
 -- the words of a script, and the number and index of its verdict
 pub record Case : Type 0 where
@@ -22,18 +22,33 @@ pub record Case : Type 0 where
 abbrev pub modulesWith : List ℕ → List ℕ
 modulesWith words = 0x4088_0001 ∷ 0x4108_0001 ∷ 0x4188_0001 ∷ 0x4208_0001 ∷ words
 
+-- a setup of the sheet's limits and modules with this head, then these words
+abbrev pub headWith : ℕ → List ℕ → List ℕ
+headWith head words = head ∷ 0x2000_0001 ∷ 0x3000_0003 ∷ modulesWith words
+
 -- the sheet's setup, then these words
 abbrev pub sheetWith : List ℕ → List ℕ
-sheetWith words = 0x1000_0004 ∷ 0x2000_0001 ∷ 0x3000_0003 ∷ modulesWith words
+sheetWith words = headWith 0x1000_0004 words
 
 -- a script of the sheet's setup and these words; with this verdict
 abbrev pub run : List ℕ → ℕ → ℕ → Case
 run words number index = record { words = sheetWith words; number = number; index = index }
 
--- the words before those of the modules of a setup that fades: the head, the kind 0 word, the factor and the limit by their bits; then these words
+-- the sheet's setup with head bit 5, a cast of module 2, then these words
+abbrev pub tornWith : List ℕ → List ℕ
+tornWith words = headWith 0x1000_0024 (0x6000_0002 ∷ words)
+
+-- a script of these words; with this verdict. The first word after the cast stands at 8.
+abbrev pub torn : List ℕ → ℕ → ℕ → Case
+torn words number index = record { words = tornWith words; number = number; index = index }
+
+-- the words between the head and the modules of a setup that fades: the kind 0 word, the factor and the limit by their bits; then these words
+abbrev pub fadingLimits : ℕ → ℕ → ℕ → List ℕ → List ℕ
+fadingLimits form factor limit words = form ∷ factor / 2 ^ 32 ∷ factor % 2 ^ 32 ∷ limit / 2 ^ 32 ∷ limit % 2 ^ 32 ∷ words
+
+-- these words after the sheet's head
 abbrev pub fadingFront : ℕ → ℕ → ℕ → List ℕ → List ℕ
-fadingFront form factor limit words =
-    0x1000_0004 ∷ form ∷ factor / 2 ^ 32 ∷ factor % 2 ^ 32 ∷ limit / 2 ^ 32 ∷ limit % 2 ^ 32 ∷ words
+fadingFront form factor limit words = 0x1000_0004 ∷ fadingLimits form factor limit words
 
 -- the bits of some doubles: 0.5, 1.0, 3.0 and 1,000,000.0
 abbrev pub half : ℕ
@@ -52,7 +67,11 @@ million = 0x412E_8480_0000_0000
 abbrev pub fadingWith : List ℕ → List ℕ
 fadingWith words = fadingFront 0 half three (modulesWith words)
 
--- a script of this setup and these words; with this verdict
+-- the same with head bit 5
+abbrev pub tornFadingWith : List ℕ → List ℕ
+tornFadingWith words = 0x1000_0024 ∷ fadingLimits 0 half three (modulesWith words)
+
+-- a script of the former setup and these words; with this verdict
 abbrev pub fading : List ℕ → ℕ → ℕ → Case
 fading words number index = record { words = fadingWith words; number = number; index = index }
 
@@ -83,8 +102,8 @@ cases =
     run (0x6000_0000 ∷ 0x7100_000F ∷ 0x9000_0002 ∷ []) 0 0
     -- 1: no word; 2: N = 17, Q = 1,000,001, a bit between Q and N; 3: fewer than N + 3 words, with Q = 0 and with Q = 1,000,000
     ∷ record { words = []; number = 1; index = 0 } ∷ record { words = 0x1000_0011 ∷ []; number = 2; index = 0 }
-    ∷ record { words = 0x1F42_4104 ∷ []; number = 2; index = 0 } ∷ record { words = 0x1000_0024 ∷ []; number = 2; index = 0 }
-    ∷ record { words = 0x1000_0084 ∷ []; number = 2; index = 0 } ∷ record { words = 0x1F42_4004 ∷ []; number = 3; index = 0 }
+    ∷ record { words = 0x1F42_4104 ∷ []; number = 2; index = 0 } ∷ record { words = 0x1000_0044 ∷ []; number = 2; index = 0 }
+    ∷ record { words = 0x1000_0084 ∷ []; number = 2; index = 0 } ∷ record { words = 0x1F42_4004 ∷ []; number = 3; index = 0 } ∷ record { words = 0x1000_0024 ∷ []; number = 3; index = 0 }
     ∷ record { words = 0x1000_0004 ∷ 0x2000_0001 ∷ 0x3000_0003 ∷ []; number = 3; index = 0 }
     -- a setup that fades is accepted, and the cast is looked for after its N + 6 words: no cast, no cast first, a lie by the cast and by another
     ∷ fading (0x6000_0000 ∷ 0x7100_000F ∷ 0x9000_0002 ∷ []) 0 0 ∷ fading [] 14 10 ∷ fading (0x9000_0001 ∷ []) 12 10
@@ -128,29 +147,58 @@ cases =
     ∷ run (0x6000_0000 ∷ replicate 101 0x9000_03E8) 15 108
     ∷ run (0x6000_0000 ∷ replicate 100 0x9000_03E8 ++ (0x9000_03E9 ∷ [])) 12 108
     -- a told word is taken as it is, whatever it looks like
-    ∷ run (0x6000_0002 ∷ 0x8100_000F ∷ 0x6000_FFFF ∷ 0x9000_03E8 ∷ []) 0 0 ∷ []
+    ∷ run (0x6000_0002 ∷ 0x8100_000F ∷ 0x6000_FFFF ∷ 0x9000_03E8 ∷ []) 0 0
+    -- without head bit 5 only one is: a second one is refused as the word that it looks like
+    ∷ run (0x6000_0002 ∷ 0x8100_000F ∷ 0x5000_0000 ∷ 0xA000_000F ∷ 0x9000_0001 ∷ []) 12 10
+    -- with head bit 5 two are, whatever both look like: a bus word and a view word; a cast and a lie by one outside the cast; plays
+    ∷ torn (0x8100_000F ∷ 0x5000_0000 ∷ 0xA000_000F ∷ 0x9000_0001 ∷ []) 0 0
+    ∷ torn (0x8100_000F ∷ 0x6000_FFFF ∷ 0x8080_000F ∷ 0x9000_03E8 ∷ []) 0 0
+    ∷ torn (0x8100_000F ∷ 0x9000_0000 ∷ 0x9000_0000 ∷ 0x9000_0001 ∷ []) 0 0
+    -- a third one is not; a loss has none
+    ∷ torn (0x8100_000F ∷ 0x5000_0000 ∷ 0xA000_000F ∷ 0xA000_000F ∷ 0x9000_0001 ∷ []) 12 11
+    ∷ torn (0x7100_000F ∷ 0x9000_0001 ∷ []) 0 0 ∷ torn (0x7100_000F ∷ 0xA000_000F ∷ 0x9000_0001 ∷ []) 12 9
+    -- 14 at the word count: both missing, the second missing, also where the first looks like a play or a play came before the lie; both there
+    -- and no play; a told view word that looks like a play is none
+    ∷ torn (0x8100_000F ∷ []) 14 9 ∷ torn (0x8100_000F ∷ 0x5000_0000 ∷ []) 14 10
+    ∷ torn (0x8100_000F ∷ 0x9000_0001 ∷ []) 14 10 ∷ torn (0x9000_0001 ∷ 0x8100_000F ∷ 0x5000_0000 ∷ []) 14 11
+    ∷ torn (0x8100_000F ∷ 0x5000_0000 ∷ 0xA000_000F ∷ []) 14 11 ∷ torn (0x8100_000F ∷ 0x5000_0000 ∷ 0x9000_0001 ∷ []) 14 11
+    -- a lie by one outside the cast is 13 before that, a malformed one 12
+    ∷ torn (0x8180_000F ∷ []) 13 8 ∷ torn (0x8100_0000 ∷ []) 12 8
+    -- two lies after each other, with two told words each
+    ∷ torn (0x8100_0001 ∷ 0x5000_0001 ∷ 0xA000_0001 ∷ 0x8100_0002 ∷ 0x5000_0002 ∷ 0xA000_0002 ∷ 0x9000_0001 ∷ []) 0 0
+    -- the told words of a script whose setup fades and is partitionable
+    ∷ record { words = tornFadingWith (0x6000_0002 ∷ 0x8100_000F ∷ 0x5000_0000 ∷ 0xA000_000F ∷ 0x9000_0001 ∷ []); number = 0; index = 0 }
+    ∷ record { words = tornFadingWith (0x6000_0002 ∷ 0x8100_000F ∷ 0x5000_0000 ∷ []); number = 14; index = 13 }
+    ∷ []
 
 -- ---- what events do
 
--- what becomes in a round of the word from a sender to a receiver, both by number: 0 it arrives as sent, 7 it is lost, 8 the told word arrives
+-- what becomes in a round of the word from a sender to a receiver, both by number: 0 it arrives as sent, 7 it is lost, 8 the told word arrives, and in
+-- place of its view word the told view word
 pub record Word : Type 0 where
   pub round : ℕ
   pub sender : ℕ
   pub receiver : ℕ
   pub fate : ℕ
   pub told : ℕ
+  pub view : ℕ
 
 -- it arrives as sent
 abbrev pub sent : ℕ → ℕ → ℕ → Word
-sent round sender receiver = record { round = round; sender = sender; receiver = receiver; fate = 0; told = 0 }
+sent round sender receiver = record { round = round; sender = sender; receiver = receiver; fate = 0; told = 0; view = 0 }
 
 -- it is lost
 abbrev pub lost : ℕ → ℕ → ℕ → Word
-lost round sender receiver = record { round = round; sender = sender; receiver = receiver; fate = 7; told = 0 }
+lost round sender receiver = record { round = round; sender = sender; receiver = receiver; fate = 7; told = 0; view = 0 }
 
--- this told word arrives
+-- this told word and this told view word arrive
+abbrev pub tellsBoth : ℕ → ℕ → ℕ → ℕ → ℕ → Word
+tellsBoth round sender receiver told view =
+    record { round = round; sender = sender; receiver = receiver; fate = 8; told = told; view = view }
+
+-- this told word arrives, and no told view word
 abbrev pub tells : ℕ → ℕ → ℕ → ℕ → Word
-tells round sender receiver told = record { round = round; sender = sender; receiver = receiver; fate = 8; told = told }
+tells round sender receiver told = tellsBoth round sender receiver told 0
 
 -- a script, the rounds that it has, and what becomes of some words
 pub record Play : Type 0 where
@@ -162,12 +210,17 @@ pub record Play : Type 0 where
 abbrev pub play : List ℕ → ℕ → List Word → Play
 play words rounds becomes = record { words = sheetWith (0x6000_0002 ∷ words); rounds = rounds; becomes = becomes }
 
--- each word has the fate that it is said to have, and the told word where one arrives
+-- the sheet's setup with head bit 5 and module 2 as cast, then these words
+abbrev pub tornPlay : List ℕ → ℕ → List Word → Play
+tornPlay words rounds becomes = record { words = tornWith words; rounds = rounds; becomes = becomes }
+
+-- each word has the fate that it is said to have, and the told word and told view word where these arrive
 abbrev pub become : List ℕ → List Word → Bool
 become s [] = true
 become s (w ∷ ws) =
     eqb (fateIn s (w .round) (w .receiver - 1) (w .sender - 1)) (w .fate)
-    && (not (eqb (w .fate) 8) || eqb (toldIn s (w .round) (w .receiver - 1) (w .sender - 1)) (w .told)) && become s ws
+    && (not (eqb (w .fate) 8) || eqb (toldIn s (w .round) (w .receiver - 1) (w .sender - 1)) (w .told))
+    && (not (eqb (w .fate) 8) || eqb (toldViewIn s (w .round) (w .receiver - 1) (w .sender - 1)) (w .view)) && become s ws
 
 -- every script is accepted, has the rounds that it is said to have, and so have its words their fates
 abbrev pub heeded : List Play → Bool
@@ -176,7 +229,7 @@ heeded (p ∷ ps) =
     let s = scriptOf (p .words) in
     eqb (checkScript s .number) 0 && eqb (roundsOf s) (p .rounds) && become s (p .becomes) && heeded ps
 
--- scripts with events; 2 is the sender of each, and in the last also 4
+-- scripts with events; 2 is the sender of each, and in one also 4
 abbrev pub plays : List Play
 plays =
     -- a loss before a play of 3 rounds counts in the first of them alone, and for its own sender
@@ -199,6 +252,19 @@ plays =
       rounds = 2;
       becomes = tells 1 2 1 0x5000_0001 ∷ lost 1 4 1 ∷ sent 1 2 2 ∷ sent 2 2 1 ∷ [];
     }
+    -- with head bit 5 a lie tells two words, the told word first, to its receivers and in its round alone
+    ∷ tornPlay (0x8100_0003 ∷ 0x5000_0001 ∷ 0xA000_0003 ∷ 0x9000_0002 ∷ []) 2
+    (tellsBoth 1 2 1 0x5000_0001 0xA000_0003 ∷ tellsBoth 1 2 2 0x5000_0001 0xA000_0003 ∷ sent 1 2 3 ∷ sent 1 1 1 ∷ sent 2 2 1 ∷ [])
+    -- told words that look like plays, losses or lies are none, in either place
+    ∷ tornPlay (0x8100_000F ∷ 0x9000_0005 ∷ 0x9000_0006 ∷ 0x9000_0002 ∷ []) 2 (tellsBoth 1 2 1 0x9000_0005 0x9000_0006 ∷ sent 2 2 1 ∷ [])
+    ∷ tornPlay (0x8100_000F ∷ 0x8100_000F ∷ 0x7080_000F ∷ 0x9000_0001 ∷ []) 1 (tellsBoth 1 2 1 0x8100_000F 0x7080_000F ∷ sent 1 1 1 ∷ [])
+    ∷ tornPlay (0x8100_000F ∷ 0x7080_000F ∷ 0x8100_0001 ∷ 0x9000_0001 ∷ []) 1 (tellsBoth 1 2 1 0x7080_000F 0x8100_0001 ∷ sent 1 1 1 ∷ [])
+    -- a later event replaces both words: a lie another lie, a loss at module 1 a lie to modules 1 and 2
+    ∷ tornPlay (0x8100_0001 ∷ 0x5000_0001 ∷ 0xA000_0001 ∷ 0x8100_0001 ∷ 0x5000_0002 ∷ 0xA000_0002 ∷ 0x9000_0001 ∷ []) 1
+    (tellsBoth 1 2 1 0x5000_0002 0xA000_0002 ∷ [])
+    ∷ tornPlay (0x8100_0003 ∷ 0x5000_0001 ∷ 0xA000_0001 ∷ 0x7100_0001 ∷ 0x9000_0001 ∷ []) 1 (lost 1 2 1 ∷ tellsBoth 1 2 2 0x5000_0001 0xA000_0001 ∷ [])
+    -- each play has its own
+    ∷ tornPlay (0x9000_0001 ∷ 0x8100_0001 ∷ 0 ∷ 0xFFFF_FFFF ∷ 0x9000_0001 ∷ []) 2 (sent 1 2 1 ∷ tellsBoth 2 2 1 0 0xFFFF_FFFF ∷ [])
     ∷ []
 
 -- what is claimed: every script has its verdict, and every word its fate

@@ -1,7 +1,7 @@
 -- Which run scripts are accepted, and the number and index by which the others are refused: 16, then 1 to 6 and 22, then 12, 13 and 15 word by word, 14 last.
 -- (document 01, "Answers and their order")
 use Prim.Native.Nat.{ℕ, zero, suc, _+_, _-_, _/_}
-use mathlib.Core.Bool.{Bool, true, false, cond, not, _&&_, _||_}
+use mathlib.Core.Bool.{Bool, false, cond, not, _&&_, _||_}
 use mathlib.Core.List.{List, [], _∷_}
 use lib.ListN.{length}
 use lib.Dec.{eqb, leb, ltb}
@@ -11,7 +11,7 @@ use Rattle.words.specs.Verdict.{verdict, between, single, andThen, outcome, fir
 use Rattle.setup.specs.Setup.{sizeIn}
 use Rattle.setup.specs.Check.{checkFront}
 use Rattle.words.specs.declared.Verdict.{Verdict}
-use Rattle.script.specs.Words.{castAt, eventsAt, mostBytes, mostRounds, kindOf, castIn, castOk, senderIn, eventOk, roundsIn, playOk}
+use Rattle.script.specs.Words.{castAt, eventsAt, mostBytes, mostRounds, kindOf, isPartitionable, castIn, castOk, senderIn, eventOk, roundsIn, playOk, dueAfter, isPlay}
 use Rattle.script.specs.declared.Scan.{Scan}
 
 -- ---- one word after the cast
@@ -24,22 +24,26 @@ playRefusal rounds w = cond (playOk w) (cond (leb (rounds + roundsIn w) mostRoun
 unfoldable pub eventRefusal : ℕ → ℕ → ℕ → ℕ
 eventRefusal n cast w = cond (between 7 8 (kindOf w) && eventOk n w) (cond (eqb (kindOf w) 7 || bit cast (senderIn w - 1)) 0 13) 12
 
--- the number by which the word w is refused, or 0; a told word is taken as it is
+-- the number by which the word w is refused, or 0; a told word that is due is taken as it is
 unfoldable pub wordRefusal : ℕ → ℕ → Scan → ℕ → ℕ
 wordRefusal n cast sc w =
-    cond (sc .told) 0
+    cond (eqb (sc .due) 0)
     (cond (eqb (kindOf w) 9) (playRefusal (sc .rounds) w) (eventRefusal n cast w))
+    0
 
--- what is known after a word that is not refused
-unfoldable pub scanned : Scan → ℕ → Scan
-scanned sc w =
-    cond (sc .told) (record { told = false; pending = true; rounds = sc .rounds })
-    (cond (eqb (kindOf w) 9) (record { told = false; pending = false; rounds = sc .rounds + roundsIn w })
-    (record { told = eqb (kindOf w) 8; pending = true; rounds = sc .rounds }))
+-- what is known after a word that is not refused: a play plays all events before it, any other word is one or belongs to one
+unfoldable pub scanned : Bool → Scan → ℕ → Scan
+scanned partitionable sc w =
+    let play = isPlay (sc .due) w in
+    record {
+      due = dueAfter partitionable (sc .due) w;
+      pending = not play;
+      rounds = cond play (sc .rounds + roundsIn w) (sc .rounds);
+    }
 
 -- no told word missing, every event played, at least one play, else number 14
 unfoldable pub finished : Scan → Bool
-finished sc = not (sc .told) && not (sc .pending) && ltb 0 (sc .rounds)
+finished sc = eqb (sc .due) 0 && not (sc .pending) && ltb 0 (sc .rounds)
 
 -- ---- the words that are left, from `at` on
 
@@ -48,11 +52,11 @@ unfoldable pub scan : List ℕ → ℕ → ℕ → ℕ → ℕ → Scan → Verd
 scan s n cast zero at sc = outcome (single (finished sc) 14 at)
 scan s n cast (suc left) at sc =
     let w = wordAt s at in
-    andThen (verdict (wordRefusal n cast sc w) at) (scan s n cast left (at + 1) (scanned sc w))
+    andThen (verdict (wordRefusal n cast sc w) at) (scan s n cast left (at + 1) (scanned (isPartitionable s) sc w))
 
 -- what is known before the first of these words
 abbrev pub unscanned : Scan
-unscanned = record { told = false; pending = false; rounds = 0 }
+unscanned = record { due = 0; pending = false; rounds = 0 }
 
 -- the cast stands first, else 12, and without any word 14 at the word count
 unfoldable pub checkCast : List ℕ → ℕ → Verdict

@@ -10,15 +10,17 @@ use Rattle.script.specs.declared.Events.{Events}
 
 -- every word arrives as it was sent
 unfoldable pub none : Events
-none = record { fate = replicate 256 0; told = replicate 256 0 }
+none = record { fate = replicate 256 0; told = replicate 256 0; views = replicate 256 0 }
 
 -- the event w is about the receiver i + 1 and the sender j + 1 whose entry stands at x = 16 * i + j
 unfoldable pub concerns : ℕ → ℕ → Bool
 concerns w x = eqb (senderIn w) (x % 16 + 1) && bit (receiversIn w) (x / 16)
 
--- One more event w, a loss or a lie with its told word: it replaces an earlier one for the same sender and receiver. The fate is its kind.
-unfoldable pub withEvent : Events → ℕ → ℕ → Events
-withEvent e w t = record {
+-- One more event w, a loss or a lie with its told word t and its told view word v: it replaces an earlier one for the same sender and receiver. The
+-- fate is its kind.
+unfoldable pub withEvent : Events → ℕ → ℕ → ℕ → Events
+withEvent e w t v = record {
   fate = table (λ x. cond (concerns w x) (kindOf w) (getD (e .fate) x 0));
   told = table (λ x. cond (concerns w x) t (getD (e .told) x 0));
+  views = table (λ x. cond (concerns w x) v (getD (e .views) x 0));
 }

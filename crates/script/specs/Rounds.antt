@@ -6,7 +6,7 @@ use mathlib.Core.Bool.{true, false}
 use mathlib.Core.List.{List}
 use lib.ListN.{length}
 use Rattle.words.specs.Word.{wordAt}
-use Rattle.script.specs.Words.{eventsAt, mostRounds}
+use Rattle.script.specs.Words.{eventsAt, isPartitionable, mostRounds}
 use Rattle.script.specs.Check.{scanned, unscanned, checkScript}
 use Rattle.script.specs.Cursor.{cursorAt}
 use Rattle.script.specs.declared.Scan.{Scan}
@@ -14,7 +14,7 @@ use Rattle.script.specs.declared.Scan.{Scan}
 -- what is known after the words that are left, from `at` on
 unfoldable pub lastScan : List ℕ → ℕ → ℕ → Scan → Scan
 lastScan s zero at sc = sc
-lastScan s (suc left) at sc = lastScan s left (at + 1) (scanned sc (wordAt s at))
+lastScan s (suc left) at sc = lastScan s left (at + 1) (scanned (isPartitionable s) sc (wordAt s at))
 
 -- the rounds of all plays
 unfoldable pub roundsOf : List ℕ → ℕ

@@ -1,4 +1,4 @@
--- Only the cast lies: in an accepted run script a told word stands only for a sender of the cast, in every round.
+-- Only the cast lies: in an accepted run script told words, the told view word among them, stand only for senders of the cast, in every round.
 -- Proved in proofs/CastLaws.antt.
 use Prim.Native.Nat.{ℕ, _%_, _<_}
 use mathlib.Core.Path.{_≡_}
@@ -12,7 +12,7 @@ use Rattle.script.specs.Check.{checkScript}
 use Rattle.script.specs.Cursor.{cursorAt}
 use Rattle.script.specs.declared.Events.{Events}
 
--- the events e tell a word only for senders of the cast
+-- the events e tell words only for senders of the cast
 abbrev pub ToldBy : ℕ → Events → Type 0
 ToldBy cast e = (x : ℕ) → x < 256 → getD (e .fate) x 0 ≡ 8 → bit cast (x % 16) ≡ true
 

@@ -4,6 +4,9 @@ use crate::layout::MOST_BYTES;
 use crate::layout::MOST_OF_PLAY;
 use crate::layout::MOST_ROUNDS;
 use crate::layout::cast_at;
+use crate::layout::partitionable_at;
+use crate::told::due_after;
+use crate::told::is_play;
 use setup::check::check_front;
 use setup::check::size_at;
 use words::Verdict;
@@ -79,7 +82,7 @@ impl Scan {
         requires { ⌜ (n ≤ 16) × (self .rounds ≤ mostRounds) ⌝ }
         ensures { λ r. ⌜ r ≡ wordRefusal n cast self w ⌝ }
     {
-        if self.told {
+        if self.due != 0 {
             return 0;
         }
         if w / KIND == 9 {
@@ -89,31 +92,15 @@ impl Scan {
     }
 
     // What is known after the word w.
-    fn scanned(self, w: u32) -> Scan
+    fn scanned(self, partitionable: bool, w: u32) -> Scan
         requires { ⌜ self .rounds ≤ mostRounds ⌝ }
-        ensures { λ r. ⌜ r ≡ scanned self w ⌝ }
+        ensures { λ r. ⌜ r ≡ scanned partitionable self w ⌝ }
     {
-        let rounds = self.rounds;
-        if self.told {
-            return Scan {
-                told: false,
-                pending: true,
-                rounds,
-            };
-        }
-        let kind = w / KIND;
-        if kind == 9 {
-            let more = rounds + w % KIND;
-            return Scan {
-                told: false,
-                pending: false,
-                rounds: more,
-            };
-        }
+        let play = is_play(self.due, w);
         Scan {
-            told: kind == 8,
-            pending: true,
-            rounds,
+            due: due_after(partitionable, self.due, w),
+            pending: !play,
+            rounds: pick(play, self.rounds + w % KIND, self.rounds),
         }
     }
 
@@ -121,7 +108,7 @@ impl Scan {
     fn finished(self) -> bool
         ensures { λ r. ⌜ r ≡ finished self ⌝ }
     {
-        !self.told & !self.pending & (0 < self.rounds)
+        (self.due == 0) & !self.pending & (0 < self.rounds)
     }
 }
 
@@ -138,13 +125,14 @@ fn check_end(scan: Scan, at: usize) -> Verdict
 
 // Numbers 12, 13 and 15 word by word from `from` on, then 14.
 fn check_tail(s: &[u8], n: usize, cast: u32, from: usize) -> Verdict
-    requires { ⌜ (n ≤ 16) × (length (now s) ≤ mostBytes) × (from ≤ length (now s) / 4) ⌝ }
+    requires { ⌜ (n ≤ 16) × (length (now s) ≤ mostBytes) × (from ≤ length (now s) / 4) × (4 ≤ length (now s)) ⌝ }
     ensures { λ r. ⌜ r ≡ scan (now (s .entry)) n cast (length (now (s .entry)) / 4 - from) from unscanned ⌝ }
 {
     let count = s.len() / 4;
+    let partitionable = partitionable_at(s);
     let mut at = from;
     let mut so_far = Scan {
-        told: false,
+        due: 0,
         pending: false,
         rounds: 0,
     };
@@ -157,7 +145,7 @@ fn check_tail(s: &[u8], n: usize, cast: u32, from: usize) -> Verdict
         if number != 0 {
             break refusal(number, at as u32);
         }
-        let next = so_far.scanned(w);
+        let next = so_far.scanned(partitionable, w);
         so_far = next;
         at += 1;
     }

@@ -25,23 +25,27 @@ impl Events {
         Events {
             fate: [0; 256],
             told: [0; 256],
+            views: [0; 256],
         }
     }
 
-    // One more event, a loss or a lie with its told word.
-    pub fn with(self, w: u32, told_word: u32) -> Events
-        ensures { λ r. ⌜ r ≡ withEvent self w «told_word» ⌝ }
+    // One more event, a loss or a lie with its told word and its told view word.
+    pub fn with(self, w: u32, told_word: u32, told_view: u32) -> Events
+        ensures { λ r. ⌜ r ≡ withEvent self w «told_word» «told_view» ⌝ }
     {
         let kind = w / KIND;
         let mut fate = [0u32; 256];
         let mut told = [0u32; 256];
+        let mut views = [0u32; 256];
         for x in 0..256 {
             let here = concerns(w, x);
             let old_fate = self.fate[x];
             let old_told = self.told[x];
+            let old_view = self.views[x];
             fate[x] = pick(here, kind, old_fate);
             told[x] = pick(here, told_word, old_told);
+            views[x] = pick(here, told_view, old_view);
         }
-        Events { fate, told }
+        Events { fate, told, views }
     }
 }

@@ -3,10 +3,12 @@ use setup::bounds::fades_at;
 use setup::bounds::front_words;
 use setup::check::size_at;
 use setup::layout::setup_words;
+use words::bits::bit_at;
+use words::word::word_at;
 ghost use mathlib.Core.Path.{_≡_};
 ghost use Prim.Native.Nat.{_%_, _≤_, _<_};
 ghost use lib.ListN.{length};
-ghost use Rattle.script.specs.Words.{castAt, eventsAt};
+ghost use Rattle.script.specs.Words.{castAt, eventsAt, isPartitionable};
 
 // How many bytes a script has at most.
 pub const MOST_BYTES: usize = 65536;
@@ -30,4 +32,12 @@ pub fn events_at(s: &[u8]) -> usize
     ensures { λ r. ⌜ r ≡ eventsAt (now (s .entry)) ⌝ }
 {
     cast_at(s) + 1
+}
+
+// Whether the setup is partitionable.
+pub fn partitionable_at(s: &[u8]) -> bool
+    requires { ⌜ 4 ≤ length (now s) ⌝ }
+    ensures { λ r. ⌜ r ≡ isPartitionable (now (s .entry)) ⌝ }
+{
+    bit_at(word_at(s, 0), 5)
 }

@@ -2,37 +2,44 @@
 use crate::Cursor;
 use crate::Events;
 use crate::layout::events_at;
+use crate::layout::partitionable_at;
+use crate::told::due_after;
+use crate::told::is_play;
+use crate::told::word_within;
 use words::word::KIND;
 use words::word::word_at;
 ghost use mathlib.Core.Path.{_≡_};
-ghost use Prim.Native.Nat.{_-_, _/_, _%_, _≤_};
+ghost use Prim.Native.Nat.{_-_, _/_, _%_, _≤_, _<_};
 ghost use lib.ListN.{length};
 ghost use Rattle.script.specs.Events.{none};
-ghost use Rattle.script.specs.Cursor.{isPlay, lieAfter, eventsAfter, gather, start, advanced};
+ghost use Rattle.script.specs.Cursor.{toldViewOf, eventsAfter, gather, start, advanced};
 
-// Whether the word w is a play, and no told word.
-fn is_play(lie: u32, w: u32) -> bool
-    ensures { λ r. ⌜ r ≡ isPlay lie w ⌝ }
+// The told view word of the lie at `at`, or 0.
+fn told_view_of(s: &[u8], at: usize) -> u32
+    requires { ⌜ at < length (now s) / 4 ⌝ }
+    ensures { λ r. ⌜ r ≡ toldViewOf (now (s .entry)) at ⌝ }
 {
-    (lie == 0) & (w / KIND == 9)
+    if partitionable_at(s) {
+        word_within(s, at + 2)
+    } else {
+        0
+    }
 }
 
-// The lie whose told word comes after the word w, or 0.
-fn lie_after(lie: u32, w: u32) -> u32
-    ensures { λ r. ⌜ r ≡ lieAfter lie w ⌝ }
+// The events after the word at `at`, which is no play.
+fn events_after(s: &[u8], due: u32, at: usize, events: Events) -> Events
+    requires { ⌜ at < length (now s) / 4 ⌝ }
+    ensures { λ r. ⌜ r ≡ eventsAfter (now (s .entry)) due at events ⌝ }
 {
-    if (lie == 0) & (w / KIND == 8) { w } else { 0 }
-}
-
-// The events after the word w, which is no play.
-fn events_after(lie: u32, w: u32, events: Events) -> Events
-    ensures { λ r. ⌜ r ≡ eventsAfter lie w events ⌝ }
-{
-    if lie != 0 {
-        return events.with(lie, w);
+    let w = word_at(s, at);
+    if due != 0 {
+        return events;
     }
     if w / KIND == 7 {
-        return events.with(w, 0);
+        return events.with(w, 0, 0);
+    }
+    if w / KIND == 8 {
+        return events.with(w, word_within(s, at + 1), told_view_of(s, at));
     }
     events
 }
@@ -50,7 +57,7 @@ fn next_play(s: &[u8], from: usize) -> Cursor
 {
     let count = s.len() / 4;
     let mut at = from;
-    let mut lie: u32 = 0;
+    let mut due: u32 = 0;
     let mut events = Events::none();
     loop {
         if count <= at {
@@ -63,18 +70,19 @@ fn next_play(s: &[u8], from: usize) -> Cursor
             };
         }
         let w = word_at(s, at);
-        at += 1;
-        if is_play(lie, w) {
+        let next = at + 1;
+        if is_play(due, w) {
             break Cursor {
-                at,
+                at: next,
                 left: less_one(w % KIND),
                 over: false,
                 events,
             };
         }
-        let more = events_after(lie, w, events);
+        let more = events_after(s, due, at, events);
         events = more;
-        lie = lie_after(lie, w);
+        due = due_after(partitionable_at(s), due, w);
+        at = next;
     }
 }
 

@@ -17,7 +17,7 @@ use Rattle.words.proofs.WordLaws.{read-take}
 use Rattle.words.proofs.ByteLaws.{bytes-own}
 use Rattle.words.specs.Verdict.{allRight}
 use Rattle.setup.specs.Layout.{frontWords, setupWords, setupLength}
-use Rattle.setup.specs.Setup.{returnLimitIn, sizeIn, markIn, placeIn, criticalityIn, fadesIn, frontIn, limitsIn, setupOf, setupBytes}
+use Rattle.setup.specs.Setup.{returnLimitIn, partitionableIn, sizeIn, markIn, placeIn, criticalityIn, fadesIn, frontIn, limitsIn, setupOf, setupBytes}
 use Rattle.setup.specs.Check.{moduleOk, markOk, limitTests, lengthIn, checkSetup}
 use Rattle.words.specs.declared.Verdict.{Verdict}
 use Rattle.setup.proofs.BoundLaws.{front-least, limits-same, right-same, fades-same}
@@ -49,6 +49,7 @@ module _ (a b : List ℕ) (n : ℕ) (same : (i : ℕ) → i < setupWords (frontI
       let first : wordAt a 0 ≡ wordAt b 0 = same 0 (omega arith) in
       let z : sizeIn (wordAt b 0) ≡ n = ap sizeIn (sym first) ∙ e in
       let q : returnLimitIn (wordAt a 0) ≡ returnLimitIn (wordAt b 0) = ap returnLimitIn first in
+      let t : partitionableIn (wordAt a 0) ≡ partitionableIn (wordAt b 0) = ap partitionableIn first in
       let l : limitsIn (fadesIn (wordAt a)) (wordAt a) ≡ limitsIn (fadesIn (wordAt b)) (wordAt b) =
       limits-same (fadesIn (wordAt a)) (wordAt a) (wordAt b) (λ i h. same i (omega arith)) ∙ ap (λ (x : Bool). limitsIn x (wordAt b)) form-same
       in
@@ -61,7 +62,7 @@ module _ (a b : List ℕ) (n : ℕ) (same : (i : ℕ) → i < setupWords (frontI
       let c : array n (λ j. criticalityIn (wordAt a (frontIn (wordAt a) + j))) ≡ array n (λ j. criticalityIn (wordAt b (frontIn (wordAt b) + j))) =
       array-ext n _ _ (λ j h. ap criticalityIn (module-same j h))
       in
-      rw (e, z, q, l, m, p, c)
+      rw (e, z, q, t, l, m, p, c)
 
 -- a byte of a front part, or none
 take-small : (s : List ℕ) (k : ℕ) → k ≤ length s → ((i : ℕ) → getD s i 0 < 256) → (i : ℕ) → getD (take k s) i 0 < 256

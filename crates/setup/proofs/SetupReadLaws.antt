@@ -14,7 +14,7 @@ use Rattle.words.proofs.ArrayLaws.{array-step}
 use Rattle.words.proofs.CountLaws.{all-both}
 use Rattle.words.proofs.VerdictLaws.{and-end, right-join}
 use Rattle.setup.specs.Layout.{frontWords}
-use Rattle.setup.specs.Setup.{returnLimitIn, sizeIn, markIn, placeIn, criticalityIn, fadesIn, frontIn, limitsIn, setupOf}
+use Rattle.setup.specs.Setup.{returnLimitIn, partitionableIn, sizeIn, markIn, placeIn, criticalityIn, fadesIn, frontIn, limitsIn, setupOf}
 use Rattle.setup.specs.Check.{moduleOk, markOk, limitTests, moduleTest, wordTests}
 use Rattle.setup.specs.Modules.{moduleRight}
 use Rattle.setup.specs.declared.Limits.{Limits}
@@ -36,11 +36,11 @@ modules-step s front j i e mark m place = (
 
 -- whether the setup fades is known, and with it where its module words stand
 module _ {fades : Bool} {front : ℕ} (s : List ℕ) (form : fades ≡ fadesIn (wordAt s)) (at : front ≡ frontWords fades) where
-  pub setup-by : {w q marks j n : ℕ} {limits : Limits} {places criticality : List ℕ} → j ≡ n → n ≡ sizeIn (wordAt s 0) → w ≡ wordAt s 0
-      → q ≡ returnLimitIn w → limits ≡ limitsIn fades (wordAt s) → ModulesRead s front j marks places criticality
-      → record { n = n; q = q; limits = limits; marks = marks; places = places; criticality = criticality } ≡ setupOf s
+  pub setup-by : {w q marks j n : ℕ} {t : Bool} {limits : Limits} {places criticality : List ℕ} → j ≡ n → n ≡ sizeIn (wordAt s 0) → w ≡ wordAt s 0
+      → q ≡ returnLimitIn w → t ≡ partitionableIn w → limits ≡ limitsIn fades (wordAt s) → ModulesRead s front j marks places criticality
+      → record { n = n; q = q; partitionable = t; limits = limits; marks = marks; places = places; criticality = criticality } ≡ setupOf s
   unfolding setupOf
-  setup-by e h w q l i = rw (i .0, i .1, i .2, e, h, q, w, l, at, form)
+  setup-by e h w q t l i = rw (i .0, i .1, i .2, e, h, q, t, w, l, at, form)
 
   -- what the pass has found, as the tests in their order
   pub words-good : {right good : Bool} (n : ℕ) → right ≡ allRight (limitTests fades (wordAt s)) → good ≡ all n (λ j. moduleRight n j (wordAt s (front + j)))

@@ -21,7 +21,7 @@ use Rattle.words.proofs.RunLaws.{Follows, follow-runs}
 use Rattle.setup.specs.declared.Setup.{Setup}
 use Rattle.setup.specs.Layout.{limitWords, frontWords, setupLength}
 use Rattle.setup.specs.Limits.{fades}
-use Rattle.setup.specs.Setup.{headWord, returnLimitIn, sizeIn, moduleWord, markIn, placeIn, criticalityIn, fadesIn, frontIn, frontOf, setupOf, setupRuns, setupBytes}
+use Rattle.setup.specs.Setup.{headWord, returnLimitIn, partitionableIn, sizeIn, moduleWord, markIn, placeIn, criticalityIn, fadesIn, frontIn, frontOf, setupOf, setupRuns, setupBytes}
 use Rattle.setup.specs.Check.{moduleFits, markFits, moduleOk, markOk, checkSetup, setupVerdict, readSetup}
 use Rattle.setup.specs.RoundTrip.{ShapedSetup, SetupRoundTrip}
 use Rattle.setup.proofs.WordFields.{head-made, head-right, module-made}
@@ -112,7 +112,7 @@ module _ (s : List ℕ) (e : checkSetup s .number ≡ 0) where
   pub written-read : ((i : ℕ) → getD s i 0 < 256) → setupBytes (setupOf s) ≡ s
   unfolding setupOf setupBytes Follows total
   written-read b =
-      let h : headWord (returnLimitIn (wordAt s 0)) size ≡ wordAt s 0 = head-made (wordAt s 0) (fit .front .head) .1 in
+      let h : headWord (returnLimitIn (wordAt s 0)) (partitionableIn (wordAt s 0)) size ≡ wordAt s 0 = head-made (wordAt s 0) (fit .front .head) .1 in
       let l : length s ≡ total (setupRuns (setupOf s)) * 4 = fit .size ∙ ap (λ (x : Bool). setupLength (frontWords x) size) (sym form) ∙ count in
       follow-runs (wordAt s) 0 (setupRuns (setupOf s))
       (λ j k. first j k (sym h), (limits-stand (word-lt s b), (λ j k. ap (λ (x : Bool). wordAt s (frontWords x + j)) form ∙ sym (module-same j k), tt)))
@@ -143,7 +143,7 @@ module _ (s : Setup) (e : setupVerdict s .number ≡ 0) where
             record {
               whole = omega arith;
               room = omega arith;
-              head = rw (stands s .head) (head-right (s .q) (s .n) (room-head s (fits-room s f)));
+              head = rw (stands s .head) (head-right (s .q) (s .partitionable) (s .n) (room-head s (fits-room s f)));
               least = omega arith;
               most = omega arith;
             };
@@ -167,7 +167,7 @@ module _ (s : Setup) (e : setupVerdict s .number ≡ 0) where
       ∙ array-own (s .n) (s .criticality) (fits .most) (shaped .criticality)
       (bounded-clear (s .n) 131071 (s .criticality) (criticality-bounded s (fits .roomy)))
       in
-      rw (k .size, k .q, k .limits, m, a, c)
+      rw (k .size, k .q, k .partitionable, k .limits, m, a, c)
 
   -- a setup that is written is read back
   pub read-back : ShapedSetup s → readSetup (setupBytes s) ≡ record { number = 0; index = 0; setup = s }

@@ -18,10 +18,10 @@ use Rattle.words.proofs.VerdictLaws.{Passed, numbered, all-passed, passed-all, 
 use Rattle.words.specs.Verdict.{single, accepted, allRight}
 use Rattle.setup.specs.Layout.{limitWords, frontWords, setupLength}
 use Rattle.setup.specs.Limits.{fades, mostReturnLimit}
-use Rattle.setup.specs.Setup.{headWord, returnLimitIn, sizeIn, moduleWord, markIn, placeIn, criticalityIn, fadesIn, limitsIn, limitList, frontIn, frontOf, setupRuns, setupBytes}
+use Rattle.setup.specs.Setup.{headWord, returnLimitIn, partitionableIn, sizeIn, moduleWord, markIn, placeIn, criticalityIn, fadesIn, limitsIn, limitList, frontIn, frontOf, setupRuns, setupBytes}
 use Rattle.setup.specs.Check.{setupRoomy, limitRoom, roomTests, roomVerdict}
 use Rattle.setup.specs.declared.Setup.{Setup}
-use Rattle.setup.proofs.WordFields.{HeadMade, head-is, head-of, size-back, return-back, number-back, mark-back, place-back, criticality-back}
+use Rattle.setup.proofs.WordFields.{HeadMade, head-is, head-of, size-back, return-back, partitionable-back, number-back, mark-back, place-back, criticality-back}
 use Rattle.setup.proofs.BoundLaws.{LimitsRoom, LimitsStand, room-numbers, room-passed, passed-room, fades-back, limits-back}
 
 pub record Room (s : Setup) : Type 0 where
@@ -96,7 +96,7 @@ unfolding setupBytes total
 written-length s = runs-length (setupRuns s) ∙ omega arith
 
 pub record Stands (s : Setup) : Type 0 where
-  pub head : wordAt (setupBytes s) 0 ≡ headWord (s .q) (s .n)
+  pub head : wordAt (setupBytes s) 0 ≡ headWord (s .q) (s .partitionable) (s .n)
   pub limits : LimitsStand (wordAt (setupBytes s)) (s .limits)
   pub modules : (j : ℕ) → j < s .n → wordAt (setupBytes s) (frontOf s + j) ≡ moduleOf s j
 
@@ -115,6 +115,7 @@ written-fades s = fades-back (wordAt (setupBytes s)) (s .limits) (stands s .limi
 pub record FieldsBack (s : Setup) : Type 0 where
   pub size : sizeIn (wordAt (setupBytes s) 0) ≡ s .n
   pub q : returnLimitIn (wordAt (setupBytes s) 0) ≡ s .q
+  pub partitionable : partitionableIn (wordAt (setupBytes s) 0) ≡ s .partitionable
   pub limits : limitsIn (fadesIn (wordAt (setupBytes s))) (wordAt (setupBytes s)) ≡ s .limits
   pub number : (j : ℕ) → j < s .n → wordAt (setupBytes s) (frontIn (wordAt (setupBytes s)) + j) / numberUnit ≡ 4 * 2 ^ 5 + (j + 1)
   pub mark : (j : ℕ) → j < s .n → markIn (wordAt (setupBytes s) (frontIn (wordAt (setupBytes s)) + j)) ≡ bit (s .marks) j
@@ -136,8 +137,9 @@ module _ (s : Setup) (f : Room s) where
       λ j h. ap (λ (b : Bool). wordAt (setupBytes s) (frontWords b + j)) form ∙ w .modules j h
       in
       record {
-        size = ap sizeIn (w .head) ∙ size-back (s .q) (s .n) (room-head s f);
-        q = ap returnLimitIn (w .head) ∙ return-back (s .q) (s .n) (room-head s f);
+        size = ap sizeIn (w .head) ∙ size-back (s .q) (s .partitionable) (s .n) (room-head s f);
+        q = ap returnLimitIn (w .head) ∙ return-back (s .q) (s .partitionable) (s .n) (room-head s f);
+        partitionable = ap partitionableIn (w .head) ∙ partitionable-back (s .q) (s .partitionable) (s .n) (room-head s f);
         limits =
             ap (λ (b : Bool). limitsIn b (wordAt (setupBytes s))) form ∙ limits-back (wordAt (setupBytes s)) (s .limits) (f .limits) (w .limits);
         number = λ j h.
@@ -155,7 +157,7 @@ pub modules-written : {after : List ℕ} {fading : Bool} {front j : ℕ} (s : Se
     → after ≡ putRun o front j (moduleOf s) → after ≡ putRun o (frontOf s) (s .n) (moduleOf s)
 modules-written s o e f h a = a ∙ ap₂ (λ (x y : ℕ). putRun o x y (moduleOf s)) (f ∙ ap frontWords e) h
 
-pub words-written : {a b c : List ℕ} (s : Setup) (o : List ℕ) → length o ≡ setupLength (frontOf s) (s .n) → a ≡ putWord o 0 (headWord (s .q) (s .n))
+pub words-written : {a b c : List ℕ} (s : Setup) (o : List ℕ) → length o ≡ setupLength (frontOf s) (s .n) → a ≡ putWord o 0 (headWord (s .q) (s .partitionable) (s .n))
     → b ≡ putRun a 1 (limitWords (fades (s .limits))) (λ i. getD (limitList (s .limits)) i 0) → c ≡ putRun b (frontOf s) (s .n) (moduleOf s) → c ≡ setupBytes s
 unfolding setupBytes putRuns total
 words-written s o l ea eb ec =

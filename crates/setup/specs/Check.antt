@@ -5,14 +5,14 @@ use mathlib.Core.Bool.{Bool, true, false, cond, not, _&&_, _||_}
 use mathlib.Core.List.{List, [], _∷_, _++_}
 use lib.ListN.{length, take}
 use lib.Dec.{eqb, leb, ltb}
-use Rattle.words.specs.Word.{wordAt, kindUnit, numberUnit}
+use Rattle.words.specs.Word.{wordAt, field, kindUnit, numberUnit}
 use Rattle.words.specs.Array.{bounded}
 use Rattle.words.specs.Verdict.{isAccepted, between, Test, single, each, andThen, outcome, firstRefusal}
 use Rattle.words.specs.declared.Verdict.{Verdict}
 use Rattle.doubles.specs.Double.{doubleIn, isDouble}
 use Rattle.setup.specs.Layout.{headAt, formAt, penaltyLimitAt, rewardLimitAt, factorAt, scoreLimitAt, setupLength}
 use Rattle.setup.specs.Limits.{leastModules, mostModules, mostReturnLimit, mostPenaltyLimit, mostRewardLimit, mostCriticality, factorFits, limitFits}
-use Rattle.setup.specs.Setup.{returnUnit, returnLimitIn, sizeIn, limitWord, placeUnit, markIn, placeIn, criticalityIn, fadesIn, frontIn, frontOf, setupOf, setupBytes, blankSetup}
+use Rattle.setup.specs.Setup.{returnLimitIn, sizeIn, limitWord, placeUnit, markIn, placeIn, criticalityIn, fadesIn, frontIn, frontOf, setupOf, setupBytes, blankSetup}
 use Rattle.setup.specs.declared.Limits.{Limits}
 use Rattle.setup.specs.declared.Limits.the-variants.{Counts, Fading}
 use Rattle.setup.specs.declared.Setup.{Setup}
@@ -28,9 +28,9 @@ whole s = not (eqb (length s) 0) && eqb (length s % 4) 0
 unfoldable pub headFits : ℕ → ℕ → Bool
 headFits q n = leb q mostReturnLimit && between leastModules mostModules n
 
--- kind 1, Q and N in range, no bit set between them, else number 2
+-- kind 1, Q and N in range, bits 7..6 clear, else number 2
 unfoldable pub headOk : ℕ → Bool
-headOk w = eqb (w / kindUnit) 1 && headFits (returnLimitIn w) (w % returnUnit)
+headOk w = eqb (w / kindUnit) 1 && (headFits (returnLimitIn w) (sizeIn w) && eqb (field 6 2 w) 0)
 
 -- the kind, a limit from 1 to the most, else number 4
 unfoldable pub limitOk : ℕ → ℕ → ℕ → Bool

@@ -17,17 +17,25 @@ use Rattle.setup.specs.declared.Limits.{Limits}
 use Rattle.setup.specs.declared.Limits.the-variants.{Counts, Fading}
 use Rattle.setup.specs.declared.Setup.{Setup}
 
--- the unit of the return limit in a head: N stands below it, and above N the spare bits 7..5, which the check refuses
+-- the units of the return limit and of the bit of a partitionable setup in a head: N stands below both, and between them the spare bits 7..6, which
+-- the check refuses
 abbrev pub returnUnit : ℕ
 returnUnit = 2 ^ 8
 
--- kind 1: 27..8 the return limit Q, 4..0 N (document 02, E6)
-abbrev pub headWord : ℕ → ℕ → ℕ
-headWord q n = 1 * kindUnit + q * returnUnit + n
+abbrev pub partitionableUnit : ℕ
+partitionableUnit = 2 ^ 5
+
+-- kind 1: 27..8 the return limit Q (document 02, E6), 5 whether the setup is partitionable (document 02, E11), 4..0 N
+abbrev pub headWord : ℕ → Bool → ℕ → ℕ
+headWord q partitionable n = 1 * kindUnit + q * returnUnit + b2n partitionable * partitionableUnit + n
 
 -- the Q in a head
 abbrev pub returnLimitIn : ℕ → ℕ
 returnLimitIn w = field 8 20 w
+
+-- whether the setup is partitionable, by its head
+abbrev pub partitionableIn : ℕ → Bool
+partitionableIn w = bit w 5
 
 -- the N in a head
 abbrev pub sizeIn : ℕ → ℕ
@@ -94,6 +102,7 @@ setupOf s =
     record {
       n = n;
       q = returnLimitIn (wordAt s headAt);
+      partitionable = partitionableIn (wordAt s headAt);
       limits = limitsIn (fadesIn (wordAt s)) (wordAt s);
       marks = pack n (λ j. markIn (wordAt s (front + j)));
       places = array n (λ j. placeIn (wordAt s (front + j)));
@@ -107,7 +116,7 @@ frontOf s = frontWords (fades (s .limits))
 -- the words that a setup is written as: the head, the limits, the module words
 abbrev pub setupRuns : Setup → List Run
 setupRuns s =
-    one (headWord (s .q) (s .n))
+    one (headWord (s .q) (s .partitionable) (s .n))
     ∷ record { count = limitWords (fades (s .limits)); word = λ i. getD (limitList (s .limits)) i 0 }
     ∷ record { count = s .n; word = λ j. moduleWord j (bit (s .marks) j) (getD (s .places) j 0) (getD (s .criticality) j 0) }
     ∷ []
@@ -118,4 +127,4 @@ setupBytes s = runsOf (setupRuns s)
 
 -- What is held where no setup was accepted, which document 01 leaves free: all zeros. No accepted setup has N = 0.
 unfoldable pub blankSetup : Setup
-blankSetup = record { n = 0; q = 0; limits = Counts 0 0; marks = 0; places = replicate 16 0; criticality = replicate 16 0 }
+blankSetup = record { n = 0; q = 0; partitionable = false; limits = Counts 0 0; marks = 0; places = replicate 16 0; criticality = replicate 16 0 }

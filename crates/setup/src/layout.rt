@@ -21,8 +21,10 @@ pub const MARK: u32 = 4194304;
 
 pub const PLACE: u32 = 131072;
 
-// 2^8: the return limit of the head stands there, and N below it.
+// 2^8: the return limit of the head stands there; 2^5: the bit of a partitionable setup, and N below it.
 pub const RETURN: u32 = 256;
+
+pub const PARTITIONABLE: u32 = 32;
 
 // The limits of N, Q, P, R and a criticality.
 pub const LEAST_MODULES: usize = 2;

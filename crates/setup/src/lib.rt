@@ -11,6 +11,8 @@ pub struct Setup {
     pub n: usize,
     // The return limit Q.
     pub q: u32,
+    // Whether modules send view words too, for stands whose cable may tear.
+    pub partitionable: bool,
     pub limits: Limits,
     pub marks: u32,
     pub places: [u32; 16],

@@ -34,6 +34,7 @@ pub fn blank() -> Setup
     Setup {
         n: 0,
         q: 0,
+        partitionable: false,
         limits: Limits::Counts(0, 0),
         marks: 0,
         places,
@@ -66,6 +67,7 @@ pub fn load_setup(s: &[u8], fades: bool, n: usize) -> SetupPart
         setup: Setup {
             n,
             q: field(head, 8, 20),
+            partitionable: bit_at(head, 5),
             limits,
             marks,
             places,

@@ -3,6 +3,7 @@ use crate::layout::LEAST_MODULES;
 use crate::layout::MOST_CRITICALITY;
 use crate::layout::MOST_MODULES;
 use crate::layout::MOST_RETURN_LIMIT;
+use crate::layout::PARTITIONABLE;
 use crate::layout::PLACE;
 use crate::layout::RETURN;
 use std::num::wrapping_sub_u32;
@@ -36,13 +37,13 @@ pub fn head_fits(q: u32, n: usize) -> bool
     (q <= MOST_RETURN_LIMIT) & ((LEAST_MODULES <= n) & (n <= MOST_MODULES))
 }
 
-// Kind 1, Q and N in range, no bit set between them. Kind and Q by one comparison.
+// Kind 1, Q and N in range, bits 7 and 6 clear. Kind and Q by one comparison.
 pub fn head_ok(w: u32) -> bool
     ensures { λ r. ⌜ r ≡ headOk w ⌝ }
 {
-    let n = (w % RETURN) as usize;
+    let n = (w % PARTITIONABLE) as usize;
     (wrapping_sub_u32(w, KIND) < (MOST_RETURN_LIMIT + 1) * RETURN)
-        & ((LEAST_MODULES <= n) & (n <= MOST_MODULES))
+        & (((LEAST_MODULES <= n) & (n <= MOST_MODULES)) & (field(w, 6, 2) == 0))
 }
 
 // The kind, a limit from 1 to the most.

@@ -5,6 +5,7 @@ use crate::bounds::front_words;
 use crate::bounds::put_limits;
 use crate::fields::verdict;
 use crate::layout::MARK;
+use crate::layout::PARTITIONABLE;
 use crate::layout::PLACE;
 use crate::layout::RETURN;
 use crate::layout::setup_length;
@@ -26,11 +27,11 @@ ghost use Rattle.setup.specs.Setup.{headWord, moduleWord, frontOf, setup
 ghost use Rattle.setup.specs.Check.{roomVerdict, writeVerdict, writtenSetup};
 
 // The head.
-fn head_word(q: u32, n: usize) -> u32
+fn head_word(q: u32, partitionable: bool, n: usize) -> u32
     requires { ⌜ (q < 2 ^ 20) × (n ≤ 16) ⌝ }
-    ensures { λ r. ⌜ r ≡ headWord q n ⌝ }
+    ensures { λ r. ⌜ r ≡ headWord q partitionable n ⌝ }
 {
-    KIND + q * RETURN + n as u32
+    KIND + q * RETURN + flag(partitionable) * PARTITIONABLE + n as u32
 }
 
 // The word of module j + 1.
@@ -65,7 +66,7 @@ pub fn write_words(setup: Setup, out: &mut [u8])
     ensures { λ _. ⌜ now (out .exit) ≡ setupBytes setup ⌝ }
 {
     let limits = setup.limits;
-    put_word(out, 0, head_word(setup.q, setup.n));
+    put_word(out, 0, head_word(setup.q, setup.partitionable, setup.n));
     put_limits(limits, out);
     write_modules(setup, out);
 }

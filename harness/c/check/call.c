@@ -16,6 +16,7 @@ struct functions {
     presence_answer (*change)(const uint8_t *, size_t, const uint8_t *, size_t,
                               uint32_t, uint8_t *, size_t);
     presence_word (*outgoing)(const uint8_t *, size_t);
+    presence_word (*outgoing_view)(const uint8_t *, size_t);
     presence_answer (*page_open)(const uint8_t *, size_t, uint32_t, uint8_t *,
                                  size_t, uint8_t *, size_t);
     presence_answer (*page_step)(const uint8_t *, size_t, const uint8_t *,
@@ -29,15 +30,15 @@ struct functions {
 
 static const struct functions of_library = {
     presence_check_setup, presence_open, presence_step, presence_save,
-    presence_change, presence_outgoing, presence_page_open, presence_page_step,
-    presence_page_read, presence_page_write, presence_page_interrupt,
-    presence_read_cause
+    presence_change, presence_outgoing, presence_outgoing_view,
+    presence_page_open, presence_page_step, presence_page_read,
+    presence_page_write, presence_page_interrupt, presence_read_cause
 };
 
 static const struct functions of_plain = {
     plain_check_setup, plain_open, plain_step, plain_save, plain_change,
-    plain_outgoing, plain_page_open, plain_page_step, plain_page_read,
-    plain_page_write, plain_page_interrupt, plain_read_cause
+    plain_outgoing, plain_outgoing_view, plain_page_open, plain_page_step,
+    plain_page_read, plain_page_write, plain_page_interrupt, plain_read_cause
 };
 
 static struct reply of_answer(presence_answer a)
@@ -75,6 +76,8 @@ static struct reply make(const struct functions *f, const struct call *c,
                                    c->argument, out, c->out_len));
     case OUTGOING:
         return of_word(f->outgoing(c->in, c->in_len));
+    case OUTGOING_VIEW:
+        return of_word(f->outgoing_view(c->in, c->in_len));
     case PAGE_OPEN:
         return of_answer(f->page_open(c->in, c->in_len, c->argument, out,
                                       c->out_len, page, c->page_len));

@@ -10,7 +10,7 @@
 #define OUT_MAX 1024 /* longest output or page that a test lends */
 
 enum op {
-    SETUP, OPEN, STEP, SAVE, CHANGE, OUTGOING,
+    SETUP, OPEN, STEP, SAVE, CHANGE, OUTGOING, OUTGOING_VIEW,
     PAGE_OPEN, PAGE_STEP, PAGE_READ, PAGE_WRITE, INTERRUPT,
     READ_CAUSE
 };

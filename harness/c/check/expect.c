@@ -102,6 +102,18 @@ void change(const uint8_t *in, size_t in_len, const uint8_t *setup,
     keep(&r, out_len, image);
 }
 
+uint32_t outgoing_view(const uint8_t *in, size_t in_len, uint32_t number,
+                       uint32_t index)
+{
+    struct call c = {.op = OUTGOING_VIEW, .in = in, .in_len = in_len};
+    struct result r;
+
+    expect(&c, number, index, &r);
+    if (r.reply.number == 0 && !PRESENCE_IS_PARTITIONABLE(in))
+        same("view word of a module that sends none", r.reply.value, 0);
+    return r.reply.value;
+}
+
 uint32_t outgoing(const uint8_t *in, size_t in_len, uint32_t number,
                   uint32_t index)
 {
@@ -109,5 +121,6 @@ uint32_t outgoing(const uint8_t *in, size_t in_len, uint32_t number,
     struct result r;
 
     expect(&c, number, index, &r);
+    outgoing_view(in, in_len, number, index);
     return r.reply.value;
 }

@@ -37,8 +37,11 @@ void change(const uint8_t *in, size_t in_len, const uint8_t *setup,
             size_t setup_len, uint32_t lead, size_t out_len, uint32_t number,
             uint32_t index, uint8_t *image);
 
-/* Returns the word, 0 if refused. */
+/* Returns the word, 0 if refused.  The view word must be refused alike; it is 0
+   if the image has none. */
 uint32_t outgoing(const uint8_t *in, size_t in_len, uint32_t number,
                   uint32_t index);
+uint32_t outgoing_view(const uint8_t *in, size_t in_len, uint32_t number,
+                       uint32_t index);
 
 #endif

@@ -18,30 +18,31 @@ static void put_modules(enum form form, uint8_t *setup, uint32_t n,
         put(setup, module_at(form, j), module_word(j, 0, n, criticality));
 }
 
-void make_setup(uint8_t *setup, uint32_t n, uint32_t p, uint32_t r,
-                uint32_t criticality)
+void make_setup(enum form form, uint8_t *setup, uint32_t n, uint32_t p,
+                uint32_t r, uint32_t criticality)
 {
-    put(setup, 0, head_word(n, 0));
+    put(setup, 0, head_word(form, n, 0));
     put(setup, 1, 0x20000000 | p);
     put(setup, 2, 0x30000000 | r);
-    put_modules(COUNTS, setup, n, criticality);
+    put_modules(form, setup, n, criticality);
 }
 
-void make_fading_setup(uint8_t *setup, uint32_t n, double factor, double limit)
+void make_fading_setup(enum form form, uint8_t *setup, uint32_t n,
+                       double factor, double limit)
 {
-    put(setup, 0, head_word(n, 0));
+    put(setup, 0, head_word(form, n, 0));
     put(setup, 1, 0);
     put_double(setup, 2, factor);
     put_double(setup, 4, limit);
-    put_modules(FADING, setup, n, 1);
+    put_modules(form, setup, n, 1);
 }
 
 void usual_setup(enum form form, uint8_t *setup, uint32_t n)
 {
-    if (form == FADING)
-        make_fading_setup(setup, n, 0.5, 3.0);
+    if (fades(form))
+        make_fading_setup(form, setup, n, 0.5, 3.0);
     else
-        make_setup(setup, n, 5, 3, 1);
+        make_setup(form, setup, n, 5, 3, 1);
 }
 
 static uint32_t random_return_limit(void)
@@ -64,7 +65,7 @@ static void random_rest(enum form form, uint8_t *setup, uint32_t n, uint32_t u)
 {
     uint32_t j, l, mark, criticality, some = 0;
 
-    put(setup, 0, head_word(n, random_return_limit()));
+    put(setup, 0, head_word(form, n, random_return_limit()));
     for (j = 1; j <= n; j++) {
         l = u == 0 ? n : below(n + 1);
         if (j == n && u == 1 && !some)
@@ -77,18 +78,18 @@ static void random_rest(enum form form, uint8_t *setup, uint32_t n, uint32_t u)
     }
 }
 
-void random_setup(uint8_t *setup, uint32_t n, uint32_t u, uint32_t p,
-                  uint32_t r)
+void random_setup(enum form form, uint8_t *setup, uint32_t n, uint32_t u,
+                  uint32_t p, uint32_t r)
 {
-    make_setup(setup, n, p, r, 1);
-    random_rest(COUNTS, setup, n, u);
+    make_setup(form, setup, n, p, r, 1);
+    random_rest(form, setup, n, u);
 }
 
-void random_fading_setup(uint8_t *setup, uint32_t n, uint32_t u, double factor,
-                         double limit)
+void random_fading_setup(enum form form, uint8_t *setup, uint32_t n, uint32_t u,
+                         double factor, double limit)
 {
-    make_fading_setup(setup, n, factor, limit);
-    random_rest(FADING, setup, n, u);
+    make_fading_setup(form, setup, n, factor, limit);
+    random_rest(form, setup, n, u);
 }
 
 void low_setup(enum form form, uint8_t *setup, uint32_t n, uint32_t u)
@@ -96,10 +97,10 @@ void low_setup(enum form form, uint8_t *setup, uint32_t n, uint32_t u)
     double factor = random_factor();
     uint32_t p = 1 + below(12), r = 2 + below(6);
 
-    if (form == FADING)
-        random_fading_setup(setup, n, u, factor, 0.5 * p);
+    if (fades(form))
+        random_fading_setup(form, setup, n, u, factor, 0.5 * p);
     else
-        random_setup(setup, n, u, p, r);
+        random_setup(form, setup, n, u, p, r);
 }
 
 void any_setup(enum form form, uint8_t *setup, uint32_t n, uint32_t u)
@@ -107,10 +108,10 @@ void any_setup(enum form form, uint8_t *setup, uint32_t n, uint32_t u)
     double factor = random_factor(), limit = random_limit();
     uint32_t p = 1 + below(1000000), r = 1 + below(8000000);
 
-    if (form == FADING)
-        random_fading_setup(setup, n, u, factor, limit);
+    if (fades(form))
+        random_fading_setup(form, setup, n, u, factor, limit);
     else
-        random_setup(setup, n, u, p, r);
+        random_setup(form, setup, n, u, p, r);
 }
 
 /* The same limit, the next one to it, a low one, or any. */
@@ -216,7 +217,20 @@ static uint32_t stray_word(uint32_t n, uint32_t word)
     }
 }
 
-uint32_t random_read(uint8_t *read, uint32_t n, uint32_t faults)
+static void random_view_words(uint8_t *read, uint32_t n, uint32_t faults)
+{
+    uint32_t view = below(4) == 0 ? random32() & ones(n) : ones(n), j, word;
+
+    for (j = 0; j < n; j++) {
+        word = view_word(below(16) < faults ? random32() & ones(n) : view);
+        if (below(32) < faults)
+            word = stray_word(n, word);
+        put(read, n + j, word);
+    }
+}
+
+uint32_t random_read(enum form form, uint8_t *read, uint32_t n,
+                     uint32_t faults)
 {
     uint32_t controller = 0, j, word;
 
@@ -228,6 +242,8 @@ uint32_t random_read(uint8_t *read, uint32_t n, uint32_t faults)
             controller |= 1u << j;
         put(read, j, word);
     }
+    if (has_views(form))
+        random_view_words(read, n, faults);
     return controller;
 }
 
@@ -237,12 +253,25 @@ static void fresh_counters(enum form form, uint8_t *image, uint32_t n)
     uint32_t j;
 
     for (j = 1; j <= n; j++)
-        if (form == FADING) {
+        if (fades(form)) {
             put_double(image, score_at(n, j), 0.0);
         } else {
             put(image, penalty_at(n, j), penalty_word(j, 0));
             put(image, reward_at(n, j), reward_word(j, 0));
         }
+}
+
+/* Every view is full, those of the last read too. */
+static void fresh_views(uint8_t *image, uint32_t n)
+{
+    uint32_t j;
+
+    for (j = 1; j <= n; j++)
+        put(image, view_word_at(image, n, j), view_word(ones(n)));
+    put(image, local_view_at(image, n), ones(n));
+    put(image, earlier_view_at(image, n), ones(n));
+    put(image, adopted_at(image, n), ones(n));
+    put(image, out_at(image, n), 0);
 }
 
 void fresh_image(enum form form, uint8_t *image, const uint8_t *setup,
@@ -260,27 +289,46 @@ void fresh_image(enum form form, uint8_t *image, const uint8_t *setup,
     put(image, before_at(form, n), 0xC0000000 | ones(n));
     put(image, left_at(form, n), 0);
     fresh_counters(form, image, n);
+    if (has_views(form))
+        fresh_views(image, n);
+}
+
+/* Puts the views, if the image has any, at another word. */
+static void move_views(uint8_t *image, uint32_t n, uint32_t at)
+{
+    if (PRESENCE_IS_PARTITIONABLE(image))
+        memmove(image + 4 * at, image + 4 * view_word_at(image, n, 1),
+                PRESENCE_VIEWS_BYTES(n));
 }
 
 void put_pending(uint8_t *image, const uint8_t *setup, uint32_t n,
                  uint32_t left)
 {
+    move_views(image, n, new_module_at(n, n) + 1);
     put(image, left_at(COUNTS, n), left);
-    memcpy(image + image_bytes(COUNTS, n), setup + 4,
-           setup_bytes(COUNTS, n) - 4);
+    memcpy(image + 4 * new_p_at(n), setup + 4, setup_bytes(COUNTS, n) - 4);
+}
+
+void drop_pending(uint8_t *image, uint32_t n)
+{
+    move_views(image, n, new_p_at(n));
+    put(image, left_at(COUNTS, n), 0);
 }
 
 void lived_image(enum form form, uint8_t *image, const uint8_t *setup,
                  uint32_t n, uint32_t own, uint32_t rounds)
 {
-    uint8_t read[PRESENCE_MAX_READ_BYTES], next[IMAGE_MAX];
+    uint8_t read[READ_MAX], next[IMAGE_MAX];
     size_t len = image_bytes(form, n);
     uint32_t controller;
 
     plain_open(setup, setup_bytes(form, n), own, image, len);
     while (rounds-- > 0) {
-        controller = random_read(read, n, below(9));
-        plain_step(image, len, read, 4 * n, controller, next, len);
+        controller = random_read(form, read, n, below(9));
+        plain_step(image, len, read, read_bytes(form, n), controller, next,
+                   len);
         memcpy(image, next, len);
     }
+    if (has_views(form))
+        put(image, out_at(image, n), below(2));
 }

@@ -33,12 +33,16 @@ static void (*const groups[])(void) = {
     group_changes,
     group_changes_refused,
     group_pending_refused,
+    group_views,
+    group_views_refused,
+    group_torn_cable,
     group_renumbered,
     group_lives,
     group_nothing_kept,
     group_addresses,
     group_pages_opened,
     group_page_lives,
+    group_page_views,
     group_page_words,
     group_causes
 };

@@ -6,7 +6,9 @@
 
 #define MAX_N PRESENCE_MAX_MODULES
 #define SETUP_MAX PRESENCE_MAX_FADING_SETUP_BYTES /* of either form */
-#define IMAGE_MAX PRESENCE_MAX_PENDING_IMAGE_BYTES /* of any image */
+#define IMAGE_MAX /* of any image */ \
+    (PRESENCE_MAX_PENDING_IMAGE_BYTES + PRESENCE_MAX_VIEWS_BYTES)
+#define READ_MAX PRESENCE_MAX_PARTITIONABLE_READ_BYTES /* of any read */
 #define COUNT(array) (sizeof (array) / sizeof (array)[0])
 
 #endif

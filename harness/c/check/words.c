@@ -57,10 +57,26 @@ uint32_t ones(uint32_t n)
     return (1u << n) - 1;
 }
 
+int fades(enum form form)
+{
+    return form == FADING || form == FADING_VIEWS;
+}
+
+int has_views(enum form form)
+{
+    return form == COUNTS_VIEWS || form == FADING_VIEWS;
+}
+
+enum form other_views(enum form form)
+{
+    return fades(form) ? has_views(form) ? FADING : FADING_VIEWS
+                       : has_views(form) ? COUNTS : COUNTS_VIEWS;
+}
+
 /* A fading setup has three words more before the modules' words. */
 static uint32_t later(enum form form)
 {
-    return form == FADING ? 3 : 0;
+    return fades(form) ? 3 : 0;
 }
 
 uint32_t module_at(enum form form, uint32_t j)
@@ -128,32 +144,74 @@ uint32_t score_at(uint32_t n, uint32_t j)
     return 2 * n + 7 + 2 * j;
 }
 
+/* Words of an image from its end on: 1 is the last. */
+static uint32_t from_end(const uint8_t *image, uint32_t n, uint32_t words)
+{
+    return (uint32_t)presence_image_bytes(image, n) / 4 - words;
+}
+
+uint32_t view_word_at(const uint8_t *image, uint32_t n, uint32_t j)
+{
+    return from_end(image, n, n + 5 - j);
+}
+
+uint32_t local_view_at(const uint8_t *image, uint32_t n)
+{
+    return from_end(image, n, 4);
+}
+
+uint32_t earlier_view_at(const uint8_t *image, uint32_t n)
+{
+    return from_end(image, n, 3);
+}
+
+uint32_t adopted_at(const uint8_t *image, uint32_t n)
+{
+    return from_end(image, n, 2);
+}
+
+uint32_t out_at(const uint8_t *image, uint32_t n)
+{
+    return from_end(image, n, 1);
+}
+
 size_t setup_bytes(enum form form, uint32_t n)
 {
-    return form == FADING ? PRESENCE_FADING_SETUP_BYTES(n)
-                          : PRESENCE_SETUP_BYTES(n);
+    return fades(form) ? PRESENCE_FADING_SETUP_BYTES(n)
+                       : PRESENCE_SETUP_BYTES(n);
+}
+
+static size_t views_bytes(enum form form, uint32_t n)
+{
+    return has_views(form) ? PRESENCE_VIEWS_BYTES(n) : 0;
 }
 
 size_t image_bytes(enum form form, uint32_t n)
 {
-    return form == FADING ? PRESENCE_FADING_IMAGE_BYTES(n)
-                          : PRESENCE_IMAGE_BYTES(n);
+    return (fades(form) ? PRESENCE_FADING_IMAGE_BYTES(n)
+                        : PRESENCE_IMAGE_BYTES(n)) + views_bytes(form, n);
 }
 
-size_t pending_bytes(uint32_t n)
+size_t pending_bytes(enum form form, uint32_t n)
 {
-    return PRESENCE_PENDING_IMAGE_BYTES(n);
+    return PRESENCE_PENDING_IMAGE_BYTES(n) + views_bytes(form, n);
+}
+
+size_t read_bytes(enum form form, uint32_t n)
+{
+    return has_views(form) ? PRESENCE_PARTITIONABLE_READ_BYTES(n)
+                           : PRESENCE_READ_BYTES(n);
 }
 
 uint32_t view_of(enum form form, const uint8_t *image, uint32_t n)
 {
-    return form == FADING ? PRESENCE_FADING_VIEW(image, n)
-                          : PRESENCE_VIEW(image, n);
+    return fades(form) ? PRESENCE_FADING_VIEW(image, n)
+                       : PRESENCE_VIEW(image, n);
 }
 
-uint32_t head_word(uint32_t n, uint32_t q)
+uint32_t head_word(enum form form, uint32_t n, uint32_t q)
 {
-    return 0x10000000 | q << 8 | n;
+    return 0x10000000 | q << 8 | (has_views(form) ? 0x20 : 0) | n;
 }
 
 uint32_t module_word(uint32_t j, uint32_t mark, uint32_t l,
@@ -185,4 +243,9 @@ uint32_t reward_word(uint32_t j, uint32_t reward)
 uint32_t returns_word(uint32_t j, uint32_t count)
 {
     return 0xF0000000 | j << 23 | count;
+}
+
+uint32_t view_word(uint32_t view)
+{
+    return 0xA0000000 | view;
 }

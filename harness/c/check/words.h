@@ -8,8 +8,13 @@
 #include <stddef.h>
 #include <stdint.h>
 
-/* The forms of a setup and its images. */
-enum form { COUNTS, FADING };
+/* The forms of a setup and its images: with head bit 5 they have views. */
+enum form { COUNTS, FADING, COUNTS_VIEWS, FADING_VIEWS, FORMS };
+
+/* What a form is, and the form that is the same but for the views. */
+int fades(enum form form);
+int has_views(enum form form);
+enum form other_views(enum form form);
 
 /* The word at an index from 0. */
 uint32_t get(const uint8_t *bytes, uint32_t index);
@@ -49,15 +54,26 @@ uint32_t new_module_at(uint32_t n, uint32_t j);
 /* Of fading: the score's high half. */
 uint32_t score_at(uint32_t n, uint32_t j);
 
-/* The length of a setup, of an image, and of an image with a pending change. */
+/* Of images with views, which they end with: module j's view word, the local
+   view and the one before it, the adopted view, and out. */
+uint32_t view_word_at(const uint8_t *image, uint32_t n, uint32_t j);
+uint32_t local_view_at(const uint8_t *image, uint32_t n);
+uint32_t earlier_view_at(const uint8_t *image, uint32_t n);
+uint32_t adopted_at(const uint8_t *image, uint32_t n);
+uint32_t out_at(const uint8_t *image, uint32_t n);
+
+/* The length of a setup, of an image, of an image with a pending change, and of
+   a read. */
 size_t setup_bytes(enum form form, uint32_t n);
 size_t image_bytes(enum form form, uint32_t n);
-size_t pending_bytes(uint32_t n);
+size_t pending_bytes(enum form form, uint32_t n);
+size_t read_bytes(enum form form, uint32_t n);
 
+/* The local view. */
 uint32_t view_of(enum form form, const uint8_t *image, uint32_t n);
 
 /* Words by what they hold; l is the read place, q the return limit. */
-uint32_t head_word(uint32_t n, uint32_t q);
+uint32_t head_word(enum form form, uint32_t n, uint32_t q);
 uint32_t module_word(uint32_t j, uint32_t mark, uint32_t l,
                      uint32_t criticality);
 uint32_t own_word(uint32_t own, uint32_t view);
@@ -65,5 +81,6 @@ uint32_t previous_word(uint32_t j, uint32_t heard, uint32_t row);
 uint32_t penalty_word(uint32_t j, uint32_t penalty);
 uint32_t reward_word(uint32_t j, uint32_t reward);
 uint32_t returns_word(uint32_t j, uint32_t count);
+uint32_t view_word(uint32_t view);
 
 #endif

@@ -24,6 +24,7 @@
     CALL(presence_change, UP_TO(9) AND(23) AND(24), \
          BYTES(image), BYTES(new_setup), in.lead, BYTES(changed)) \
     CALL(presence_outgoing, UP_TO(8), BYTES(image)) \
+    CALL(presence_outgoing_view, UP_TO(8), BYTES(image)) \
     CALL(presence_read_cause, UP_TO(0) AND(2) AND(10), in.n, in.bit, in.word) \
     CALL(presence_page_open, UP_TO(7) AND(9), \
          BYTES(setup), in.own, BYTES(out), BYTES(page)) \

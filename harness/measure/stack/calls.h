@@ -6,7 +6,8 @@
 
 /* Has room for a length that is a word too long. */
 struct block {
-    uint8_t bytes[PRESENCE_MAX_PENDING_IMAGE_BYTES + 4];
+    uint8_t bytes[PRESENCE_MAX_PENDING_IMAGE_BYTES + PRESENCE_MAX_VIEWS_BYTES +
+                  4];
     size_t len;
 };
 

@@ -32,9 +32,9 @@ int give_opened(char **argument)
     given.own = r.own;
     given.new_setup = given.setup;
     given.lead = 1;
-    given.changed.len = PRESENCE_PENDING_IMAGE_BYTES(r.n);
+    given.changed.len = presence_changed_bytes(r.setup, r.n);
     given.image.len = given.out.len = r.image_len;
-    given.read.len = PRESENCE_READ_BYTES(r.n);
+    given.read.len = r.read_len;
     given.page.len = PRESENCE_PAGE_BYTES;
     given.offset = PRESENCE_PAGE_FLAGS;
     given.value = PRESENCE_PAGE_CHARGED;
@@ -50,13 +50,13 @@ int give_opened(char **argument)
 void give_change(uint32_t left)
 {
     rounds_change(&r, given.image.bytes, 0, left);
-    given.image.len = PRESENCE_PENDING_IMAGE_BYTES(r.n);
+    given.image.len = presence_image_bytes(given.image.bytes, r.n);
     given.out.len = left > 1 ? given.image.len : r.image_len;
 }
 
 int given_fading(void)
 {
-    return r.form == FADING;
+    return r.fading;
 }
 
 void give_round(uint32_t k)
@@ -72,5 +72,6 @@ int give_step(void)
                              given.controller, given.out.bytes, given.out.len);
 
     memcpy(given.image.bytes, given.out.bytes, given.out.len);
+    rounds_in_again(&r, given.image.bytes);
     return a.number == 0;
 }

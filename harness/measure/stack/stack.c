@@ -1,7 +1,8 @@
 /*
  * stack.c - stack depth of every call, by painting.
  *
- *   stack N U counts|fading quiet|loud|late|away|back
+ *   stack N U counts|fading|counts+views|fading+views
+ *         quiet|loud|late|away|back
  *
  * Makes the calls in every round; then, on the state that the rounds left,
  * with every bit of every input flipped in turn and with wrong lengths; with
@@ -110,8 +111,8 @@ int main(int argc, char **argv)
     size_t c;
 
     if (argc != 5 || !give_opened(argv + 1) || call_count > MAX_CALLS) {
-        fprintf(stderr,
-                "stack N U counts|fading quiet|loud|late|away|back\n");
+        fprintf(stderr, "stack N U counts|fading|counts+views|fading+views "
+                        "quiet|loud|late|away|back\n");
         return 2;
     }
     for (k = 0; k < given_rounds; k++) {

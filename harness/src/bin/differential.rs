@@ -5,15 +5,15 @@
 //! a page with the host's calls, words with the causes why they are not heard, changes of the limits
 //! of a state, or a life of many steps in which each output image is the next input. Openings and
 //! steps are made with a page too; in a life the page goes on as the image does, the host reads and
-//! writes it between steps, and changes are offered. In some states a change waits. All calls follow
-//! from the seed. The first difference is shown with all arguments and ends the run.
+//! writes it between steps, and changes are offered. In some states a change waits. Some setups are
+//! partitionable, with view words in reads and images. All calls follow from the seed. The first difference is shown with all arguments and ends the run.
 
 use harness::call::{Buffers, Call, Reply};
 use harness::ffi::Library;
 use harness::hex::to_hex;
 use harness::model::calls::Model;
 use harness::model::change::MOST_LEAD;
-use harness::model::setup::{Form, Setup};
+use harness::model::setup::{Form, Setup, Shape};
 use harness::model::state::{image_length, image_words, read_image, stepped_length, State};
 use harness::model::words::{bytes_of, words_of};
 use harness::random::changes::{lead, more_than_limits, new_limits, pending_state};
@@ -123,11 +123,11 @@ impl Comparison {
         }
     }
 
-    /// An accepted state: saved, its outgoing word, and several steps from it.
+    /// An accepted state: saved, its outgoing words, and several steps from it.
     fn states(&mut self) {
         let (setup, state) = self.state();
         let bytes = bytes_of(&image_words(&setup, &state));
-        self.compare(Call::Outgoing { state: bytes.clone() });
+        self.outgoing(bytes.clone());
         self.compare(Call::Save { state: bytes.clone(), out_len: bytes.len() });
         for _ in 0..6 {
             let (words, controller) = read(&mut self.random, &setup, &state);
@@ -140,7 +140,7 @@ impl Comparison {
         let words = image_words(&setup, &state);
         for _ in 0..6 {
             let bytes = damaged(&mut self.random, &words);
-            self.compare(Call::Outgoing { state: bytes.clone() });
+            self.outgoing(bytes.clone());
             let out_len = self.out_length(image_length(&setup, &state.pending), setup.n);
             self.compare(Call::Save { state: bytes.clone(), out_len });
             if self.random.chance(1, 4) {
@@ -152,8 +152,8 @@ impl Comparison {
 
     /// Scripts and any bytes, as setup and as state.
     fn any_bytes(&mut self) {
-        let n = self.random.between(2, 16) as usize;
-        let form = self.form();
+        let shape = self.shape();
+        let n = shape.n;
         for _ in 0..3 {
             let bytes = if self.random.chance(1, 8) {
                 let way = self.random.below(WAYS);
@@ -162,12 +162,12 @@ impl Comparison {
                 any_bytes(&mut self.random)
             };
             let own = self.own_number(n);
-            let out_len = self.out_length(form.image_length(n), n);
+            let out_len = self.out_length(shape.image_length(), n);
             let controller = self.random.word();
             let read = any_bytes(&mut self.random);
             self.compare(Call::CheckSetup { setup: bytes.clone() });
             self.open(bytes.clone(), own, out_len);
-            self.compare(Call::Outgoing { state: bytes.clone() });
+            self.outgoing(bytes.clone());
             self.compare(Call::Save { state: bytes.clone(), out_len });
             let (new, lead) = (any_bytes(&mut self.random), lead(&mut self.random));
             self.compare(Call::Change { state: bytes.clone(), setup: new, lead, out_len });
@@ -196,7 +196,7 @@ impl Comparison {
             _ => bytes_of(&new_limits(&mut self.random, setup).words()),
         };
         let lead = lead(&mut self.random);
-        let out_len = self.out_length(setup.form().pending_image_length(setup.n), setup.n);
+        let out_len = self.out_length(setup.shape().pending_image_length(), setup.n);
         self.compare(Call::Change { state, setup: new, lead, out_len })
     }
 
@@ -224,6 +224,12 @@ impl Comparison {
         }
         let out_len = self.out_length(stepped_length(setup, state), setup.n);
         self.step(bytes, read, controller, out_len);
+    }
+
+    /// The two words that a state hands out.
+    fn outgoing(&mut self, state: Vec<u8>) {
+        self.compare(Call::Outgoing { state: state.clone() });
+        self.compare(Call::OutgoingView { state });
     }
 
     /// An opening, at times with a page.
@@ -307,7 +313,7 @@ impl Comparison {
         }
         let image = held.out.written().to_vec();
         self.compare(Call::Save { state: image.clone(), out_len: image.len() });
-        self.compare(Call::Outgoing { state: image });
+        self.outgoing(image);
     }
 
     /// One round of a life, from image and page to image and page.
@@ -337,7 +343,7 @@ impl Comparison {
         };
         let stepped = self.compare(call).expect("a step of a life is accepted");
         if self.random.chance(1, 10) {
-            self.compare(Call::Outgoing { state: stepped.out.written().to_vec() });
+            self.outgoing(stepped.out.written().to_vec());
         }
         stepped
     }
@@ -353,14 +359,17 @@ impl Comparison {
         } else {
             let new = bytes_of(&new_limits(&mut self.random, &setup).words());
             let lead = if self.random.chance(1, 10) { MOST_LEAD } else { self.random.between(1, 6) };
-            let out_len = 4 * setup.form().pending_image_length(setup.n);
+            let out_len = 4 * setup.shape().pending_image_length();
             self.compare(Call::Change { state: image.clone(), setup: new, lead, out_len })
         };
         lent.map_or(image, |lent| lent.out.written().to_vec())
     }
 
-    fn form(&mut self) -> Form {
-        self.random.pick(&[Form::Counts, Form::Fading])
+    /// Any N, form and variant.
+    fn shape(&mut self) -> Shape {
+        let n = self.random.between(2, 16) as usize;
+        let form = self.random.pick(&[Form::Counts, Form::Fading]);
+        Shape { n, form, partitionable: self.random.chance(1, 2) }
     }
 
     /// Mostly 1..N.
@@ -387,23 +396,23 @@ impl Comparison {
         }
     }
 
-    /// A length other than `right`: 0, off by a byte, off by a word, another N or form, the same N in the other form, with the words of a change more or
-    /// less, huge.
+    /// A length other than `right`: 0, off by a byte, off by a word, another N, form or variant, the same N in the other form, with the words of a change,
+    /// of views or of half a read more or less, huge.
     fn other_length(&mut self, right: usize, n: usize) -> usize {
-        let of_change = 4 * (n + 2);
+        let more = 4 * self.random.pick(&[n + 2, n + 2, n + 4, n, 2 * n + 6]);
         let length = match self.random.below(46) {
             0..=7 => 0,
             8..=12 => right - 1,
             13..=17 => right + 1,
             18..=22 => right - 4,
             23..=27 => right + 4,
-            28..=30 => 4 * self.form().image_length(self.random.between(2, 16) as usize),
+            28..=30 => 4 * self.shape().image_length(),
             31 => right + 12,
             32 => right.saturating_sub(12),
             33..=35 => self.random.below(2 * right),
             36..=38 => right + 256,
-            39..=41 => right + of_change,
-            42..=44 => right.saturating_sub(of_change),
+            39..=41 => right + more,
+            42..=44 => right.saturating_sub(more),
             _ => {
                 if self.random.chance(1, 20) {
                     1 << 20

@@ -11,7 +11,8 @@ use harness::model::calls::Functions;
 use harness::model::setup::{Form, Setup};
 use harness::model::state::{image_words, stepped_length, State};
 use harness::model::step::{read_word, Reading};
-use harness::model::words::{bytes_of, full, words_of, MAX};
+use harness::model::views::is_view_word;
+use harness::model::words::{bytes_of, full, words_of};
 use harness::random::changes::{new_limits, pending_state};
 use harness::random::pages::page;
 use harness::random::reads::read;
@@ -24,13 +25,13 @@ use harness::script::images::{held, Images};
 use harness::script::print::each_round;
 use harness::script::program::output_of;
 use harness::script::{Item, Script};
-use std::collections::BTreeMap;
+use std::collections::{BTreeMap, BTreeSet};
 use std::env;
 use std::fs;
 use std::process::ExitCode;
 
 /// What some run has to have.
-const NAMES: [&str; 18] = [
+const NAMES: [&str; 24] = [
     "modules moved",
     "counts",
     "fading",
@@ -49,6 +50,12 @@ const NAMES: [&str; 18] = [
     "in throughout",
     "in, then out",
     "out from round 1",
+    "partitionable",
+    "not partitionable",
+    "told views heard",
+    "told views not heard",
+    "one out",
+    "an adopted view that is not the local one",
 ];
 
 /// Single steps for each run.
@@ -85,13 +92,14 @@ fn compare(runs: usize, seed: u64, bench: &str) -> Result<(), String> {
         let renumbering = Renumbering::random(&mut random, script.setup.n);
         let same = same_lines(bench, &script, &renumbering)
             .and_then(|output| same_images(&mut random, &script, &renumbering).map(|played| (output, played)));
-        let (output, played) = same.map_err(|error| {
+        let (output, mut played) = same.map_err(|error| {
             format!("DIFFERENCE at run {run}, seed {seed}: {error}\n{}", kept(&script, &renumbering, seed, run))
         })?;
         all.rounds += played.rounds;
         all.taken += played.taken;
         all.refused += played.refused;
-        for name in names_of(&script, &renumbering, &output) {
+        played.names.extend(names_of(&script, &renumbering, &output));
+        for name in played.names {
             *reached.get_mut(name).expect("every name is listed") += 1;
         }
     }
@@ -102,7 +110,7 @@ fn compare(runs: usize, seed: u64, bench: &str) -> Result<(), String> {
     if let Some(name) = NAMES.iter().find(|name| reached[**name] == 0) {
         return Err(format!("no run has this: {name}"));
     }
-    let Played { rounds, taken, refused } = all;
+    let Played { rounds, taken, refused, .. } = all;
     if taken == 0 || refused == 0 {
         return Err(format!("{taken} changes taken, {refused} refused"));
     }
@@ -153,6 +161,8 @@ struct Played {
     /// Changes that all took, and that all refused.
     taken: u64,
     refused: u64,
+    /// Names that only images tell.
+    names: BTreeSet<&'static str>,
 }
 
 /// Plays script and renumbered script by the library, with the same changes between the rounds, renumbered.
@@ -170,6 +180,7 @@ fn same_images(random: &mut Random, script: &Script, renumbering: &Renumbering) 
             (new, lead, numbers)
         });
         rack.play_round(events)?;
+        played.names.extend(rack.images.iter().flat_map(|image| names_of_state(&held(image).1)));
         rounds.push(Round { offered, images: rack.images.clone(), pages: rack.pages.clone(), health: rack.health.clone() });
         Ok::<(), String>(())
     })?;
@@ -212,9 +223,7 @@ fn same_step(random: &mut Random) -> Result<(), String> {
     let page = page(random);
     let renumbering = Renumbering::random(random, setup.n);
 
-    let mut words = [0; MAX];
-    words[..setup.n].copy_from_slice(&read);
-    let moved_read = renumbering.read(&words)[..setup.n].to_vec();
+    let moved_read = renumbering.read(&read);
     let (health, image, after_page) = stepped(&setup, &before, &read, controller, &page)?;
     let (moved_setup, moved_before) = (renumbering.setup(&setup), renumbering.state(&before));
     let found = stepped(
@@ -254,11 +263,22 @@ fn page_of(renumbering: &Renumbering, page: &[u8]) -> Vec<u8> {
     bytes_of(&renumbering.page(&words.try_into().expect("a page has 16 words")))
 }
 
+/// What a module adopts.
+fn names_of_state(state: &State) -> Vec<&'static str> {
+    let views = state.views.as_ref();
+    let out = views.is_some_and(|views| views.out).then_some("one out");
+    let other = views.is_some_and(|views| !views.out && views.adopted != state.view);
+    out.into_iter().chain(other.then_some("an adopted view that is not the local one")).collect()
+}
+
 /// What a run has; `output` is what the bench prints for it.
 fn names_of(script: &Script, renumbering: &Renumbering, output: &str) -> Vec<&'static str> {
     let n = script.setup.n;
     let told = |wanted: fn(Reading) -> bool| {
         script.items.iter().any(|item| matches!(*item, Item::Lie { told, .. } if wanted(read_word(n, true, told))))
+    };
+    let told_views = |heard: bool| {
+        script.items.iter().any(|item| matches!(*item, Item::Lie { told_view: Some(view), .. } if is_view_word(n, view) == heard))
     };
     let lines: Vec<Vec<&str>> = output.lines().map(|line| line.split(' ').collect()).collect();
     let rounds: Vec<&[Vec<&str>]> = lines.chunks(n).collect();
@@ -285,6 +305,10 @@ fn names_of(script: &Script, renumbering: &Renumbering, output: &str) -> Vec<&'s
         ("in throughout", last == "in"),
         ("in, then out", first == "in" && last == "out"),
         ("out from round 1", first == "out"),
+        ("partitionable", script.setup.partitionable),
+        ("not partitionable", !script.setup.partitionable),
+        ("told views heard", told_views(true)),
+        ("told views not heard", told_views(false)),
     ]
     .into_iter()
     .filter_map(|(name, holds)| holds.then_some(name))

@@ -67,7 +67,7 @@ fn main() -> ExitCode {
 fn life(n: usize, u: usize, steps: usize) -> Life {
     let mut random = Random::new((100 * n + u) as u64);
     let limits = Limits::Counts { penalty: 1_000_000, reward: 8 };
-    let mut setup = Setup { limits, ..setup_of(&mut random, n, u) };
+    let mut setup = Setup { limits, partitionable: false, ..setup_of(&mut random, n, u) };
     for module in &mut setup.modules[..n] {
         module.criticality = 1;
     }

@@ -3,7 +3,7 @@
 use super::change::{accept, setup_after};
 use super::page::Page;
 use super::setup::{read_setup, Holds, Setup};
-use super::state::{fresh, handed_out, image_length, image_words, read_image, stepped_length, State};
+use super::state::{fresh, handed_out, handed_out_view, image_length, image_words, read_image, stepped_length, State};
 use super::step::{read_word, step, Outcome, Reading};
 use super::words::{bytes_of, words_of};
 use super::{refusal, Refusal};
@@ -16,7 +16,7 @@ pub struct Answer {
     pub health: u32,
 }
 
-/// Number, index and a word: the word handed out, a word of the page, or the interrupt as 1 or 0.
+/// Number, index and a word: a word handed out, a word of the page, or the interrupt as 1 or 0.
 /// The word is 0 if refused.
 #[derive(Clone, Copy, PartialEq, Eq, Debug)]
 pub struct WordAnswer {
@@ -42,6 +42,7 @@ pub trait Functions {
     fn save(&self, state: &[u8], out: &mut [u8]) -> Answer;
     fn change(&self, state: &[u8], setup: &[u8], lead: u32, out: &mut [u8]) -> Answer;
     fn outgoing(&self, state: &[u8]) -> WordAnswer;
+    fn outgoing_view(&self, state: &[u8]) -> WordAnswer;
     fn page_open(&self, setup: &[u8], own: u32, out: &mut [u8], page: &mut [u8]) -> Answer;
     fn page_step(&self, state: &[u8], read: &[u8], controller: u32, out: &mut [u8], page: &mut [u8]) -> Answer;
     fn page_read(&self, page: &[u8], offset: u32) -> WordAnswer;
@@ -70,6 +71,9 @@ impl Functions for Model {
     }
     fn outgoing(&self, state: &[u8]) -> WordAnswer {
         word(read_image(state).map(|(setup, state)| handed_out(&setup, &state)))
+    }
+    fn outgoing_view(&self, state: &[u8]) -> WordAnswer {
+        word(read_image(state).map(|(setup, state)| handed_out_view(&setup, &state)))
     }
     fn page_open(&self, setup: &[u8], own: u32, out: &mut [u8], page: &mut [u8]) -> Answer {
         answer(try_page_open(setup, own, out, page))
@@ -126,7 +130,7 @@ fn try_open(setup: &[u8], own: u32, out: &mut [u8]) -> Result<u32, Refusal> {
 /// Numbers 1 to 8, 9, 10. The output has the length of the image after the step.
 fn try_step(state: &[u8], read: &[u8], controller: u32, out: &mut [u8]) -> Result<Outcome, Refusal> {
     let (setup, mut state) = read_image(state)?;
-    let read = words_of(read).filter(|words| words.len() == setup.n).ok_or(refusal(9, 0))?;
+    let read = words_of(read).filter(|words| words.len() == setup.read_length()).ok_or(refusal(9, 0))?;
     if out.len() != 4 * stepped_length(&setup, &state) {
         return Err(refusal(9, 0));
     }
@@ -164,7 +168,7 @@ fn try_page_open(setup: &[u8], own: u32, out: &mut [u8], page: &mut [u8]) -> Res
     let health = try_open(setup, own, &mut image)?;
     Page::read(page)?;
     let (setup, state) = read_image(&image)?;
-    page.copy_from_slice(&Page::opened(setup.n, state.view).bytes());
+    page.copy_from_slice(&Page::opened(setup.n, state.shown()).bytes());
     out.copy_from_slice(&image);
     Ok(health)
 }
@@ -181,7 +185,7 @@ fn try_page_step(
     let mut after = Page::read(page)?;
     let outcome = try_step(state, read, controller, out)?;
     let (_, left) = read_image(out)?;
-    after.step(setup.n, &outcome, left.view);
+    after.step(setup.n, &outcome, left.shown());
     page.copy_from_slice(&after.bytes());
     Ok(outcome.health)
 }

@@ -41,10 +41,11 @@ pub fn accept(setup: &Setup, state: &State, new: &[u8], lead: u32) -> Result<Sta
     Ok(State { pending: Some(Pending { left: lead, setup: new }), ..*state })
 }
 
-/// Whether N, Q, the read places and the marks are the same.
+/// Whether N, Q, head bit 5, the read places and the marks are the same.
 fn same_but_limits(setup: &Setup, new: &Setup) -> bool {
     let same_module = |j| same_but_criticality(setup.module(j), new.module(j));
-    setup.n == new.n && setup.return_limit == new.return_limit && (1..=setup.n).all(same_module)
+    let same_head = (setup.n, setup.return_limit, setup.partitionable) == (new.n, new.return_limit, new.partitionable);
+    same_head && (1..=setup.n).all(same_module)
 }
 
 fn same_but_criticality(module: &Module, new: &Module) -> bool {

@@ -1,4 +1,4 @@
-//! The register page of a module, after document 02, E1, E5 and E10. Numbers 9, 17 and 18.
+//! The register page of a module, after document 02, E1, E5, E10 and E11. Numbers 9, 17 and 18.
 
 use super::step::Outcome;
 use super::words::{bytes_of, full, has, words_of};
@@ -28,7 +28,7 @@ impl Page {
         words.map(|words| Page { words }).ok_or(refusal(9, 0))
     }
 
-    /// Health all ones, the module's view, no flags, enable 0, all heard.
+    /// Health all ones, the view that the module shows, no flags, enable 0, all heard.
     pub fn opened(n: usize, view: u32) -> Page {
         let mut words = [0; 16];
         words[HEALTH] = full(n);
@@ -40,7 +40,7 @@ impl Page {
         bytes_of(&self.words)
     }
 
-    /// A step of n modules that left the view `after`.
+    /// A step of n modules that left the shown view `after`. Who was charged goes by the local view that rule 8 found.
     pub fn step(&mut self, n: usize, outcome: &Outcome, after: u32) {
         let health = outcome.health;
         if self.words[VIEW] != after {

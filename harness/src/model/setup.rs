@@ -67,30 +67,64 @@ impl Form {
         }
     }
 
+}
+
+/// What all lengths follow from.
+#[derive(Clone, Copy, PartialEq, Eq, Debug)]
+pub struct Shape {
+    pub n: usize,
+    pub form: Form,
+    pub partitionable: bool,
+}
+
+impl Shape {
     /// Words of a setup.
-    pub fn setup_length(self, n: usize) -> usize {
-        self.first_module() + n
+    pub fn setup_length(self) -> usize {
+        self.form.first_module() + self.n
     }
 
-    /// Words of a saved state without a change that waits; the last one is the rounds-left word (document 02, E10).
-    pub fn image_length(self, n: usize) -> usize {
-        match self {
-            Form::Counts => 5 * n + 7,
-            Form::Fading => 5 * n + 10,
+    /// Words of a read: N syndromes, and where the setup is partitionable N views behind them (document 02, E11).
+    pub fn read_length(self) -> usize {
+        if self.partitionable {
+            2 * self.n
+        } else {
+            self.n
         }
     }
 
+    /// Where the rounds-left word of a saved state stands (document 02, E10).
+    pub fn left_at(self) -> usize {
+        match self.form {
+            Form::Counts => 5 * self.n + 6,
+            Form::Fading => 5 * self.n + 9,
+        }
+    }
+
+    /// Words of a saved state without a change that waits.
+    pub fn image_length(self) -> usize {
+        self.left_at() + 1 + self.views_length()
+    }
+
     /// The same with a change that waits: kinds 2, 3 and N of 4 more. Only counts have one; a fading image that calls for it is of this length too.
-    pub fn pending_image_length(self, n: usize) -> usize {
-        self.image_length(n) + n + 2
+    pub fn pending_image_length(self) -> usize {
+        self.image_length() + self.n + 2
+    }
+
+    /// Words at the end of a saved state whose setup is partitionable: N view words, three views, and one word for out.
+    pub fn views_length(self) -> usize {
+        if self.partitionable {
+            self.n + 4
+        } else {
+            0
+        }
     }
 
     /// Whether these words have the length that the rounds-left word among them calls for.
-    fn is_image_length(self, n: usize, words: &[u32]) -> bool {
-        match words.get(self.image_length(n) - 1) {
+    fn is_image_length(self, words: &[u32]) -> bool {
+        match words.get(self.left_at()) {
             None => false,
-            Some(0) => words.len() == self.image_length(n),
-            Some(_) => words.len() == self.pending_image_length(n),
+            Some(0) => words.len() == self.image_length(),
+            Some(_) => words.len() == self.pending_image_length(),
         }
     }
 }
@@ -101,6 +135,8 @@ pub struct Setup {
     pub limits: Limits,
     /// Q, 0 for never (document 02, E6).
     pub return_limit: u32,
+    /// Whether modules send their views too, and show the one that they adopt (document 02, E11).
+    pub partitionable: bool,
     /// Module j stands at j-1.
     pub modules: [Module; MAX],
 }
@@ -124,18 +160,28 @@ impl Setup {
         self.limits.form()
     }
 
+    pub fn shape(&self) -> Shape {
+        Shape { n: self.n, form: self.form(), partitionable: self.partitionable }
+    }
+
     /// Its words.
     pub fn length(&self) -> usize {
-        self.form().setup_length(self.n)
+        self.shape().setup_length()
+    }
+
+    /// Words of a read of one of its modules.
+    pub fn read_length(&self) -> usize {
+        self.shape().read_length()
     }
 
     /// Words of the saved state of one of its modules, without a change that waits.
     pub fn image_length(&self) -> usize {
-        self.form().image_length(self.n)
+        self.shape().image_length()
     }
 
     pub fn words(&self) -> Vec<u32> {
-        let mut words = vec![Head { return_limit: self.return_limit, n: self.n as u32 }.word()];
+        let head = Head { return_limit: self.return_limit, partitionable: self.partitionable, n: self.n as u32 };
+        let mut words = vec![head.word()];
         words.extend(self.limits.words());
         for j in 1..=self.n {
             let module = self.module(j);
@@ -162,12 +208,13 @@ pub enum Holds {
 /// Numbers 1 to 6, and 22 in the place of 4. The answer is the setup and all words of the bytes.
 pub fn read_setup(bytes: &[u8], holds: Holds) -> Result<(Setup, Vec<u32>), Refusal> {
     let words = words_of(bytes).filter(|words| !words.is_empty()).ok_or(refusal(1, 0))?;
-    let (n, return_limit) = read_head(words[0]).ok_or(refusal(2, 0))?;
-    let form = Form::of(&words);
+    let Head { return_limit, partitionable, n } = read_head(words[0]).ok_or(refusal(2, 0))?;
+    let (n, form) = (n as usize, Form::of(&words));
+    let shape = Shape { n, form, partitionable };
     let length_right = match holds {
-        Holds::Setup => words.len() == form.setup_length(n),
-        Holds::State => form.is_image_length(n, &words),
-        Holds::Run => words.len() >= form.setup_length(n),
+        Holds::Setup => words.len() == shape.setup_length(),
+        Holds::State => shape.is_image_length(&words),
+        Holds::Run => words.len() >= shape.setup_length(),
     };
     if !length_right {
         return Err(refusal(3, 0));
@@ -188,14 +235,13 @@ pub fn read_setup(bytes: &[u8], holds: Holds) -> Result<(Setup, Vec<u32>), Refus
             return Err(refusal(6, first + j - 1));
         }
     }
-    Ok((Setup { n, limits, return_limit, modules }, words))
+    Ok((Setup { n, limits, return_limit, partitionable, modules }, words))
 }
 
-/// N and the return limit.
-fn read_head(word: u32) -> Option<(usize, u32)> {
+fn read_head(word: u32) -> Option<Head> {
     let head = Head::split(word)?;
     let right = (2..=16).contains(&head.n) && head.return_limit <= 1_000_000;
-    right.then_some((head.n as usize, head.return_limit))
+    right.then_some(head)
 }
 
 /// P and R, that of P at `at`; else the place of the first wrong word.

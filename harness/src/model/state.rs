@@ -1,8 +1,10 @@
-//! A module's state and its saved image, with the return counts, the fading scores and the pending change of document 02, E6, E9 and E10.
+//! A module's state and its saved image, with the return counts, the fading scores, the pending change and the adopted view of document 02, E6, E9,
+//! E10 and E11.
 //! Numbers 7 and 8.
 
 use super::change::{pending_words, read_pending, Pending};
 use super::setup::{read_setup, Holds, Limits, Setup};
+use super::views::{fresh_views, read_image_views, view_word, Views};
 use super::words::{bits, full, has, kind, Double, OwnWord, PenaltyWord, PreviousRead, ReturnWord, RewardWord, Vector, MAX};
 use super::{refusal, Refusal};
 
@@ -17,6 +19,7 @@ pub struct Entry {
 #[derive(Clone, Copy, PartialEq, Eq, Debug)]
 pub struct State {
     pub own: usize,
+    /// The local view, by which all rules go.
     pub view: u32,
     pub previous: [Entry; MAX],
     /// The syndrome of the latest round.
@@ -32,9 +35,18 @@ pub struct State {
     pub returns: [u32; MAX],
     /// A change of the limits that waits.
     pub pending: Option<Pending>,
+    /// Where the setup is partitionable, what was heard of views and adopted.
+    pub views: Option<Views>,
 }
 
-/// A fresh module: all-ones syndromes and rows, all heard, zero counters, every score 0.0, full view, no change.
+impl State {
+    /// The view that page, bench and scan lock take: the adopted one where there is one.
+    pub fn shown(&self) -> u32 {
+        self.views.map_or(self.view, |views| views.adopted)
+    }
+}
+
+/// A fresh module: all-ones syndromes and rows, all heard, zero counters, every score 0.0, full views, no change.
 pub fn fresh(setup: &Setup, own: usize) -> State {
     let ones = full(setup.n);
     let mut previous = [Entry::default(); MAX];
@@ -54,6 +66,7 @@ pub fn fresh(setup: &Setup, own: usize) -> State {
         score,
         returns: zeros,
         pending: None,
+        views: fresh_views(setup),
     }
 }
 
@@ -64,8 +77,14 @@ pub fn handed_out(setup: &Setup, state: &State) -> u32 {
     Vector { kind: 5, bits: syndrome }.word()
 }
 
+/// The view word beside it, delayed as the syndrome is; 0 where the setup is not partitionable.
+pub fn handed_out_view(setup: &Setup, state: &State) -> u32 {
+    let delayed = setup.module(state.own).send_mark;
+    state.views.map_or(0, |views| view_word(if delayed { views.earlier } else { state.view }))
+}
+
 /// The setup, one 10, N of 11, the latest and the one before as two 12, N of 13 and N of 14 or a pair of plain words for each score, N of 15, the
-/// rounds-left word and the words of a change that waits.
+/// rounds-left word and the words of a change that waits, and where the setup is partitionable those of the views.
 pub fn image_words(setup: &Setup, state: &State) -> Vec<u32> {
     let n = setup.n;
     let mut words = setup.words();
@@ -95,6 +114,7 @@ pub fn image_words(setup: &Setup, state: &State) -> Vec<u32> {
         words.push(ReturnWord { module: j as u32, count: state.returns[j - 1] }.word());
     }
     words.extend(pending_words(&state.pending));
+    words.extend(state.views.iter().flat_map(|views| views.image_words(n, state.view)));
     words
 }
 
@@ -102,7 +122,7 @@ pub fn image_words(setup: &Setup, state: &State) -> Vec<u32> {
 pub fn image_length(setup: &Setup, pending: &Option<Pending>) -> usize {
     match pending {
         None => setup.image_length(),
-        Some(_) => setup.form().pending_image_length(setup.n),
+        Some(_) => setup.shape().pending_image_length(),
     }
 }
 
@@ -133,7 +153,8 @@ pub fn read_image(bytes: &[u8]) -> Result<(Setup, State), Refusal> {
         Limits::Fading { limit, .. } => state.score = read_scores(&words, first, n, limit, view)?,
     }
     state.returns = read_each(&words, first + 2 * n, n, |word, j| read_returns(word, j, &setup, has(view, j)))?;
-    state.pending = read_pending(&words, first + 3 * n, &setup)?;
+    state.pending = read_pending(&words, setup.shape().left_at(), &setup)?;
+    state.views = read_image_views(&words, words.len() - setup.shape().views_length(), &setup, view)?;
     Ok((setup, state))
 }
 

@@ -1,9 +1,10 @@
-//! One step of one module: rules 1 to 8, struck-off modules, why a word was not heard, modules that come back, fading scores, and changes of
-//! the limits (document 02, E4, E5, E6, E9, E10). Number 10.
+//! One step of one module: rules 1 to 8, struck-off modules, why a word was not heard, modules that come back, fading scores, changes of the
+//! limits, and the adopted view (document 02, E4, E5, E6, E9, E10, E11). Number 10.
 
 use super::change::due;
 use super::setup::{Limits, Setup};
-use super::state::{Entry, State};
+use super::state::{handed_out_view, Entry, State};
+use super::views::read_views;
 use super::words::{bits, full, has, kind, only, Double, Vector, MAX};
 use super::{refusal, Refusal};
 
@@ -50,6 +51,8 @@ pub struct Outcome {
     pub found: u32,
     /// The outgoing word.
     pub word: u32,
+    /// The outgoing view word, 0 where the setup is not partitionable.
+    pub view_word: u32,
 }
 
 /// Rule 2 for one word, with the first cause that applies: its controller bit, its kind, its bits at N or above.
@@ -86,8 +89,8 @@ fn read_all(n: usize, controller: u32, read: &[u32]) -> ([Entry; MAX], [u32; MAX
 }
 
 /// Rule 3: entries j <= l come from the previous read if u = 1, all others from this read.
-pub fn align(n: usize, u: usize, l: usize, previous: &[Entry; MAX], this: &[Entry; MAX]) -> [Entry; MAX] {
-    let mut aligned = [Entry::default(); MAX];
+pub fn align<T: Copy + Default>(n: usize, u: usize, l: usize, previous: &[T; MAX], this: &[T; MAX]) -> [T; MAX] {
+    let mut aligned = [T::default(); MAX];
     for j in 1..=n {
         let from_previous = u == 1 && j <= l;
         aligned[j - 1] = if from_previous { previous[j - 1] } else { this[j - 1] };
@@ -226,7 +229,7 @@ fn count_absent(setup: &Setup, state: &mut State, j: usize, healthy: bool) {
     }
 }
 
-/// One step with a read of N words. A refusal leaves the state as it was. The setup of the state after it is `setup_after`.
+/// One step with a read of N words, or 2N where the setup is partitionable. A refusal leaves the state as it was. The setup of the state after it is `setup_after`.
 pub fn step(setup: &Setup, state: &mut State, read: &[u32], controller: u32) -> Result<Outcome, Refusal> {
     let n = setup.n;
     let u = setup.u();
@@ -252,6 +255,11 @@ pub fn step(setup: &Setup, state: &mut State, read: &[u32], controller: u32) -> 
     // Rule 7.
     let word = outgoing_word(own.send_mark, state.latest, syndrome);
 
+    // The adopted view, from the local views that all sent. The one before this step becomes the earlier one.
+    if let Some(views) = &mut state.views {
+        views.step(setup, own.place as usize, &read_views(n, controller, read), state.view);
+    }
+
     // A change that is due takes effect after the vote and before the counting.
     let changed = due(state);
     let setup = changed.as_ref().unwrap_or(setup);
@@ -265,5 +273,6 @@ pub fn step(setup: &Setup, state: &mut State, read: &[u32], controller: u32) -> 
     state.previous = this;
     state.before = state.latest;
     state.latest = syndrome;
-    Ok(Outcome { causes, health, accused, syndrome, found, word })
+    let view_word = handed_out_view(setup, state);
+    Ok(Outcome { causes, health, accused, syndrome, found, word, view_word })
 }

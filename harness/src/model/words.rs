@@ -1,4 +1,4 @@
-//! The words of document 01 and of document 02, E6 and E9, one struct for each kind; and a double, which is two plain words.
+//! The words of document 01 and of document 02, E6, E9 and E11, one struct for each kind; and a double, which is two plain words.
 //!
 //! `split` answers the fields of a word, or `None` if its kind is another one or a bit that
 //! belongs to no field is set. It does so by writing the fields back and comparing. Ranges of
@@ -52,19 +52,20 @@ pub fn bytes_of(words: &[u32]) -> Vec<u8> {
     bytes
 }
 
-/// Kind 1; bits 27..8 are the return limit (document 02, E6).
+/// Kind 1; bits 27..8 are the return limit (document 02, E6), bit 5 chooses the partitionable variant (E11).
 pub struct Head {
     pub return_limit: u32,
+    pub partitionable: bool,
     pub n: u32,
 }
 
 impl Head {
     pub fn split(word: u32) -> Option<Head> {
-        let head = Head { return_limit: bits(word, 27, 8), n: bits(word, 4, 0) };
+        let head = Head { return_limit: bits(word, 27, 8), partitionable: bits(word, 5, 5) == 1, n: bits(word, 4, 0) };
         (head.word() == word).then_some(head)
     }
     pub fn word(&self) -> u32 {
-        1 << 28 | self.return_limit << 8 | self.n
+        1 << 28 | self.return_limit << 8 | (self.partitionable as u32) << 5 | self.n
     }
 }
 
@@ -141,7 +142,7 @@ impl ModuleWord {
     }
 }
 
-/// Kinds 5 (bus word), 6 (cast) and 12 (aligned syndrome): one vector in bits 15..0.
+/// Kinds 5 (bus word), 6 (cast) and 12 (aligned syndrome), and a view word of kind 10 (document 02, E11): one vector in bits 15..0.
 pub struct Vector {
     pub kind: u32,
     pub bits: u32,

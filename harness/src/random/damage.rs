@@ -2,8 +2,8 @@
 
 use super::doubles::{factor, limit, out_of_range, put, score_below, score_from, wrong_factor, wrong_limit};
 use super::Random;
-use crate::model::setup::Form;
-use crate::model::words::{bytes_of, kind, Double};
+use crate::model::setup::{Form, Shape};
+use crate::model::words::{bytes_of, full, kind, Double};
 
 /// Damages words in one or several ways and answers them as bytes.
 /// The result may still be accepted, since some damages change nothing that is tested.
@@ -55,7 +55,7 @@ fn damage_once(random: &mut Random, words: &mut Vec<u32>) {
         return;
     }
     let at = random.below(words.len());
-    match random.below(18) {
+    match random.below(20) {
         // The fields of one word, at or beyond their limits.
         0..=5 => spoil_field(random, words, at),
         6 | 7 => words[at] ^= 1 << random.below(32),
@@ -79,6 +79,8 @@ fn damage_once(random: &mut Random, words: &mut Vec<u32>) {
         }
         15 => other_form(random, words),
         16 => other_tail(random, words),
+        17 => other_variant(random, words),
+        18 => spoil_views(random, words),
         _ => match random.below(3) {
             0 => words.truncate(at),
             1 => words.push(random.word()),
@@ -99,11 +101,12 @@ fn other_form(random: &mut Random, words: &mut Vec<u32>) {
 
 /// From the rounds-left word of a state on: another one, with the words of a change behind it or without (document 02, E10).
 fn other_tail(random: &mut Random, words: &mut Vec<u32>) {
-    let n = modules(words);
-    let (form, at) = (Form::of(words), left_at(words));
+    let Shape { n, form, .. } = shape(words);
+    let at = left_at(words);
     if words.len() <= at {
         return;
     }
+    let views = views_at(words).map_or(Vec::new(), |first| words[first..].to_vec());
     words.truncate(at);
     words.push(any_left(random));
     if random.chance(2, 3) {
@@ -113,11 +116,69 @@ fn other_tail(random: &mut Random, words: &mut Vec<u32>) {
             words.push(field(module, 16, 0, random.limit(100_000)));
         }
     }
+    words.extend(views);
+}
+
+/// Head bit 5 the other way, or the words at the end that it calls for: with both a state may be accepted (document 02, E11).
+fn other_variant(random: &mut Random, words: &mut Vec<u32>) {
+    let (n, first) = (modules(words), views_at(words));
+    if random.chance(2, 3) {
+        words[0] ^= 1 << 5;
+    }
+    if random.chance(2, 3) {
+        match first {
+            Some(first) => words.truncate(first),
+            None => {
+                let view = words.get(Form::of(words).first_module() + n).map_or(0, |word| word & 0xFFFF);
+                words.extend(vec![10 << 28 | view; n]);
+                words.extend([view, random.vector(n), random.vector(n), random.below(2) as u32]);
+            }
+        }
+    }
+}
+
+/// One of the words at the end of a partitionable state.
+fn spoil_views(random: &mut Random, words: &mut [u32]) {
+    let (n, Some(first)) = (modules(words), views_at(words)) else {
+        return;
+    };
+    let at = first + random.below(n + 4);
+    let wide = [full(n), full(n) + 1, 1 << 16, 1 << 31, 10 << 28 | full(n)];
+    words[at] = match at - first {
+        place if place < n => spoil_view_word(random, words[at], n),
+        place if place < n + 3 && random.chance(1, 2) => words[at] ^ 1 << random.below(n),
+        place if place < n + 3 => random.pick(&wide),
+        _ => random.pick(&[0, 1, 2, 3, 1 << 16, 1 << 31, u32::MAX]),
+    };
+}
+
+/// A view word: 0, another kind, a bit at N or above, another view.
+fn spoil_view_word(random: &mut Random, word: u32, n: usize) -> u32 {
+    match random.below(6) {
+        0 => 0,
+        1 => word & 0x0FFF_FFFF,
+        2 => word & 0x0FFF_FFFF | random.pick(&[5, 9, 11, 12]) << 28,
+        3 => 10 << 28 | 1 << random.between(n as u32, 27),
+        4 => word | 1 << n,
+        _ => 10 << 28 | random.vector(n),
+    }
+}
+
+/// What lengths follow from.
+fn shape(words: &[u32]) -> Shape {
+    Shape { n: modules(words), form: Form::of(words), partitionable: words[0] >> 5 & 1 == 1 }
 }
 
 /// Where the rounds-left word of a state stands.
 fn left_at(words: &[u32]) -> usize {
-    Form::of(words).image_length(modules(words)) - 1
+    shape(words).left_at()
+}
+
+/// Where the view words of a partitionable state begin, if there is room for them.
+fn views_at(words: &[u32]) -> Option<usize> {
+    let shape = shape(words);
+    let room = shape.partitionable && words.len() >= shape.image_length();
+    room.then(|| words.len() - shape.views_length())
 }
 
 /// N, or the next one to it that a setup may have.
@@ -138,6 +199,9 @@ fn spoil_field(random: &mut Random, words: &mut [u32], at: usize) {
     }
     if Form::of(words) == Form::Fading && spoil_double(random, words, n as usize, at) {
         return;
+    }
+    if views_at(words).is_some_and(|first| at >= first) {
+        return spoil_views(random, words);
     }
     let word = words[at];
     let bit_at_n = 1 << (n + random.below(2) as u32);
@@ -169,8 +233,9 @@ fn spoil_double(random: &mut Random, words: &mut [u32], n: usize, at: usize) -> 
     if words.len() < Form::Fading.first_module() {
         return false;
     }
-    let first = Form::Fading.setup_length(n) + n + 3;
-    let is_state = words.len() >= Form::Fading.image_length(n);
+    let shape = Shape { n, form: Form::Fading, partitionable: false };
+    let first = shape.setup_length() + n + 3;
+    let is_state = words.len() >= shape.image_length();
     let right = random.chance(1, 3);
     match at {
         2 | 3 => put(words, 2, if right { factor(random) } else { wrong_factor(random) }),
@@ -203,7 +268,7 @@ fn spoil_head(random: &mut Random, word: u32, n: u32) -> u32 {
     match random.below(4) {
         0 => field(word, 4, 0, random.pick(&[0, 1, 2, 15, 16, 17, 31])),
         1 => field(word, 27, 8, random.pick(&[0, 1, 999_999, 1_000_000, 1_000_001, 0xF_FFFF])),
-        2 => word | 1 << random.between(5, 7),
+        2 => word ^ 1 << random.between(5, 7),
         _ => 1 << 28 | n,
     }
 }

@@ -1,16 +1,19 @@
 //! What scripts have in them and what comes of them, by name: to see what random scripts reach.
 
 use crate::model::setup::{Form, Limits, Setup};
+use crate::model::state::State;
 use crate::model::step::heard_word;
+use crate::model::views::is_view_word;
 use crate::model::words::{full, kind, words_of, MAX};
 use crate::script::check::{check, Item, Script, MOST_BYTES, MOST_ROUNDS};
+use crate::script::print::play_rounds;
 use std::collections::{BTreeMap, BTreeSet};
 
 /// Every name, in the order of a report.
-const NAMES: [(&str, &[&str]); 13] = [
+const NAMES: [(&str, &[&str]); 15] = [
     ("refused", &["1", "2", "3", "4", "22", "5", "6", "12", "13", "14", "15", "16"]),
     ("22 for", &["a spare bit", "the factor", "the limit"]),
-    ("14 for want of", &["cast", "told word", "play of events", "any play"]),
+    ("14 for want of", &["cast", "told word", "told view", "play of events", "any play"]),
     ("played", &["N 2", "N 3", "N 4", "N 5", "N 6", "N 7", "N 8", "N 9", "N 10", "N 11", "N 12", "N 13"]),
     ("played", &["N 14", "N 15", "N 16", "u 0", "u 1", "marks", "several plays"]),
     ("played", &["100,000 rounds", "65,536 bytes"]),
@@ -30,6 +33,11 @@ const NAMES: [(&str, &[&str]); 13] = [
         "fading",
         &["factor 0", "factor between", "factor 1", "limit up to 1", "limit above 1", "some leave", "one comes back"],
     ),
+    (
+        "partitionable",
+        &["nobody out", "some out", "all out", "none out, local views change", "adopted views differ", "adopted not local"],
+    ),
+    ("told views", &["heard", "not heard", "heard without the word", "not heard with the word"]),
 ];
 
 /// How many scripts had each name.
@@ -100,6 +108,10 @@ impl Reached {
         self.count_rounds(script);
         self.count_events(script);
         self.count("limit", limit_name(script, output));
+        // The lines of a partitionable setup show views that are adopted later than they are held, if at all.
+        if script.setup.partitionable {
+            return self.count_partitionable(script);
+        }
         let leaves = self.count_views(script.setup.n, output);
         let comes_back = self.count_returns(script, output);
         if let Limits::Fading { factor, limit } = script.setup.limits {
@@ -141,6 +153,46 @@ impl Reached {
         for name in replaced(script) {
             self.count("replaced", name);
         }
+    }
+
+    /// What the modules adopt, played by the model.
+    fn count_partitionable(&mut self, script: &Script) {
+        let n = script.setup.n;
+        let (mut out, mut changed, mut differ, mut late) = (0, false, false, false);
+        play_rounds(script, |backplane| {
+            let states = &backplane.states[..n];
+            let adopted = |state: &State| state.views.filter(|views| !views.out).map(|views| views.adopted);
+            let all: BTreeSet<u32> = states.iter().filter_map(adopted).collect();
+            out = states.iter().filter(|state| adopted(state).is_none()).count();
+            changed |= states.iter().any(|state| state.view != full(n));
+            differ |= all.len() > 1;
+            late |= states.iter().any(|state| adopted(state).is_some_and(|view| view != state.view));
+            Ok(())
+        })
+        .expect("playing writes nothing");
+        let who = match out {
+            0 => "nobody out",
+            _ if out == n => "all out",
+            _ => "some out",
+        };
+        self.count("partitionable", who);
+        self.count_if(out == 0 && changed, "partitionable", "none out, local views change");
+        self.count_if(differ, "partitionable", "adopted views differ");
+        self.count_if(late, "partitionable", "adopted not local");
+        self.count_told_views(script);
+    }
+
+    fn count_told_views(&mut self, script: &Script) {
+        let n = script.setup.n;
+        let heard = |item: &Item| match *item {
+            Item::Lie { told, told_view: Some(view), .. } => Some((heard_word(n, told).is_some(), is_view_word(n, view))),
+            _ => None,
+        };
+        let told: BTreeSet<(bool, bool)> = script.items.iter().filter_map(heard).collect();
+        self.count_if(told.iter().any(|(_, view)| *view), "told views", "heard");
+        self.count_if(told.iter().any(|(_, view)| !view), "told views", "not heard");
+        self.count_if(told.contains(&(false, true)), "told views", "heard without the word");
+        self.count_if(told.contains(&(true, false)), "told views", "not heard with the word");
     }
 
     fn count_fading(&mut self, factor: f64, limit: f64) {
@@ -242,7 +294,8 @@ fn limit_name(script: &Script, output: &str) -> &'static str {
 /// What a script refused by 14 lacks.
 fn wanting(bytes: &[u8]) -> &'static str {
     let words = words_of(bytes).expect("14 has whole words");
-    let mut at = Form::of(&words).setup_length((words[0] & 31) as usize) + 1;
+    let mut at = Form::of(&words).first_module() + (words[0] & 31) as usize + 1;
+    let partitionable = words[0] >> 5 & 1 == 1;
     if words.len() < at {
         return "cast";
     }
@@ -250,7 +303,11 @@ fn wanting(bytes: &[u8]) -> &'static str {
     while at < words.len() {
         match kind(words[at]) {
             8 => {
-                at += 1;
+                match words.len() - at - 1 {
+                    0 => return "told word",
+                    1 if partitionable => return "told view",
+                    _ => at += 1 + usize::from(partitionable),
+                }
                 waits = true;
             }
             7 => waits = true,
@@ -261,9 +318,7 @@ fn wanting(bytes: &[u8]) -> &'static str {
         }
         at += 1;
     }
-    if at > words.len() {
-        "told word"
-    } else if waits {
+    if waits {
         "play of events"
     } else {
         assert!(!played, "14 has a reason");

@@ -53,7 +53,11 @@ fn modules(words: &[u32]) -> usize {
 }
 
 fn cast_at(words: &[u32]) -> usize {
-    Form::of(words).setup_length(modules(words))
+    module_at(words, modules(words)) + 1
+}
+
+fn is_partitionable(words: &[u32]) -> bool {
+    words[0] >> 5 & 1 == 1
 }
 
 /// Where the word of module j stands.
@@ -86,17 +90,20 @@ fn lie_outside_the_cast(random: &mut Random, words: &mut Vec<u32>) {
     }
 }
 
-/// 14: the cast missing, the told word missing, events never played, no play.
+/// 14: the cast missing, the told word or the told view missing, events never played, no play.
 fn unfinished(random: &mut Random, words: &mut Vec<u32>) {
     let n = modules(words);
     let cast_at = cast_at(words);
-    match random.below(4) {
+    match random.below(6) {
         0 => words.truncate(cast_at),
-        1 => {
+        1..=3 => {
             words[cast_at] |= 1;
             words.push(8 << 28 | 1 << 23 | random.mask(n));
+            if is_partitionable(words) && random.chance(2, 3) {
+                words.push(random.word());
+            }
         }
-        2 => words.push(7 << 28 | random.between(1, n as u32) << 23 | random.mask(n)),
+        4 => words.push(7 << 28 | random.between(1, n as u32) << 23 | random.mask(n)),
         _ => words.truncate(cast_at + 1),
     }
 }
@@ -179,7 +186,7 @@ fn wrong_module(random: &mut Random, words: &mut Vec<u32>) {
 /// 2: a wrong head, in N, in the return limit, in a spare bit or in its kind, before a sound rest.
 fn wrong_head(random: &mut Random, words: &mut Vec<u32>) {
     let head = words[0];
-    let spare = 1 << random.between(5, 7);
+    let spare = 1 << random.between(6, 7);
     let return_limit: u32 = random.pick(&[1_000_001, 1_000_002, 0xF_FFFF]) << 8 | modules(words) as u32;
     let kind = random.pick(&[0, 2, 3, 5, 9, 15]) << 28;
     let other_kind = kind | modules(words) as u32;

@@ -1,4 +1,4 @@
-//! Accepted setups: every N, both u, marks, counts and fading, limits at both ends, with modules that return and without.
+//! Accepted setups: every N, both u, marks, counts and fading, limits at both ends, with modules that return and without, partitionable and not.
 
 use super::doubles::{factor, limit, lively_limit};
 use super::Random;
@@ -40,6 +40,7 @@ pub fn setup_of(random: &mut Random, n: usize, u: usize) -> Setup {
         n,
         limits: limits(random),
         return_limit: if random.chance(1, 4) { 0 } else { random.limit(1_000_000) },
+        partitionable: random.chance(2, 5),
         modules,
     }
 }

@@ -2,12 +2,13 @@
 
 use super::changes::new_limits;
 use super::doubles::{score_below, score_from};
-use super::reads::read;
+use super::reads::{read, view_word};
 use super::Random;
 use crate::model::change::{accept, setup_after};
 use crate::model::setup::{Limits, Setup};
 use crate::model::state::{fresh, Entry, State};
 use crate::model::step::step;
+use crate::model::views::{is_view_word, Views};
 use crate::model::words::{bytes_of, has, only, Double, MAX};
 
 /// A state made from fields within the limits of number 8.
@@ -30,7 +31,20 @@ pub fn state(random: &mut Random, setup: &Setup) -> State {
             state.returns[j - 1] = any_returns(random, setup);
         }
     }
+    state.views = setup.partitionable.then(|| any_views(random, n, state.view));
     state
+}
+
+/// View words near a common view, some of them missing; any views, in or out.
+fn any_views(random: &mut Random, n: usize, local: u32) -> Views {
+    let common = if random.chance(1, 2) { local } else { random.vector(n) };
+    let noise = random.below(4);
+    let mut words = [0; MAX];
+    for word in &mut words[..n] {
+        let made = view_word(random, n, common, noise);
+        *word = if is_view_word(n, made) { made } else { 0 };
+    }
+    Views { words, earlier: random.vector(n), adopted: random.vector(n), out: random.chance(1, 5) }
 }
 
 /// Penalty, reward and view of module j.

@@ -11,8 +11,16 @@ pub const MOST_ROUNDS_A_PLAY: u32 = 1_000;
 #[derive(Clone, Copy, PartialEq, Eq, Debug)]
 pub enum Item {
     Loss { sender: usize, receivers: u32 },
-    Lie { sender: usize, receivers: u32, told: u32 },
+    /// `told_view` stands behind the told word where the setup is partitionable (document 02, E11).
+    Lie { sender: usize, receivers: u32, told: u32, told_view: Option<u32> },
     Play { rounds: u32 },
+}
+
+impl Item {
+    /// Whether it is an event of this sender.
+    pub fn is_by(&self, j: usize) -> bool {
+        matches!(*self, Item::Loss { sender, .. } | Item::Lie { sender, .. } if sender == j)
+    }
 }
 
 #[derive(Clone, PartialEq, Eq, Debug)]
@@ -37,7 +45,7 @@ pub fn check(bytes: &[u8]) -> Result<Script, Refusal> {
         return Err(refusal(14, count));
     }
     let cast = read_cast(words[at], n).ok_or(refusal(12, at))?;
-    let items = read_items(&words, at + 1, n, cast)?;
+    let items = read_items(&words, at + 1, &setup, cast)?;
 
     // A play stands last: without it there is none, or events wait for one.
     match items.last() {
@@ -47,24 +55,25 @@ pub fn check(bytes: &[u8]) -> Result<Script, Refusal> {
 }
 
 /// The events and plays behind the cast, the first of them at `at`.
-fn read_items(words: &[u32], mut at: usize, n: usize, cast: u32) -> Result<Vec<Item>, Refusal> {
+fn read_items(words: &[u32], mut at: usize, setup: &Setup, cast: u32) -> Result<Vec<Item>, Refusal> {
     let mut items = Vec::new();
     let mut rounds_in_all = 0;
     while at < words.len() {
-        let item = read_item(words, at, n, cast)?;
+        let item = read_item(words, at, setup, cast)?;
         if let Item::Play { rounds } = item {
             rounds_in_all += rounds;
             if rounds_in_all > MOST_ROUNDS {
                 return Err(refusal(15, at));
             }
         }
-        at += if matches!(item, Item::Lie { .. }) { 2 } else { 1 };
+        at += item_words(&item).len();
         items.push(item);
     }
     Ok(items)
 }
 
-fn read_item(words: &[u32], at: usize, n: usize, cast: u32) -> Result<Item, Refusal> {
+fn read_item(words: &[u32], at: usize, setup: &Setup, cast: u32) -> Result<Item, Refusal> {
+    let n = setup.n;
     match kind(words[at]) {
         7 => {
             let (sender, receivers) = read_event(7, words[at], n).ok_or(refusal(12, at))?;
@@ -75,9 +84,11 @@ fn read_item(words: &[u32], at: usize, n: usize, cast: u32) -> Result<Item, Refu
             if !has(cast, sender) {
                 return Err(refusal(13, at));
             }
-            // The next word is taken as it is; where it is missing, the script ends here.
-            let told = *words.get(at + 1).ok_or(refusal(14, words.len()))?;
-            Ok(Item::Lie { sender, receivers, told })
+            // The next word is taken as it is, and so is the told view; where one is missing, the script ends here.
+            let taken = |behind: usize| words.get(at + behind).copied().ok_or(refusal(14, words.len()));
+            let told = taken(1)?;
+            let told_view = setup.partitionable.then(|| taken(2)).transpose()?;
+            Ok(Item::Lie { sender, receivers, told, told_view })
         }
         9 => {
             let rounds = read_play(words[at]).ok_or(refusal(12, at))?;
@@ -109,17 +120,18 @@ fn read_play(word: u32) -> Option<u32> {
 pub fn words(script: &Script) -> Vec<u32> {
     let mut words = script.setup.words();
     words.push(Vector { kind: 6, bits: script.cast }.word());
-    for item in &script.items {
-        match *item {
-            Item::Loss { sender, receivers } => {
-                words.push(EventWord { kind: 7, sender: sender as u32, receivers }.word());
-            }
-            Item::Lie { sender, receivers, told } => {
-                words.push(EventWord { kind: 8, sender: sender as u32, receivers }.word());
-                words.push(told);
-            }
-            Item::Play { rounds } => words.push(Amount { kind: 9, value: rounds }.word()),
-        }
-    }
+    words.extend(script.items.iter().flat_map(item_words));
     words
+}
+
+/// An event with the words that it tells, or a play.
+pub fn item_words(item: &Item) -> Vec<u32> {
+    match *item {
+        Item::Loss { sender, receivers } => vec![EventWord { kind: 7, sender: sender as u32, receivers }.word()],
+        Item::Lie { sender, receivers, told, told_view } => {
+            let lie = EventWord { kind: 8, sender: sender as u32, receivers };
+            [lie.word(), told].into_iter().chain(told_view).collect()
+        }
+        Item::Play { rounds } => vec![Amount { kind: 9, value: rounds }.word()],
+    }
 }

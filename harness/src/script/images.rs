@@ -37,7 +37,7 @@ impl<'a> Images<'a> {
         let mut numbers = Vec::new();
         for image in &mut self.images {
             let (setup, _) = held(image);
-            let mut out = vec![0; 4 * setup.form().pending_image_length(setup.n)];
+            let mut out = vec![0; 4 * setup.shape().pending_image_length()];
             let answer = self.calls.change(image, &bytes_of(&new.words()), lead, &mut out);
             if answer.number == 0 {
                 *image = out;
@@ -50,10 +50,12 @@ impl<'a> Images<'a> {
     /// All send what their images hand out, then all step; the events count for the words sent.
     pub fn play_round(&mut self, events: &Events) -> Result<(), String> {
         let sent: Vec<u32> = self.images.iter().map(|image| self.calls.outgoing(image).word).collect();
+        let views: Vec<u32> = self.images.iter().map(|image| self.calls.outgoing_view(image).word).collect();
         for receiver in 1..=self.n {
-            let (read, controller) = arrived(&sent, events, receiver);
             let at = receiver - 1;
             let (setup, state) = held(&self.images[at]);
+            let (mut read, controller) = arrived(&sent, &views, events, receiver);
+            read.truncate(setup.read_length());
             let mut image = vec![0; 4 * stepped_length(&setup, &state)];
             let page = &mut self.pages[at];
             let answer = self.calls.page_step(&self.images[at], &bytes_of(&read), controller, &mut image, page);
@@ -69,14 +71,15 @@ pub fn held(image: &[u8]) -> (Setup, State) {
     read_image(image).expect("the image that a call wrote is accepted")
 }
 
-/// The words that reach a receiver, and its controller word.
-fn arrived(sent: &[u32], events: &Events, receiver: usize) -> (Vec<u32>, u32) {
-    let mut read = sent.to_vec();
+/// The words that reach a receiver, syndromes first and then views, and its controller word.
+fn arrived(sent: &[u32], views: &[u32], events: &Events, receiver: usize) -> (Vec<u32>, u32) {
+    let n = sent.len();
+    let mut read = [sent, views].concat();
     let mut controller = 0;
-    for sender in 1..=sent.len() {
+    for sender in 1..=n {
         match events[sender - 1][receiver - 1] {
             Some(Event::Loss) => continue,
-            Some(Event::Lie { told }) => read[sender - 1] = told,
+            Some(Event::Lie { told, told_view }) => (read[sender - 1], read[n + sender - 1]) = (told, told_view),
             None => {}
         }
         controller |= only(sender);

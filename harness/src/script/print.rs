@@ -40,8 +40,8 @@ pub fn each_round<E>(script: &Script, mut play_round: impl FnMut(&Events) -> Res
     for item in &script.items {
         match *item {
             Item::Loss { sender, receivers } => add_event(&mut events, sender, receivers, Event::Loss),
-            Item::Lie { sender, receivers, told } => {
-                add_event(&mut events, sender, receivers, Event::Lie { told })
+            Item::Lie { sender, receivers, told, told_view } => {
+                add_event(&mut events, sender, receivers, Event::Lie { told, told_view: told_view.unwrap_or(0) })
             }
             Item::Play { rounds } => {
                 play_round(&events)?;
@@ -55,7 +55,7 @@ pub fn each_round<E>(script: &Script, mut play_round: impl FnMut(&Events) -> Res
     Ok(())
 }
 
-/// One line a module: round, module, health, view, `in` or `out`.
+/// One line a module: round, module, health, the view that it shows, `in` or `out`.
 fn round_lines(backplane: &Backplane, lines: &mut Vec<u8>) {
     let n = backplane.setup.n;
     let round = backplane.round.to_string();
@@ -70,7 +70,7 @@ fn round_lines(backplane: &Backplane, lines: &mut Vec<u8>) {
         lines.push(b' ');
         push_vector(n, backplane.outcomes[j - 1].health, lines);
         lines.push(b' ');
-        push_vector(n, backplane.states[j - 1].view, lines);
+        push_vector(n, backplane.states[j - 1].shown(), lines);
         lines.extend_from_slice(limit);
     }
 }

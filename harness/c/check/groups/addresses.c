@@ -15,18 +15,18 @@ static struct call accepted_call(enum op op, enum form form, uint32_t n,
                                  const uint8_t *read, uint32_t controller)
 {
     int of_setup = op == SETUP || op == OPEN;
-    int writes = op != SETUP && op != OUTGOING;
+    int writes = op != SETUP && op != OUTGOING && op != OUTGOING_VIEW;
     struct call c = {.op = op, .read = op == CHANGE ? setup : read};
 
     c.in = of_setup ? setup : image;
     c.in_len = of_setup ? setup_bytes(form, n) : presence_image_bytes(image, n);
-    c.read_len = op == STEP     ? PRESENCE_READ_BYTES(n)
+    c.read_len = op == STEP     ? read_bytes(form, n)
                  : op == CHANGE ? setup_bytes(form, n)
                                 : 0;
     c.argument = op == OPEN ? n : op == CHANGE ? 1 + controller % 1000
                                                : controller;
     if (writes)
-        c.out_len = op == CHANGE ? pending_bytes(n)
+        c.out_len = op == CHANGE ? pending_bytes(form, n)
                     : op == STEP ? presence_stepped_bytes(image, n)
                     : op == OPEN ? image_bytes(form, n)
                                  : c.in_len;
@@ -52,20 +52,20 @@ static void call_at_all_addresses(const struct call *c)
 
 static void all_calls(enum form form, uint32_t n)
 {
-    uint8_t s[SETUP_MAX], image[IMAGE_MAX], read[PRESENCE_MAX_READ_BYTES];
+    uint8_t s[SETUP_MAX], image[IMAGE_MAX], read[READ_MAX];
     struct call c;
     uint32_t op, left, controller = 0;
 
     low_setup(form, s, n, 1);
     lived_image(form, image, s, n, 1, 30);
-    for (op = SETUP; op <= OUTGOING; op++) {
-        if (op == CHANGE && form == FADING)
+    for (op = SETUP; op <= OUTGOING_VIEW; op++) {
+        if (op == CHANGE && fades(form))
             continue; /* never accepted */
-        controller = random_read(read, n, 4);
+        controller = random_read(form, read, n, 4);
         c = accepted_call((enum op)op, form, n, s, image, read, controller);
         call_at_all_addresses(&c);
     }
-    if (form == FADING)
+    if (fades(form))
         return;
     for (left = 1; left <= 2; left++) { /* steps with a pending change */
         put_pending(image, s, n, left);
@@ -76,12 +76,11 @@ static void all_calls(enum form form, uint32_t n)
 
 void group_addresses(void)
 {
-    uint32_t n;
+    uint32_t n, form;
 
     begin_group("odd addresses");
-    for (n = 2; n <= MAX_N; n += 7) {
-        all_calls(COUNTS, n);
-        all_calls(FADING, n);
-    }
+    for (n = 2; n <= MAX_N; n += 7)
+        for (form = 0; form < FORMS; form++)
+            all_calls((enum form)form, n);
     end_group();
 }

@@ -12,17 +12,21 @@ static void open_all(struct backplane *b)
     for (i = 0; i < n; i++) {
         open_module(b->setup, setup_bytes(b->form, n), i + 1,
                     image_bytes(b->form, n), 0, 0, b->image[i]);
-        for (j = 0; j < n; j++)
+        for (j = 0; j < n; j++) {
             put(b->read[i], j, 0x50000000 | ones(n));
+            put(b->read[i], n + j, view_word(ones(n)));
+        }
         b->controller[i] = ones(n);
     }
 }
 
-/* Module i + 1 takes the word that its image hands out. */
+/* Module i + 1 takes the words that its image hands out. */
 static void take_word(struct backplane *b, uint32_t i)
 {
-    b->word[i] = outgoing(b->image[i], presence_image_bytes(b->image[i], b->n),
-                          0, 0);
+    size_t len = presence_image_bytes(b->image[i], b->n);
+
+    b->word[i] = outgoing(b->image[i], len, 0, 0);
+    b->view_word[i] = outgoing_view(b->image[i], len, 0, 0);
 }
 
 /* Module j sends in round k. */
@@ -32,6 +36,7 @@ static void send_word(struct backplane *b, uint32_t k, uint32_t j)
 
     for (i = 0; i < b->n; i++) {
         put(b->read[i], j - 1, b->word[j - 1]);
+        put(b->read[i], b->n + j - 1, b->view_word[j - 1]);
         b->controller[i] |= bit;
         if (b->silent[k][j - 1] >> i & 1)
             b->controller[i] &= ~bit;
@@ -51,12 +56,15 @@ static void step_at(struct backplane *b, uint32_t k, uint32_t l)
             continue;
         if (k == b->change_in)
             change(image, image_bytes(b->form, n), b->new_setup,
-                   setup_bytes(b->form, n), b->lead, pending_bytes(n), 0, 0,
-                   image);
+                   setup_bytes(b->form, n), b->lead,
+                   pending_bytes(b->form, n), 0, 0, image);
         b->health[k][i] = step(image, presence_image_bytes(image, n),
-                               b->read[i], 4 * n, b->controller[i],
+                               b->read[i], read_bytes(b->form, n),
+                               b->controller[i],
                                presence_stepped_bytes(image, n), 0, 0, image);
         b->view[k][i] = view_of(b->form, image, n);
+        b->shown[k][i] = presence_shown_view(image, n);
+        b->out[k][i] = presence_is_out(image, n);
         if (of_setup >> 22 & 1) /* with the mark */
             take_word(b, i);
     }

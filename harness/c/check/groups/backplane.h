@@ -19,11 +19,13 @@ struct backplane {
     uint32_t lead;
     uint32_t silent[ROUNDS + 1][MAX_N]; /* receivers without j */
     uint8_t image[MAX_N][IMAGE_MAX];
-    uint32_t word[MAX_N]; /* what the module sends next */
-    uint8_t read[MAX_N][PRESENCE_MAX_READ_BYTES];
+    uint32_t word[MAX_N], view_word[MAX_N]; /* what the module sends next */
+    uint8_t read[MAX_N][READ_MAX];
     uint32_t controller[MAX_N];
     uint32_t health[ROUNDS + 1][MAX_N];
-    uint32_t view[ROUNDS + 1][MAX_N];
+    uint32_t view[ROUNDS + 1][MAX_N];  /* the local one */
+    uint32_t shown[ROUNDS + 1][MAX_N]; /* the adopted one where there are views */
+    uint32_t out[ROUNDS + 1][MAX_N];   /* 0 without views */
 };
 
 /* Opens all modules and plays rounds 1, 2, ...; every call must be accepted. */

@@ -47,6 +47,7 @@ struct form {
 static const struct form forms[] = {
     {"setup", SETUP, 1, 2},
     {"state", OUTGOING, 1, 2},
+    {"outgoingview", OUTGOING_VIEW, 1, 3},
     {"open", OPEN, 3, 4},
     {"step", STEP, 4, 4},
     {"save", SAVE, 2, 4},
@@ -179,6 +180,7 @@ static int parse_results(char **field, const struct form *form,
     case SETUP:
     case OUTGOING:
         return 1;
+    case OUTGOING_VIEW:
     case PAGE_READ:
     case INTERRUPT:
         return parse_told(field[0], refused, &a->health);

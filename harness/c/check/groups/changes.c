@@ -19,12 +19,13 @@ static struct {
     unsigned long cleared, put_out, back_at_once, raised, cut, kept;
 } seen;
 
-/* The image with the rounds left and the new words behind it, nothing else. */
-static void accepted(const uint8_t *image, uint32_t n, const uint8_t *new_setup,
-                     uint32_t lead)
+/* The image with the rounds left and the new words behind them, nothing
+   else. */
+static void accepted(enum form form, const uint8_t *image, uint32_t n,
+                     const uint8_t *new_setup, uint32_t lead)
 {
     uint8_t out[IMAGE_MAX], wanted[IMAGE_MAX];
-    size_t len = image_bytes(COUNTS, n), long_len = pending_bytes(n);
+    size_t len = image_bytes(form, n), long_len = pending_bytes(form, n);
 
     memset(out, 0, sizeof out);
     change(image, len, new_setup, setup_bytes(COUNTS, n), lead, long_len, 0, 0,
@@ -37,30 +38,33 @@ static void accepted(const uint8_t *image, uint32_t n, const uint8_t *new_setup,
     same("length", presence_image_bytes(out, n), long_len);
     same("length after a step", presence_stepped_bytes(out, n),
          lead > 1 ? long_len : len);
+    same("length by the setup", presence_changed_bytes(new_setup, n), long_len);
     same("word handed out", outgoing(out, long_len, 0, 0),
          outgoing(image, len, 0, 0));
+    same("view word handed out", outgoing_view(out, long_len, 0, 0),
+         outgoing_view(image, len, 0, 0));
     save(out, long_len, long_len, 0, 0);
 }
 
-static void accepted_changes(uint32_t n, uint32_t u)
+static void accepted_changes(enum form form, uint32_t n, uint32_t u)
 {
     static const uint32_t leads[] = {1, 2, 3, 999, 1000};
     uint8_t s[SETUP_MAX], new_setup[SETUP_MAX], image[IMAGE_MAX];
     uint32_t i;
 
-    low_setup(COUNTS, s, n, u);
-    lived_image(COUNTS, image, s, n, 1 + below(n), 20);
+    low_setup(form, s, n, u);
+    lived_image(form, image, s, n, 1 + below(n), 20);
     for (i = 0; i < COUNT(leads); i++) {
         new_limits(new_setup, s, n);
-        accepted(image, n, new_setup, leads[i]);
+        accepted(form, image, n, new_setup, leads[i]);
     }
-    accepted(image, n, s, 1); /* the limits that it has */
+    accepted(form, image, n, s, 1); /* the limits that it has */
     put(new_setup, 1, 0x20000000 | 1);
     put(new_setup, 2, 0x30000000 | 1);
-    accepted(image, n, new_setup, 1);
+    accepted(form, image, n, new_setup, 1);
     put(new_setup, 1, 0x20000000 | 1000000);
     put(new_setup, 2, 0x30000000 | 8000000);
-    accepted(image, n, new_setup, 1000);
+    accepted(form, image, n, new_setup, 1000);
 }
 
 /* What a module has in an image. */
@@ -151,8 +155,7 @@ static void step_follows(const uint8_t *old, const uint8_t *image, uint32_t n,
 
     memcpy(setup, old, setup_bytes(COUNTS, n));
     if (left == 1)
-        memcpy(setup + 4, old + image_bytes(COUNTS, n),
-               setup_bytes(COUNTS, n) - 4);
+        memcpy(setup + 4, old + 4 * new_p_at(n), setup_bytes(COUNTS, n) - 4);
     if (memcmp(image, setup, setup_bytes(COUNTS, n)) != 0)
         differ("setup after a step", 1, 0);
     same("rounds left after a step", presence_rounds_left(image, n),
@@ -175,7 +178,7 @@ static void step_follows(const uint8_t *old, const uint8_t *image, uint32_t n,
 }
 
 /* New limits, offered while none are pending and while some are. */
-static void offer(uint8_t *image, uint32_t n)
+static void offer(enum form form, uint8_t *image, uint32_t n)
 {
     uint8_t new_setup[SETUP_MAX];
     uint32_t lead = below(100) == 0 ? 1000 : 1 + below(5);
@@ -183,50 +186,58 @@ static void offer(uint8_t *image, uint32_t n)
 
     new_limits(new_setup, image, n);
     change(image, presence_image_bytes(image, n), new_setup,
-           setup_bytes(COUNTS, n), lead, pending_bytes(n), pending ? 24 : 0, 0,
-           image);
+           setup_bytes(form, n), lead, pending_bytes(form, n),
+           pending ? 24 : 0, 0, image);
 }
 
-/* Vote and syndrome go by the view as it was: the same step without a change
-   answers the same. */
-static void vote_is_as_without(const uint8_t *old, const uint8_t *image,
-                               const uint8_t *read, uint32_t n,
-                               uint32_t controller, uint32_t health)
+/* Vote and syndrome go by the view as it was, and no view word is another: the
+   same step without a change answers and adopts the same. */
+static void vote_is_as_without(enum form form, const uint8_t *old,
+                               const uint8_t *image, const uint8_t *read,
+                               uint32_t n, uint32_t controller, uint32_t health)
 {
     uint8_t without[IMAGE_MAX];
-    size_t len = image_bytes(COUNTS, n);
+    size_t len = image_bytes(form, n);
 
-    memcpy(without, old, len);
-    put(without, left_at(COUNTS, n), 0);
+    memcpy(without, old, sizeof without);
+    if (presence_rounds_left(old, n) > 0)
+        drop_pending(without, n);
     same("health with a change", health,
-         step(without, len, read, 4 * n, controller, len, 0, 0, without));
+         step(without, len, read, read_bytes(form, n), controller, len, 0, 0,
+              without));
     same("syndrome with a change", get(image, latest_at(COUNTS, n)),
          get(without, latest_at(COUNTS, n)));
+    if (has_views(form)) {
+        same("adopted view with a change", presence_shown_view(image, n),
+             presence_shown_view(without, n));
+        same("out with a change", presence_is_out(image, n),
+             presence_is_out(without, n));
+    }
 }
 
-static void life(uint32_t n, uint32_t u, uint32_t steps)
+static void life(enum form form, uint32_t n, uint32_t u, uint32_t steps)
 {
-    uint8_t s[SETUP_MAX], read[PRESENCE_MAX_READ_BYTES];
+    uint8_t s[SETUP_MAX], read[READ_MAX];
     uint8_t image[IMAGE_MAX], old[IMAGE_MAX];
     uint32_t k, controller, health, faults = 0;
 
-    low_setup(COUNTS, s, n, u);
+    low_setup(form, s, n, u);
     if (below(2) == 0)
-        put(s, 0, head_word(n, 1)); /* back at once */
-    open_module(s, setup_bytes(COUNTS, n), 1 + below(n),
-                image_bytes(COUNTS, n), 0, 0, image);
+        put(s, 0, head_word(form, n, 1)); /* back at once */
+    open_module(s, setup_bytes(form, n), 1 + below(n), image_bytes(form, n), 0,
+                0, image);
     for (k = 1; k <= steps; k++) {
         if (k % 16 == 1)
             faults = below(9);
         if (below(6) == 0)
-            offer(image, n);
-        controller = random_read(read, n, faults);
+            offer(form, image, n);
+        controller = random_read(form, read, n, faults);
         memcpy(old, image, sizeof old);
-        health = step(image, presence_image_bytes(image, n), read, 4 * n,
-                      controller, presence_stepped_bytes(image, n), 0, 0,
-                      image);
+        health = step(image, presence_image_bytes(image, n), read,
+                      read_bytes(form, n), controller,
+                      presence_stepped_bytes(image, n), 0, 0, image);
         step_follows(old, image, n, health);
-        vote_is_as_without(old, image, read, n, controller, health);
+        vote_is_as_without(form, old, image, read, n, controller, health);
         outgoing(image, presence_image_bytes(image, n), 0, 0);
     }
 }
@@ -235,13 +246,14 @@ static void life(uint32_t n, uint32_t u, uint32_t steps)
    2u+5.  With P = 1 it leaves with the second charge. */
 enum { SILENT = 4 };
 
-static void play_change(struct backplane *b, const uint8_t *setup,
-                        const uint8_t *new_setup, uint32_t n,
-                        uint32_t change_in, uint32_t lead)
+static void play_change(struct backplane *b, enum form form,
+                        const uint8_t *setup, const uint8_t *new_setup,
+                        uint32_t n, uint32_t change_in, uint32_t lead)
 {
     uint32_t k;
 
     memset(b, 0, sizeof *b);
+    b->form = form;
     b->n = n;
     b->setup = setup;
     b->change_in = change_in;
@@ -265,25 +277,25 @@ static void in_view_until(const struct backplane *b, uint32_t last)
 
 /* All changed together: raised in time P keeps the module in the view, raised
    too late it does not; lowered, it puts the module out in its round. */
-static void changed_together(uint32_t n, uint32_t u)
+static void changed_together(enum form form, uint32_t n, uint32_t u)
 {
     static struct backplane b;
     uint8_t low[SETUP_MAX], high[SETUP_MAX];
     uint32_t leaves = 2 * u + 3, j, lead;
 
-    make_setup(low, n, 1, 8, 1);
-    make_setup(high, n, 9, 8, 1);
+    make_setup(form, low, n, 1, 8, 1);
+    make_setup(form, high, n, 9, 8, 1);
     for (j = 1; u == 1 && j <= n; j++) {
         put(low, module_at(COUNTS, j), module_word(j, j > 1, j - 1, 1));
         put(high, module_at(COUNTS, j), module_word(j, j > 1, j - 1, 1));
     }
     for (lead = 1; lead <= leaves + 2; lead++) {
-        play_change(&b, low, high, n, 1, lead);
+        play_change(&b, form, low, high, n, 1, lead);
         in_view_until(&b, lead <= leaves ? 16 : leaves - 1);
     }
     /* Four charges until step 2u+5; then good rounds, fewer than R. */
     for (lead = 1; lead <= 5; lead++) {
-        play_change(&b, high, low, n, 2 * u + 6, lead);
+        play_change(&b, form, high, low, n, 2 * u + 6, lead);
         in_view_until(&b, 2 * u + 5 + lead - 1);
     }
 }
@@ -302,9 +314,12 @@ void group_changes(void)
     begin_group("new limits without a stop");
     for (n = 2; n <= MAX_N; n++)
         for (u = 0; u < 2; u++) {
-            accepted_changes(n, u);
-            life(n, u, 600);
-            changed_together(n, u);
+            accepted_changes(COUNTS, n, u);
+            accepted_changes(COUNTS_VIEWS, n, u);
+            life(COUNTS, n, u, 600);
+            life(COUNTS_VIEWS, n, u, 300);
+            changed_together(COUNTS, n, u);
+            changed_together(COUNTS_VIEWS, n, u);
         }
     often("modules that a change cleared", seen.cleared);
     often("modules that it put out", seen.put_out);

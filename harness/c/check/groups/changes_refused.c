@@ -13,22 +13,30 @@
 #include "check/sizes.h"
 #include "check/words.h"
 
-/* An image with counts, one with the same and a pending change, and a new setup
-   that each would take if none were pending. */
+/* An image with counts, with views or without; one with the same and a pending
+   change, and a new setup that each would take if none were pending. */
 struct given {
+    enum form form;
     uint32_t n;
     uint8_t setup[SETUP_MAX], new_setup[SETUP_MAX];
     uint8_t image[IMAGE_MAX], pending[IMAGE_MAX];
 };
 
-static void make_given(struct given *g, uint32_t n, uint32_t u)
+static void make_given(struct given *g, enum form form, uint32_t n, uint32_t u)
 {
+    g->form = form;
     g->n = n;
-    low_setup(COUNTS, g->setup, n, u);
-    lived_image(COUNTS, g->image, g->setup, n, 1 + below(n), 20);
+    low_setup(form, g->setup, n, u);
+    lived_image(form, g->image, g->setup, n, 1 + below(n), 20);
     new_limits(g->new_setup, g->setup, n);
     memcpy(g->pending, g->image, sizeof g->pending);
     put_pending(g->pending, g->new_setup, n, 1 + below(1000));
+}
+
+/* The fading form with views or without, as the image has them. */
+static enum form fading_of(const struct given *g)
+{
+    return has_views(g->form) ? FADING_VIEWS : FADING;
 }
 
 /* The image is refused, whatever is wrong besides. */
@@ -44,8 +52,9 @@ static void by_image(const uint8_t *image, size_t len, uint32_t number,
 static void images_refused_first(const struct given *g)
 {
     uint32_t n = g->n;
-    size_t len = image_bytes(COUNTS, n);
+    size_t len = image_bytes(g->form, n);
     uint8_t copy[IMAGE_MAX];
+    uint32_t at;
 
     by_image(g->image, 0, 1, 0);
     by_image(g->image, len - 1, 1, 0);
@@ -62,11 +71,16 @@ static void images_refused_first(const struct given *g)
     by_image(copy, len, 5, module_at(COUNTS, n));
     put(copy, 2, 0x30000000);
     by_image(copy, len, 4, 2);
-    put(copy, 0, head_word(17, 0));
+    put(copy, 0, head_word(g->form, 17, 0));
     by_image(copy, len, 2, 0);
     memcpy(copy, g->pending, sizeof copy);
+    if (has_views(g->form)) {
+        at = out_at(copy, n);
+        put(copy, at, 2);
+        by_image(copy, pending_bytes(g->form, n), 8, at);
+    }
     put(copy, new_module_at(n, n), 0);
-    by_image(copy, pending_bytes(n), 8, new_module_at(n, n));
+    by_image(copy, pending_bytes(g->form, n), 8, new_module_at(n, n));
 }
 
 /* The new setup is refused by its own number, before 23, 24 and 9: with a
@@ -76,11 +90,11 @@ static void by_new_words(const struct given *g, const uint8_t *new_setup,
 {
     uint32_t n = g->n;
 
-    change(g->image, image_bytes(COUNTS, n), new_setup, len, 1,
-           pending_bytes(n), number, index, NULL);
-    change(g->pending, pending_bytes(n), new_setup, len, 0, 0, number, index,
-           NULL);
-    change(g->image, image_bytes(COUNTS, n), new_setup, len, 1001, 0, number,
+    change(g->image, image_bytes(g->form, n), new_setup, len, 1,
+           pending_bytes(g->form, n), number, index, NULL);
+    change(g->pending, pending_bytes(g->form, n), new_setup, len, 0, 0, number,
+           index, NULL);
+    change(g->image, image_bytes(g->form, n), new_setup, len, 1001, 0, number,
            index, NULL);
 }
 
@@ -99,14 +113,17 @@ static void new_setups_refused(const struct given *g)
 {
     uint32_t n = g->n, at = module_at(COUNTS, n), word = get(g->new_setup, at);
     size_t len = setup_bytes(COUNTS, n), l;
-    uint8_t fades[SETUP_MAX];
+    uint8_t scores[SETUP_MAX];
+    enum form fading = fading_of(g);
 
     for (l = 0; l <= len; l++)
         if (l != len)
             by_new_words(g, g->new_setup, l, l == 0 || l % 4 != 0 ? 1 : 3, 0);
-    by_new_words(g, g->image, image_bytes(COUNTS, n), 3, 0);
-    by_new_word(g, 0, head_word(17, 0), 2);
-    by_new_word(g, 0, head_word(n, 1000001), 2);
+    by_new_words(g, g->image, image_bytes(g->form, n), 3, 0);
+    by_new_word(g, 0, head_word(g->form, 17, 0), 2);
+    by_new_word(g, 0, get(g->new_setup, 0) | 1u << 6, 2);
+    by_new_word(g, 0, get(g->new_setup, 0) | 1u << 7, 2);
+    by_new_word(g, 0, head_word(g->form, n, 1000001), 2);
     by_new_word(g, 1, 0x20000000, 4);
     by_new_word(g, 1, 0x20000000 | 1000001, 4);
     by_new_word(g, 2, 0x30000000, 4);
@@ -115,13 +132,13 @@ static void new_setups_refused(const struct given *g)
     by_new_word(g, at, (word & ~0x1FFFFu) | 100001, 5);
     by_new_word(g, at, word + (1u << 23), 5);
     by_new_word(g, at, module_word(n, 1, n, 1), 6);
-    make_fading_setup(fades, n, 0.5, 3.0);
-    put(fades, 1, 1);
-    by_new_words(g, fades, setup_bytes(FADING, n), 22, 1);
-    make_fading_setup(fades, n, 1.5, 3.0);
-    by_new_words(g, fades, setup_bytes(FADING, n), 22, 2);
-    make_fading_setup(fades, n, 0.5, 0.0);
-    by_new_words(g, fades, setup_bytes(FADING, n), 22, 4);
+    make_fading_setup(fading, scores, n, 0.5, 3.0);
+    put(scores, 1, 1);
+    by_new_words(g, scores, setup_bytes(FADING, n), 22, 1);
+    make_fading_setup(fading, scores, n, 1.5, 3.0);
+    by_new_words(g, scores, setup_bytes(FADING, n), 22, 2);
+    make_fading_setup(fading, scores, n, 0.5, 0.0);
+    by_new_words(g, scores, setup_bytes(FADING, n), 22, 4);
 }
 
 /* 23, before 24 and 9. */
@@ -163,23 +180,26 @@ static void setups_differ(const struct given *g)
 {
     uint32_t n = g->n, q = get(g->setup, 0) >> 8 & 0xFFFFF;
     uint8_t other[SETUP_MAX], image[IMAGE_MAX];
-    size_t len = image_bytes(FADING, n);
+    enum form fading = fading_of(g);
+    size_t len = image_bytes(fading, n);
 
-    word_differs(g, 0, head_word(n, q < 1000000 ? q + 1 : 0));
-    word_differs(g, 0, head_word(n, q > 0 ? q - 1 : 1000000));
+    /* The view words alone: not to be had by a change, nor to be left. */
+    word_differs(g, 0, head_word(other_views(g->form), n, q));
+    word_differs(g, 0, head_word(g->form, n, q < 1000000 ? q + 1 : 0));
+    word_differs(g, 0, head_word(g->form, n, q > 0 ? q - 1 : 1000000));
     modules_differ(g);
-    low_setup(COUNTS, other, n == MAX_N ? n - 1 : n + 1, 0);
+    low_setup(g->form, other, n == MAX_N ? n - 1 : n + 1, 0);
     differs(g, other, setup_bytes(COUNTS, n == MAX_N ? n - 1 : n + 1));
     if (n < MAX_N) { /* N alone: one module more, those before as they are */
         memcpy(other, g->new_setup, setup_bytes(COUNTS, n));
-        put(other, 0, head_word(n + 1, q));
+        put(other, 0, head_word(g->form, n + 1, q));
         put(other, module_at(COUNTS, n + 1), module_word(n + 1, 0, n, 1));
         differs(g, other, setup_bytes(COUNTS, n + 1));
     }
-    make_fading_setup(other, n, 0.5, 3.0);
-    differs(g, other, setup_bytes(FADING, n));
+    make_fading_setup(fading, other, n, 0.5, 3.0);
+    differs(g, other, setup_bytes(fading, n));
     /* From an image that fades, to counts and to what it has already. */
-    fresh_image(FADING, image, other, n, 1);
+    fresh_image(fading, image, other, n, 1);
     change(image, len, other, setup_bytes(FADING, n), 1, len, 23, 0, NULL);
     change(image, len, g->new_setup, setup_bytes(COUNTS, n), 0, 0, 23, 0, NULL);
 }
@@ -191,8 +211,8 @@ static void leads_and_lengths(const struct given *g)
         0, 1001, 1024, 0x00010001, 0x80000001, 0xFFFFFFFF
     };
     uint32_t n = g->n, i;
-    size_t setup_len = setup_bytes(COUNTS, n), len = image_bytes(COUNTS, n);
-    size_t long_len = pending_bytes(n), l;
+    size_t setup_len = setup_bytes(COUNTS, n), len = image_bytes(g->form, n);
+    size_t long_len = pending_bytes(g->form, n), l;
 
     for (i = 0; i < COUNT(wrong); i++) {
         change(g->image, len, g->new_setup, setup_len, wrong[i], long_len, 24,
@@ -209,19 +229,26 @@ static void leads_and_lengths(const struct given *g)
                l == long_len ? 0 : 9, 0, NULL);
 }
 
-void group_changes_refused(void)
+static void all_refused(enum form form, uint32_t n, uint32_t u)
 {
     struct given g;
+
+    make_given(&g, form, n, u);
+    images_refused_first(&g);
+    new_setups_refused(&g);
+    setups_differ(&g);
+    leads_and_lengths(&g);
+}
+
+void group_changes_refused(void)
+{
     uint32_t n, u;
 
     begin_group("changes refused");
     for (n = 2; n <= MAX_N; n++)
         for (u = 0; u < 2; u++) {
-            make_given(&g, n, u);
-            images_refused_first(&g);
-            new_setups_refused(&g);
-            setups_differ(&g);
-            leads_and_lengths(&g);
+            all_refused(COUNTS, n, u);
+            all_refused(COUNTS_VIEWS, n, u);
         }
     end_group();
 }

@@ -70,13 +70,13 @@ static const struct course courses[] = {
 
 /* All l are N; with u = 1 each module steps before its own slot, with marks.
    Criticalities are as high as they may be, for they count nothing. */
-static void fading_setup(uint8_t *setup, uint32_t n, uint32_t u,
+static void fading_setup(enum form form, uint8_t *setup, uint32_t n, uint32_t u,
                          const struct course *c)
 {
     uint32_t j, l;
 
-    make_fading_setup(setup, n, c->factor, c->limit);
-    put(setup, 0, head_word(n, c->q));
+    make_fading_setup(form, setup, n, c->factor, c->limit);
+    put(setup, 0, head_word(form, n, c->q));
     for (j = 1; j <= n; j++) {
         l = u == 1 ? j - 1 : n;
         put(setup, module_at(FADING, j),
@@ -84,25 +84,25 @@ static void fading_setup(uint8_t *setup, uint32_t n, uint32_t u,
     }
 }
 
-static void fading_backplane(struct backplane *b, const uint8_t *setup,
-                             uint32_t n)
+static void fading_backplane(struct backplane *b, enum form form,
+                             const uint8_t *setup, uint32_t n)
 {
     memset(b, 0, sizeof *b);
-    b->form = FADING;
+    b->form = form;
     b->n = n;
     b->setup = setup;
 }
 
 /* Round r is judged in step r + 2u + 1. */
-static void follow(struct backplane *b, uint32_t n, uint32_t u,
+static void follow(struct backplane *b, enum form form, uint32_t n, uint32_t u,
                    const struct course *c)
 {
     uint32_t rounds = (uint32_t)strlen(c->rounds), last = rounds + 2 * u + 1;
     uint32_t i, j, k;
     uint8_t setup[SETUP_MAX];
 
-    fading_setup(setup, n, u, c);
-    fading_backplane(b, setup, n);
+    fading_setup(form, setup, n, u, c);
+    fading_backplane(b, form, setup, n);
     for (k = 1; k <= rounds; k++)
         if (c->rounds[k - 1] == 'b')
             b->silent[k][n - 1] = ones(n);
@@ -123,7 +123,7 @@ static void same_scores(struct backplane *b, uint32_t n, uint32_t u)
     uint32_t i, j, k;
 
     low_setup(FADING, setup, n, u);
-    fading_backplane(b, setup, n);
+    fading_backplane(b, FADING, setup, n);
     for (k = 1; k <= ROUNDS; k++)
         for (j = 0; j < n; j++)
             if (below(3) == 0)
@@ -146,8 +146,9 @@ void group_fading(void)
     begin_group("fading scores");
     for (n = 2; n <= MAX_N; n++)
         for (u = 0; u < 2; u++) {
-            for (i = 0; i < COUNT(courses); i++)
-                follow(&b, n, u, &courses[i]);
+            for (i = 0; i < COUNT(courses); i++) /* some with views */
+                follow(&b, i % 8 == n % 8 ? FADING_VIEWS : FADING, n, u,
+                       &courses[i]);
             for (i = 0; i < 8; i++)
                 same_scores(&b, n, u);
         }

@@ -19,12 +19,16 @@ void group_fading(void);
 void group_changes(void);
 void group_changes_refused(void);
 void group_pending_refused(void);
+void group_views(void);
+void group_views_refused(void);
+void group_torn_cable(void);
 void group_renumbered(void);
 void group_lives(void);
 void group_nothing_kept(void);
 void group_addresses(void);
 void group_pages_opened(void);
 void group_page_lives(void);
+void group_page_views(void);
 void group_page_words(void);
 void group_causes(void);
 

@@ -8,7 +8,7 @@
 #include "check/sizes.h"
 #include "check/words.h"
 
-/* Outgoing word, saving and step of the image in the call; the output of the
+/* Outgoing words, saving and step of the image in the call; the output of the
    step has this length. */
 static void all_of_image(struct call *c, size_t stepped_len)
 {
@@ -16,6 +16,8 @@ static void all_of_image(struct call *c, size_t stepped_len)
 
     c->op = OUTGOING;
     c->out_len = 0;
+    both(c, &r);
+    c->op = OUTGOING_VIEW;
     both(c, &r);
     c->op = SAVE;
     c->out_len = c->in_len;
@@ -29,7 +31,7 @@ static void turn_bits(uint8_t *image, size_t len, uint32_t n,
                       const uint8_t *read, uint32_t controller)
 {
     struct call c = {.in = image, .in_len = len, .read = read,
-                     .read_len = PRESENCE_READ_BYTES(n),
+                     .read_len = presence_read_bytes(image, n),
                      .argument = controller};
     size_t stepped_len = presence_stepped_bytes(image, n);
     uint32_t at, b, word;
@@ -46,40 +48,42 @@ static void turn_bits(uint8_t *image, size_t len, uint32_t n,
 
 static void turn_bits_of(enum form form, uint32_t n, uint32_t u)
 {
-    uint8_t s[SETUP_MAX], image[IMAGE_MAX], read[PRESENCE_MAX_READ_BYTES];
+    uint8_t s[SETUP_MAX], image[IMAGE_MAX], read[READ_MAX];
     uint32_t controller;
 
     low_setup(form, s, n, u);
     lived_image(form, image, s, n, 1 + below(n), 40);
-    controller = random_read(read, n, 6);
+    controller = random_read(form, read, n, 6);
     turn_bits(image, image_bytes(form, n), n, read, controller);
 }
 
 /* The same with a pending change, which the step applies or does not. */
-static void turn_bits_of_change(uint32_t n, uint32_t u, uint32_t left)
+static void turn_bits_of_change(enum form form, uint32_t n, uint32_t u,
+                                uint32_t left)
 {
-    uint8_t s[SETUP_MAX], image[IMAGE_MAX], read[PRESENCE_MAX_READ_BYTES];
+    uint8_t s[SETUP_MAX], image[IMAGE_MAX], read[READ_MAX];
     uint8_t new_setup[SETUP_MAX];
     uint32_t controller;
 
-    low_setup(COUNTS, s, n, u);
-    lived_image(COUNTS, image, s, n, 1 + below(n), 40);
+    low_setup(form, s, n, u);
+    lived_image(form, image, s, n, 1 + below(n), 40);
     new_limits(new_setup, s, n);
     put_pending(image, new_setup, n, left);
-    controller = random_read(read, n, 6);
-    turn_bits(image, pending_bytes(n), n, read, controller);
+    controller = random_read(form, read, n, 6);
+    turn_bits(image, pending_bytes(form, n), n, read, controller);
 }
 
 void group_image_bits(void)
 {
-    uint32_t n, u;
+    uint32_t n, u, form;
 
     begin_group("single bits of images");
     for (n = 2; n <= MAX_N; n++)
         for (u = 0; u < 2; u++) {
-            turn_bits_of(COUNTS, n, u);
-            turn_bits_of(FADING, n, u);
-            turn_bits_of_change(n, u, 1 + u);
+            for (form = 0; form < FORMS; form++)
+                turn_bits_of((enum form)form, n, u);
+            turn_bits_of_change(COUNTS, n, u, 1 + u);
+            turn_bits_of_change(COUNTS_VIEWS, n, u, 1 + u);
         }
     end_group();
 }

@@ -14,7 +14,7 @@
 static void lengths_of(enum form form, uint32_t n)
 {
     uint8_t s[SETUP_MAX], image[2 * IMAGE_MAX];
-    uint8_t read[2 * PRESENCE_MAX_READ_BYTES];
+    uint8_t read[2 * READ_MAX];
     size_t image_len = image_bytes(form, n), len;
     uint32_t number, controller;
 
@@ -22,13 +22,18 @@ static void lengths_of(enum form form, uint32_t n)
     memset(read, 0x55, sizeof read);
     low_setup(form, s, n, 1);
     lived_image(form, image, s, n, 1, 10);
-    controller = random_read(read, n, 4);
+    controller = random_read(form, read, n, 4);
     for (len = 0; len <= image_len + 12; len++) {
         number = len == 0 || len % 4 != 0 ? 1 : len != image_len ? 3 : 0;
         outgoing(image, len, number, 0);
         save(image, len, image_len, number, 0);
-        step(image, len, read, 4 * n, controller, image_len, number, 0, NULL);
+        step(image, len, read, read_bytes(form, n), controller, image_len,
+             number, 0, NULL);
     }
+    /* The same words without head bit 5, or with it, are too long or short. */
+    put(image, 0, get(image, 0) ^ 1u << 5);
+    outgoing(image, image_len, 3, 0);
+    put(image, 0, get(image, 0) ^ 1u << 5);
     /* A setup alone is no image, an image no setup. */
     outgoing(image, setup_bytes(form, n), 3, 0);
     check_setup(image, image_len, 3, 0);
@@ -39,15 +44,15 @@ static void lengths_of(enum form form, uint32_t n)
 
 /* An image with a pending change: only the length that its rounds-left word
    calls for. */
-static void pending_lengths(uint32_t n)
+static void pending_lengths(enum form form, uint32_t n)
 {
     uint8_t s[SETUP_MAX], new_setup[SETUP_MAX], image[2 * IMAGE_MAX];
-    size_t long_len = pending_bytes(n), len;
+    size_t long_len = pending_bytes(form, n), len;
     uint32_t number;
 
     memset(image, 0xEE, sizeof image);
-    low_setup(COUNTS, s, n, 0);
-    lived_image(COUNTS, image, s, n, 1, 10);
+    low_setup(form, s, n, 0);
+    lived_image(form, image, s, n, 1, 10);
     new_limits(new_setup, s, n);
     put_pending(image, new_setup, n, 2);
     for (len = 0; len <= long_len + 12; len++) {
@@ -55,23 +60,24 @@ static void pending_lengths(uint32_t n)
         outgoing(image, len, number, 0);
         save(image, len, long_len, number, 0);
         save(image, long_len, len, len == long_len ? 0 : 9, 0);
-        change(image, len, new_setup, setup_bytes(COUNTS, n), 1, long_len,
+        change(image, len, new_setup, setup_bytes(form, n), 1, long_len,
                number == 0 ? 24 : number, 0, NULL);
     }
-    put(image, left_at(COUNTS, n), 0); /* none is pending */
+    drop_pending(image, n); /* none is pending */
     outgoing(image, long_len, 3, 0);
-    outgoing(image, image_bytes(COUNTS, n), 0, 0);
+    outgoing(image, image_bytes(form, n), 0, 0);
 }
 
 void group_image_lengths(void)
 {
-    uint32_t n;
+    uint32_t n, form;
 
     begin_group("image lengths");
     for (n = 2; n <= MAX_N; n++) {
-        lengths_of(COUNTS, n);
-        lengths_of(FADING, n);
-        pending_lengths(n);
+        for (form = 0; form < FORMS; form++)
+            lengths_of((enum form)form, n);
+        pending_lengths(COUNTS, n);
+        pending_lengths(COUNTS_VIEWS, n);
     }
     end_group();
 }

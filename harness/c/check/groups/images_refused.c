@@ -14,13 +14,14 @@
 static void refused_image(enum form form, const uint8_t *image, uint32_t n,
                           uint32_t number, uint32_t index)
 {
-    uint8_t read[PRESENCE_MAX_READ_BYTES];
+    uint8_t read[READ_MAX];
     size_t len = image_bytes(form, n);
 
     memset(read, 0, sizeof read);
     outgoing(image, len, number, index);
     save(image, len, len, number, index);
-    step(image, len, read, 4 * n, ones(n), len, number, index, NULL);
+    step(image, len, read, read_bytes(form, n), ones(n), len, number, index,
+         NULL);
     /* Lengths and controller wrong too. */
     step(image, len, read, 0, 0xFFFFFFFF, 4, number, index, NULL);
 }
@@ -30,15 +31,15 @@ static void refused_word(enum form form, const uint8_t *image, uint32_t n,
                          uint32_t at, uint32_t word, uint32_t number)
 {
     uint8_t copy[IMAGE_MAX];
-    uint32_t last = left_at(form, n), later;
+    uint32_t words = (uint32_t)image_bytes(form, n) / 4, later;
 
     memcpy(copy, image, image_bytes(form, n));
     put(copy, at, word);
     refused_image(form, copy, n, number, at);
     /* A second wrong word further on: the first is named.  Another rounds-left
        word would call for another length. */
-    later = at + 1 + below(last - at);
-    if (later < last) {
+    later = at + 1 + below(words - at);
+    if (later < words && later != left_at(form, n)) {
         put(copy, later, 0xFFFFFFFF);
         refused_image(form, copy, n, number, at);
     }
@@ -99,60 +100,71 @@ static void syndromes_refused(enum form form, const uint8_t *image, uint32_t n,
         refused_word(form, image, n, at, 0xC0000000 | 1u << b, 8);
 }
 
+/* Module 1 with this view, in both of its places. */
+static void put_own(enum form form, uint8_t *image, uint32_t n, uint32_t view)
+{
+    put(image, own_at(form, n), own_word(1, view));
+    if (has_views(form))
+        put(image, local_view_at(image, n), view);
+}
+
 /* Penalty words of a module in the view. */
-static void penalties_refused(const uint8_t *image, uint32_t n, uint32_t j)
+static void penalties_refused(enum form form, const uint8_t *image, uint32_t n,
+                              uint32_t j)
 {
     uint32_t at = penalty_at(n, j);
 
-    refused_word(COUNTS, image, n, at, reward_word(j, 0), 8);
-    refused_word(COUNTS, image, n, at, penalty_word(j - 1, 0), 8);
-    refused_word(COUNTS, image, n, at, penalty_word(j + 1, 0), 8);
-    refused_word(COUNTS, image, n, at, penalty_word(j, 0) | 1u << 21, 8);
-    refused_word(COUNTS, image, n, at, penalty_word(j, 0) | 1u << 22, 8);
+    refused_word(form, image, n, at, reward_word(j, 0), 8);
+    refused_word(form, image, n, at, penalty_word(j - 1, 0), 8);
+    refused_word(form, image, n, at, penalty_word(j + 1, 0), 8);
+    refused_word(form, image, n, at, penalty_word(j, 0) | 1u << 21, 8);
+    refused_word(form, image, n, at, penalty_word(j, 0) | 1u << 22, 8);
     /* In the view with a penalty over P. */
-    refused_word(COUNTS, image, n, at, penalty_word(j, P + 1), 8);
-    refused_word(COUNTS, image, n, at, penalty_word(j, P + CRITICALITY), 8);
-    refused_word(COUNTS, image, n, at, penalty_word(j, 0x1FFFFF), 8);
+    refused_word(form, image, n, at, penalty_word(j, P + 1), 8);
+    refused_word(form, image, n, at, penalty_word(j, P + CRITICALITY), 8);
+    refused_word(form, image, n, at, penalty_word(j, 0x1FFFFF), 8);
 }
 
 /* Penalty and reward words of a module out of the view. */
-static void counters_out_of_view(const uint8_t *image, uint32_t n, uint32_t j)
+static void counters_out_of_view(enum form form, const uint8_t *image,
+                                 uint32_t n, uint32_t j)
 {
     uint8_t out[IMAGE_MAX];
     uint32_t at = penalty_at(n, j);
 
     memcpy(out, image, sizeof out);
-    put(out, own_at(COUNTS, n), own_word(1, ones(n) & ~(1u << (j - 1))));
-    refused_image(COUNTS, out, n, 8, at); /* out of it with penalty 0 */
-    refused_word(COUNTS, out, n, at, penalty_word(j, P), 8);
+    put_own(form, out, n, ones(n) & ~(1u << (j - 1)));
+    refused_image(form, out, n, 8, at); /* out of it with penalty 0 */
+    refused_word(form, out, n, at, penalty_word(j, P), 8);
     put(out, at, penalty_word(j, P + 1));
-    accepted_image(COUNTS, out, n);
+    accepted_image(form, out, n);
     put(out, at, penalty_word(j, P + CRITICALITY));
-    accepted_image(COUNTS, out, n);
-    refused_word(COUNTS, out, n, at, penalty_word(j, P + CRITICALITY + 1), 8);
+    accepted_image(form, out, n);
+    refused_word(form, out, n, at, penalty_word(j, P + CRITICALITY + 1), 8);
     /* A reward below R is accepted. */
     put(out, reward_at(n, j), reward_word(j, R - 1));
-    accepted_image(COUNTS, out, n);
-    refused_word(COUNTS, out, n, reward_at(n, j), reward_word(j, R), 8);
+    accepted_image(form, out, n);
+    refused_word(form, out, n, reward_at(n, j), reward_word(j, R), 8);
 }
 
-static void rewards_refused(const uint8_t *image, uint32_t n, uint32_t j)
+static void rewards_refused(enum form form, const uint8_t *image, uint32_t n,
+                            uint32_t j)
 {
     uint8_t charged[IMAGE_MAX];
     uint32_t at = reward_at(n, j);
 
     /* A reward over 0 with penalty 0. */
-    refused_word(COUNTS, image, n, at, reward_word(j, 1), 8);
+    refused_word(form, image, n, at, reward_word(j, 1), 8);
     memcpy(charged, image, sizeof charged);
     put(charged, penalty_at(n, j), penalty_word(j, 1));
     put(charged, at, reward_word(j, R - 1));
-    accepted_image(COUNTS, charged, n);
-    refused_word(COUNTS, charged, n, at, reward_word(j, R), 8);
-    refused_word(COUNTS, charged, n, at, reward_word(j, 0x7FFFFF), 8);
-    refused_word(COUNTS, charged, n, at, penalty_word(j, 0), 8);
-    refused_word(COUNTS, charged, n, at, returns_word(j, 0), 8);
-    refused_word(COUNTS, charged, n, at, reward_word(j - 1, 0), 8);
-    refused_word(COUNTS, charged, n, at, reward_word(j + 1, 0), 8);
+    accepted_image(form, charged, n);
+    refused_word(form, charged, n, at, reward_word(j, R), 8);
+    refused_word(form, charged, n, at, reward_word(j, 0x7FFFFF), 8);
+    refused_word(form, charged, n, at, penalty_word(j, 0), 8);
+    refused_word(form, charged, n, at, returns_word(j, 0), 8);
+    refused_word(form, charged, n, at, reward_word(j - 1, 0), 8);
+    refused_word(form, charged, n, at, reward_word(j + 1, 0), 8);
 }
 
 /* Module j is in the view, or out of it, by what is counted of it. */
@@ -161,9 +173,8 @@ static void put_view(enum form form, uint8_t *image, uint32_t n, uint32_t j,
 {
     uint32_t bit = 1u << (j - 1);
 
-    put(image, own_at(form, n),
-        own_word(1, there ? ones(n) : ones(n) & ~bit));
-    if (form == FADING)
+    put_own(form, image, n, there ? ones(n) : ones(n) & ~bit);
+    if (fades(form))
         put_double(image, score_at(n, j), there ? 0.0 : LIMIT);
     else
         put(image, penalty_at(n, j), penalty_word(j, there ? P : P + 1));
@@ -180,7 +191,7 @@ static void returns_refused(enum form form, const uint8_t *image, uint32_t n,
     memcpy(out, image, sizeof out);
     put_view(form, out, n, j, 0);
     refused_word(form, out, n, at, returns_word(j, 1), 8); /* Q = 0 */
-    put(out, 0, head_word(n, Q));
+    put(out, 0, head_word(form, n, Q));
     accepted_image(form, out, n);
     refused_word(form, out, n, at, returns_word(j, Q), 8);
     refused_word(form, out, n, at, returns_word(j, 0xFFFFF), 8);
@@ -202,8 +213,8 @@ static void largest_counters(uint32_t n)
 {
     uint8_t s[SETUP_MAX], image[IMAGE_MAX];
 
-    make_setup(s, n, 1000000, 8000000, 100000);
-    put(s, 0, head_word(n, 1000000));
+    make_setup(COUNTS, s, n, 1000000, 8000000, 100000);
+    put(s, 0, head_word(COUNTS, n, 1000000));
     fresh_image(COUNTS, image, s, n, 1);
     put(image, own_at(COUNTS, n), own_word(1, ones(n) & ~1u));
     put(image, penalty_at(n, 1), penalty_word(1, 1100000));
@@ -225,32 +236,32 @@ static void largest_counters(uint32_t n)
 
 /* The image with module j's score replaced, which is named at its high half;
    with a later score or return count wrong too. */
-static void refused_score(const uint8_t *image, uint32_t n, uint32_t j,
-                          uint64_t bits)
+static void refused_score(enum form form, const uint8_t *image, uint32_t n,
+                          uint32_t j, uint64_t bits)
 {
     uint8_t copy[IMAGE_MAX];
     uint32_t at = score_at(n, j);
 
     memcpy(copy, image, sizeof copy);
     put_double(copy, at, of_bits(bits));
-    refused_image(FADING, copy, n, 8, at);
+    refused_image(form, copy, n, 8, at);
     put(copy, score_at(n, j) + 2, 0xFFFFFFFF);
-    refused_image(FADING, copy, n, 8, at);
+    refused_image(form, copy, n, 8, at);
 }
 
-static void accepted_score(const uint8_t *image, uint32_t n, uint32_t j,
-                           uint64_t bits)
+static void accepted_score(enum form form, const uint8_t *image, uint32_t n,
+                           uint32_t j, uint64_t bits)
 {
     uint8_t copy[IMAGE_MAX];
 
     memcpy(copy, image, sizeof copy);
     put_double(copy, score_at(n, j), of_bits(bits));
-    accepted_image(FADING, copy, n);
+    accepted_image(form, copy, n);
 }
 
 /* Scores of module j, in the view of the image, and out of it. */
-static void scores_refused(const uint8_t *image, uint32_t n, uint32_t j,
-                           double limit)
+static void scores_refused(enum form form, const uint8_t *image, uint32_t n,
+                           uint32_t j, double limit)
 {
     static const uint64_t never[] = {
         0x8000000000000000, 0x8000000000000001, /* minus zero, the next */
@@ -268,18 +279,18 @@ static void scores_refused(const uint8_t *image, uint32_t n, uint32_t j,
     uint32_t i;
 
     memcpy(out, image, sizeof out);
-    put_view(FADING, out, n, j, 0);
+    put_view(form, out, n, j, 0);
     for (i = 0; i < COUNT(never); i++) {
-        refused_score(image, n, j, never[i]);
-        refused_score(out, n, j, never[i]);
+        refused_score(form, image, n, j, never[i]);
+        refused_score(form, out, n, j, never[i]);
     }
     for (i = 0; i < COUNT(above); i++) {
-        refused_score(image, n, j, above[i]);
-        accepted_score(out, n, j, above[i]);
+        refused_score(form, image, n, j, above[i]);
+        accepted_score(form, out, n, j, above[i]);
     }
     for (i = 0; i < COUNT(under) && under[i] < bits_of(limit); i++) {
-        accepted_score(image, n, j, under[i]);
-        refused_score(out, n, j, under[i]);
+        accepted_score(form, image, n, j, under[i]);
+        refused_score(form, out, n, j, under[i]);
     }
 }
 
@@ -297,37 +308,36 @@ static void words_refused(enum form form, const uint8_t *image, uint32_t n)
         returns_refused(form, image, n, j);
 }
 
-static void counts_refused(uint32_t n)
+static void counts_refused(enum form form, uint32_t n)
 {
     uint8_t s[SETUP_MAX], image[IMAGE_MAX];
     uint32_t j;
 
-    make_setup(s, n, P, R, CRITICALITY);
-    fresh_image(COUNTS, image, s, n, n);
-    words_refused(COUNTS, image, n);
+    make_setup(form, s, n, P, R, CRITICALITY);
+    fresh_image(form, image, s, n, n);
+    words_refused(form, image, n);
     for (j = 1; j <= n; j++) {
-        penalties_refused(image, n, j);
-        counters_out_of_view(image, n, j);
-        rewards_refused(image, n, j);
+        penalties_refused(form, image, n, j);
+        counters_out_of_view(form, image, n, j);
+        rewards_refused(form, image, n, j);
     }
-    largest_counters(n);
 }
 
 /* The least limit, one that is no whole number, and the largest. */
-static void fading_refused(uint32_t n)
+static void fading_refused(enum form form, uint32_t n)
 {
     const double limits[] = {of_bits(1), 0.1, 1000000.0};
     uint8_t s[SETUP_MAX], image[IMAGE_MAX];
     uint32_t i, j;
 
-    make_fading_setup(s, n, 0.5, LIMIT);
-    fresh_image(FADING, image, s, n, n);
-    words_refused(FADING, image, n);
+    make_fading_setup(form, s, n, 0.5, LIMIT);
+    fresh_image(form, image, s, n, n);
+    words_refused(form, image, n);
     for (i = 0; i < COUNT(limits); i++) {
-        make_fading_setup(s, n, 0.5, limits[i]);
-        fresh_image(FADING, image, s, n, n);
+        make_fading_setup(form, s, n, 0.5, limits[i]);
+        fresh_image(form, image, s, n, n);
         for (j = 1; j <= n; j++)
-            scores_refused(image, n, j, limits[i]);
+            scores_refused(form, image, n, j, limits[i]);
     }
 }
 
@@ -337,8 +347,11 @@ void group_images_refused(void)
 
     begin_group("images refused");
     for (n = 2; n <= MAX_N; n++) {
-        counts_refused(n);
-        fading_refused(n);
+        counts_refused(COUNTS, n);
+        counts_refused(COUNTS_VIEWS, n);
+        largest_counters(n);
+        fading_refused(FADING, n);
+        fading_refused(FADING_VIEWS, n);
     }
     end_group();
 }

@@ -12,7 +12,7 @@
 
 /* By form, modules outside the view that counted a round or came back, and
    modules that left. */
-static unsigned long counted[2], returned[2], left[2];
+static unsigned long counted[FORMS], returned[FORMS], left[FORMS];
 
 /* What a step made of module j, its health there and what it was before. */
 struct course {
@@ -37,7 +37,7 @@ static void counters_follow(const struct course *c, uint32_t returns)
 {
     uint32_t n = c->n, j = c->j;
 
-    if (c->form == FADING) {
+    if (fades(c->form)) {
         same("score of one out", score_bits(c, c->image),
              returns ? bits_of(0.0) : score_bits(c, c->old));
         return;
@@ -86,7 +86,7 @@ static void module_follows(const struct course *c)
         outside_follows(c);
         return;
     }
-    if (c->form == FADING)
+    if (fades(c->form))
         score_follows(c);
     same("count of one in", get(c->image, returns_at(c->form, c->n, c->j)),
          returns_word(c->j, 0));
@@ -146,17 +146,18 @@ static void setup_of_style(enum form form, uint8_t *setup, uint32_t n,
     static const double limit_of[] = {1.0, 2.7, 20.0, 1000000.0};
     uint32_t r = r_of[below(4)];
 
-    if (form == FADING)
-        random_fading_setup(setup, n, u, random_factor(), limit_of[style % 4]);
+    if (fades(form))
+        random_fading_setup(form, setup, n, u, random_factor(),
+                            limit_of[style % 4]);
     else
-        random_setup(setup, n, u, p_of[style % 4], r);
+        random_setup(form, setup, n, u, p_of[style % 4], r);
 }
 
 static void life(enum form form, const uint8_t *setup, uint32_t n,
                  uint32_t steps)
 {
-    uint8_t read[PRESENCE_MAX_READ_BYTES], image[IMAGE_MAX], old[IMAGE_MAX];
-    size_t len = image_bytes(form, n);
+    uint8_t read[READ_MAX], image[IMAGE_MAX], old[IMAGE_MAX];
+    size_t len = image_bytes(form, n), read_len = read_bytes(form, n);
     uint32_t own = 1 + below(n), k, controller, health, word, faults = 0;
 
     open_module(setup, setup_bytes(form, n), own, len, 0, 0, image);
@@ -164,13 +165,13 @@ static void life(enum form form, const uint8_t *setup, uint32_t n,
     for (k = 1; k <= steps; k++) {
         if (k % 16 == 1)
             faults = below(9);
-        controller = random_read(read, n, faults);
+        controller = random_read(form, read, n, faults);
         if (below(32) == 0)
             controller = 0; /* nobody heard */
         if (below(4) == 0)
             put(read, own - 1, word); /* the module's own word */
         memcpy(old, image, len);
-        health = step(image, len, read, 4 * n, controller, len, 0, 0, image);
+        health = step(image, len, read, read_len, controller, len, 0, 0, image);
         step_follows(form, setup, n, own, old, image, health);
         word = outgoing(image, len, 0, 0);
         word_follows(form, setup, n, own, image, word);
@@ -178,7 +179,7 @@ static void life(enum form form, const uint8_t *setup, uint32_t n,
         if (below(8) == 0)
             restart(image, len);
         if (below(8) == 0) /* a refused step between */
-            step(image, len, read, 4 * n, controller | 1u << n, len, 10, 0,
+            step(image, len, read, read_len, controller | 1u << n, len, 10, 0,
                  image);
     }
 }
@@ -200,8 +201,10 @@ static void lives_of(enum form form)
 
 void group_lives(void)
 {
+    uint32_t form;
+
     begin_group("lives");
-    lives_of(COUNTS);
-    lives_of(FADING);
+    for (form = 0; form < FORMS; form++)
+        lives_of((enum form)form);
     end_group();
 }

@@ -1,5 +1,5 @@
 /*
- * nothing_kept.c - modules of both forms in turn, each step made twice:
+ * nothing_kept.c - modules of all forms in turn, each step made twice:
  * nothing is kept between calls.
  */
 #include "check/groups/groups.h"
@@ -31,10 +31,12 @@ static void step_twice(const struct call *c, const struct call *between,
 
 void group_nothing_kept(void)
 {
-    static const uint32_t n[] = {16, 3, 16, 5};
-    static const enum form form[] = {COUNTS, COUNTS, FADING, FADING};
+    static const uint32_t n[] = {16, 3, 16, 5, 16, 7, 4, 16};
+    static const enum form form[] = {COUNTS, COUNTS_VIEWS, FADING, FADING_VIEWS,
+                                     COUNTS_VIEWS, COUNTS, FADING,
+                                     FADING_VIEWS};
     uint8_t s[COUNT(n)][SETUP_MAX], image[COUNT(n)][IMAGE_MAX];
-    uint8_t read[COUNT(n)][PRESENCE_MAX_READ_BYTES];
+    uint8_t read[COUNT(n)][READ_MAX];
     struct call c[COUNT(n)];
     uint32_t i, k;
     size_t len;
@@ -46,12 +48,12 @@ void group_nothing_kept(void)
         open_module(s[i], setup_bytes(form[i], n[i]), 2, len, 0, 0, image[i]);
         c[i] = (struct call){.op = STEP, .in = image[i], .in_len = len,
                              .read = read[i],
-                             .read_len = PRESENCE_READ_BYTES(n[i]),
+                             .read_len = read_bytes(form[i], n[i]),
                              .out_len = len};
     }
     for (k = 0; k < 300; k++)
         for (i = 0; i < COUNT(n); i++) {
-            c[i].argument = random_read(read[i], n[i], 4);
+            c[i].argument = random_read(form[i], read[i], n[i], 2);
             step_twice(&c[i], k > 0 ? &c[(i + 1) % COUNT(n)] : NULL, image[i]);
         }
     end_group();

@@ -15,12 +15,12 @@ static void opening_setup(enum form form, uint8_t *setup, uint32_t n,
 {
     if (i >= 2)
         any_setup(form, setup, n, i % 2);
-    else if (form == FADING)
-        make_fading_setup(setup, n, i, i == 0 ? of_bits(1) : 1000000.0);
+    else if (fades(form))
+        make_fading_setup(form, setup, n, i, i == 0 ? of_bits(1) : 1000000.0);
     else if (i == 0)
-        make_setup(setup, n, 1, 1, 1);
+        make_setup(form, setup, n, 1, 1, 1);
     else
-        make_setup(setup, n, 1000000, 8000000, 100000);
+        make_setup(form, setup, n, 1000000, 8000000, 100000);
 }
 
 static void opening_accepted(enum form form, const uint8_t *setup, uint32_t n,
@@ -37,13 +37,21 @@ static void opening_accepted(enum form form, const uint8_t *setup, uint32_t n,
     save(image, len, len, 0, 0);
     same("word of a fresh image", outgoing(image, len, 0, 0),
          0x50000000 | ones(n));
+    same("view word of a fresh image", outgoing_view(image, len, 0, 0),
+         has_views(form) ? 0xA0000000 | ones(n) : 0);
     same("view by the header's macro", view_of(form, image, n), ones(n));
-    same("form by the header's macro", PRESENCE_IS_FADING(image),
-         form == FADING);
+    same("form by the header's macro", PRESENCE_IS_FADING(image), fades(form));
+    same("views by the header's macro", PRESENCE_IS_PARTITIONABLE(image),
+         has_views(form));
+    same("view shown by the header", presence_shown_view(image, n), ones(n));
+    same("out by the header", presence_is_out(image, n), 0);
     same("rounds left by the header", presence_rounds_left(image, n), 0);
     same("length by the header", presence_image_bytes(image, n), len);
     same("length after a step by the header", presence_stepped_bytes(image, n),
          len);
+    same("length by the setup", presence_opened_bytes(setup, n), len);
+    same("length of a read by the setup", presence_read_bytes(setup, n),
+         has_views(form) ? 8 * n : 4 * n);
 }
 
 /* 7 for wrong own numbers; 9 for every other output length, whole words or
@@ -84,7 +92,7 @@ static void openings(enum form form, uint32_t n)
 
 void group_opening(void)
 {
-    uint32_t n;
+    uint32_t n, form;
 
     begin_group("opening");
     same("setup bytes", PRESENCE_SETUP_BYTES(16), PRESENCE_MAX_SETUP_BYTES);
@@ -96,9 +104,12 @@ void group_opening(void)
     same("image bytes with a change", PRESENCE_PENDING_IMAGE_BYTES(16),
          PRESENCE_MAX_PENDING_IMAGE_BYTES);
     same("read bytes", PRESENCE_READ_BYTES(16), PRESENCE_MAX_READ_BYTES);
-    for (n = 2; n <= MAX_N; n++) {
-        openings(COUNTS, n);
-        openings(FADING, n);
-    }
+    same("read bytes with views", PRESENCE_PARTITIONABLE_READ_BYTES(16),
+         PRESENCE_MAX_PARTITIONABLE_READ_BYTES);
+    same("bytes of the views", PRESENCE_VIEWS_BYTES(16),
+         PRESENCE_MAX_VIEWS_BYTES);
+    for (n = 2; n <= MAX_N; n++)
+        for (form = 0; form < FORMS; form++)
+            openings((enum form)form, n);
     end_group();
 }

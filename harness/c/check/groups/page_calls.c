@@ -45,7 +45,7 @@ uint32_t step_paged(uint32_t n, uint8_t *image, const uint8_t *read,
 {
     struct call c = {.op = PAGE_STEP, .in = image,
                      .in_len = presence_image_bytes(image, n), .read = read,
-                     .read_len = PRESENCE_READ_BYTES(n),
+                     .read_len = presence_read_bytes(image, n),
                      .argument = controller,
                      .out_len = presence_stepped_bytes(image, n), .page = page,
                      .page_len = page_len};

@@ -11,8 +11,9 @@
 #include "check/sizes.h"
 #include "check/words.h"
 
-/* Steps that changed the view, and modules that a change put out. */
-static unsigned long changes, put_out;
+/* Steps that changed the view shown, steps after which the local view was
+   another, and modules that a change put out. */
+static unsigned long changes, apart, put_out;
 
 /* The cause of module j + 1 in a read by what the header says of it. */
 static uint32_t cause(uint32_t n, const uint8_t *read, uint32_t controller,
@@ -28,8 +29,8 @@ static uint32_t cause(uint32_t n, const uint8_t *read, uint32_t controller,
                                                : PRESENCE_CAUSE_HEARD;
 }
 
-/* The view that the step counts by: without those that a change puts out, which
-   it applies. */
+/* The view that the step counts by, a local one: without those that a change
+   puts out, which it applies. */
 static uint32_t found_view(enum form form, const uint8_t *image, uint32_t n)
 {
     uint32_t view = view_of(form, image, n), new_p, new_r, j;
@@ -48,6 +49,13 @@ static uint32_t found_view(enum form form, const uint8_t *image, uint32_t n)
     return view;
 }
 
+/* The adopted view where there is one, else the local one. */
+static uint32_t shown(enum form form, const uint8_t *image, uint32_t n)
+{
+    return has_views(form) ? get(image, adopted_at(image, n))
+                           : view_of(form, image, n);
+}
+
 /* A step with a page by what the header says of it. */
 static void page_follows(enum form form, uint32_t n, uint8_t *image,
                          const uint8_t *read, uint32_t controller,
@@ -55,11 +63,13 @@ static void page_follows(enum form form, uint32_t n, uint8_t *image,
 {
     uint8_t old[PRESENCE_PAGE_BYTES];
     uint32_t found = found_view(form, image, n), words[8] = {0}, j;
+    uint32_t before = shown(form, image, n);
 
     memcpy(old, page, sizeof old);
     words[0] = step_paged(n, image, read, controller, page, sizeof old, 0);
-    words[1] = view_of(form, image, n);
-    changes += words[1] != found;
+    words[1] = shown(form, image, n);
+    changes += words[1] != before;
+    apart += words[1] != view_of(form, image, n);
     words[2] = get(old, 2) | (words[1] != get(old, 1));
     for (j = 0; j < n; j++)
         if ((found >> j & 1) == 1 && (words[0] >> j & 1) == 0)
@@ -75,20 +85,20 @@ static void page_follows(enum form form, uint32_t n, uint8_t *image,
 }
 
 /* Between two steps, at times: new limits, if none are pending. */
-static void offer(uint8_t *image, uint32_t n)
+static void offer(enum form form, uint8_t *image, uint32_t n)
 {
     uint8_t new_setup[SETUP_MAX];
 
     if (below(8) != 0 || presence_rounds_left(image, n) > 0)
         return;
     new_limits(new_setup, image, n); /* which begins with the setup */
-    change(image, image_bytes(COUNTS, n), new_setup, setup_bytes(COUNTS, n),
-           1 + below(4), pending_bytes(n), 0, 0, image);
+    change(image, image_bytes(form, n), new_setup, setup_bytes(form, n),
+           1 + below(4), pending_bytes(form, n), 0, 0, image);
 }
 
 static void page_life(enum form form, uint32_t n, uint32_t u, uint32_t steps)
 {
-    uint8_t s[SETUP_MAX], read[PRESENCE_MAX_READ_BYTES];
+    uint8_t s[SETUP_MAX], read[READ_MAX];
     uint8_t image[IMAGE_MAX], page[PRESENCE_PAGE_BYTES];
     uint32_t controller, k, flags;
 
@@ -97,9 +107,11 @@ static void page_life(enum form form, uint32_t n, uint32_t u, uint32_t steps)
     open_paged(form, s, n, 1 + below(n), sizeof page, 0, image, page);
     host(PAGE_WRITE, page, sizeof page, PRESENCE_PAGE_ENABLE, below(4), 0);
     for (k = 0; k < steps; k++) {
-        if (form == COUNTS)
-            offer(image, n);
-        controller = random_read(read, n, below(9));
+        if (!fades(form))
+            offer(form, image, n);
+        if (has_views(form) && below(4) == 0) /* as if it were opened anew */
+            put(image, out_at(image, n), 0);
+        controller = random_read(form, read, n, below(9));
         page_follows(form, n, image, read, controller, page);
         flags = host(PAGE_READ, page, sizeof page, PRESENCE_PAGE_FLAGS, 0, 0);
         same("interrupt", host(INTERRUPT, page, sizeof page, 0, 0, 0),
@@ -117,16 +129,17 @@ static void page_life(enum form form, uint32_t n, uint32_t u, uint32_t steps)
 
 void group_page_lives(void)
 {
-    uint32_t n, u;
+    uint32_t n, u, form;
 
     begin_group("lives with a page");
     for (n = 2; n <= MAX_N; n++)
-        for (u = 0; u < 2; u++) {
-            page_life(COUNTS, n, u, 300);
-            page_life(FADING, n, u, 300);
-        }
+        for (u = 0; u < 2; u++)
+            for (form = 0; form < FORMS; form++)
+                page_life((enum form)form, n, u, 300);
     if (changes < 1000)
         differ("steps that changed the view", changes, 1000);
+    if (apart < 1000)
+        differ("steps with another local view", apart, 1000);
     if (put_out < 100)
         differ("modules that a change put out", put_out, 100);
     end_group();

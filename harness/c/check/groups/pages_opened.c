@@ -34,12 +34,11 @@ static void pages_of(enum form form, uint32_t n)
 
 void group_pages_opened(void)
 {
-    uint32_t n;
+    uint32_t n, form;
 
     begin_group("pages opened");
-    for (n = 2; n <= MAX_N; n++) {
-        pages_of(COUNTS, n);
-        pages_of(FADING, n);
-    }
+    for (n = 2; n <= MAX_N; n++)
+        for (form = 0; form < FORMS; form++)
+            pages_of((enum form)form, n);
     end_group();
 }

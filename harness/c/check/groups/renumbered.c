@@ -1,6 +1,6 @@
 /*
  * renumbered.c - the same modules in other slots, u = 0: E8 of document 02;
- * with changes of the limits, E10, between the steps.
+ * with changes of the limits, E10, between the steps, and with views, E11.
  */
 #include "check/groups/groups.h"
 
@@ -20,8 +20,9 @@ struct renumbering {
     uint32_t number[MAX_N];
 };
 
-/* Modules seen to leave the view and to come back, and changes. */
-static unsigned long left, returned, changes;
+/* Modules seen to leave the view and to come back, changes, and steps that
+   adopted another view. */
+static unsigned long left, returned, changes, adopted;
 
 static void any_numbers(struct renumbering *r, enum form form, uint32_t n)
 {
@@ -59,10 +60,14 @@ static uint32_t numbered(uint32_t word, uint32_t number)
 static void move_read(uint8_t *to, const struct renumbering *r,
                       const uint8_t *from)
 {
-    uint32_t j;
+    uint32_t n = r->n, j, i;
 
-    for (j = 1; j <= r->n; j++)
-        put(to, r->number[j - 1] - 1, moved(r, get(from, j - 1)));
+    for (j = 1; j <= n; j++) {
+        i = r->number[j - 1];
+        put(to, i - 1, moved(r, get(from, j - 1)));
+        if (has_views(r->form))
+            put(to, n + i - 1, moved(r, get(from, n + j - 1)));
+    }
 }
 
 /* What is counted of module j is counted of module i then. */
@@ -71,7 +76,7 @@ static void move_counters(uint8_t *to, const struct renumbering *r,
 {
     uint32_t n = r->n;
 
-    if (r->form == FADING) {
+    if (fades(r->form)) {
         memcpy(to + 4 * score_at(n, i), from + 4 * score_at(n, j), 8);
     } else {
         put(to, penalty_at(n, i), numbered(get(from, penalty_at(n, j)), i));
@@ -109,6 +114,22 @@ static void move_pending(uint8_t *to, const struct renumbering *r,
     }
 }
 
+/* View words and views, at the same words of both images; out stays. */
+static void move_views(uint8_t *to, const struct renumbering *r,
+                       const uint8_t *from)
+{
+    uint32_t n = r->n, j;
+
+    for (j = 1; j <= n; j++)
+        put(to, view_word_at(from, n, r->number[j - 1]),
+            moved(r, get(from, view_word_at(from, n, j))));
+    put(to, local_view_at(from, n), moved(r, get(from, local_view_at(from, n))));
+    put(to, earlier_view_at(from, n),
+        moved(r, get(from, earlier_view_at(from, n))));
+    put(to, adopted_at(from, n), moved(r, get(from, adopted_at(from, n))));
+    put(to, out_at(from, n), get(from, out_at(from, n)));
+}
+
 /* The setup stands in front of the image and goes with it. */
 static void move_image(uint8_t *to, const struct renumbering *r,
                        const uint8_t *from)
@@ -130,6 +151,8 @@ static void move_image(uint8_t *to, const struct renumbering *r,
     }
     if (presence_rounds_left(from, n) > 0)
         move_pending(to, r, from);
+    if (has_views(f))
+        move_views(to, r, from);
 }
 
 static void image_is(const struct renumbering *r, const uint8_t *image,
@@ -144,6 +167,8 @@ static void image_is(const struct renumbering *r, const uint8_t *image,
         same("word of a renumbered image", get(rebuilt, at), get(wanted, at));
     same("word handed out, renumbered", outgoing(rebuilt, len, 0, 0),
          moved(r, outgoing(image, len, 0, 0)));
+    same("view word handed out, renumbered", outgoing_view(rebuilt, len, 0, 0),
+         moved(r, outgoing_view(image, len, 0, 0)));
 }
 
 /* The same change for a module and for the module that it became, at times. */
@@ -152,17 +177,16 @@ static void two_changes(const struct renumbering *r, uint8_t *image,
 {
     uint8_t new_setup[SETUP_MAX], new_then[SETUP_MAX];
     uint32_t n = r->n, lead = 1 + below(4);
-    size_t len = image_bytes(COUNTS, n), setup_len = setup_bytes(COUNTS, n);
+    size_t len = image_bytes(r->form, n), setup_len = setup_bytes(r->form, n);
+    size_t long_len = pending_bytes(r->form, n);
 
-    if (r->form == FADING || below(8) != 0 ||
+    if (fades(r->form) || below(8) != 0 ||
         presence_rounds_left(image, n) > 0)
         return;
     new_limits(new_setup, image, n);
     move_setup(new_then, r, new_setup);
-    change(image, len, new_setup, setup_len, lead, pending_bytes(n), 0, 0,
-           image);
-    change(rebuilt, len, new_then, setup_len, lead, pending_bytes(n), 0, 0,
-           rebuilt);
+    change(image, len, new_setup, setup_len, lead, long_len, 0, 0, image);
+    change(rebuilt, len, new_then, setup_len, lead, long_len, 0, 0, rebuilt);
     image_is(r, image, rebuilt);
     changes++;
 }
@@ -171,7 +195,8 @@ static void two_changes(const struct renumbering *r, uint8_t *image,
 static uint32_t step_on(uint8_t *image, uint32_t n, const uint8_t *read,
                         uint32_t controller)
 {
-    return step(image, presence_image_bytes(image, n), read, 4 * n, controller,
+    return step(image, presence_image_bytes(image, n), read,
+                presence_read_bytes(image, n), controller,
                 presence_stepped_bytes(image, n), 0, 0, image);
 }
 
@@ -179,10 +204,10 @@ static uint32_t step_on(uint8_t *image, uint32_t n, const uint8_t *read,
 static void two_lives(enum form form, const uint8_t *setup, uint32_t n,
                       uint32_t steps)
 {
-    uint8_t read[PRESENCE_MAX_READ_BYTES], read_then[PRESENCE_MAX_READ_BYTES];
+    uint8_t read[READ_MAX], read_then[READ_MAX];
     uint8_t image[IMAGE_MAX], rebuilt[IMAGE_MAX];
     size_t setup_len = setup_bytes(form, n), len = image_bytes(form, n);
-    uint32_t own = 1 + below(n), faults = 0, k, controller, health, view;
+    uint32_t own = 1 + below(n), faults = 0, k, controller, health, view, shown;
     struct renumbering r;
 
     any_numbers(&r, form, n);
@@ -195,9 +220,10 @@ static void two_lives(enum form form, const uint8_t *setup, uint32_t n,
         if (k % 16 == 0)
             faults = below(9);
         two_changes(&r, image, rebuilt);
-        controller = random_read(read, n, faults);
+        controller = random_read(form, read, n, faults);
         move_read(read_then, &r, read);
         view = view_of(form, image, n);
+        shown = presence_shown_view(image, n);
         health = step_on(image, n, read, controller);
         same("health, renumbered",
              step_on(rebuilt, n, read_then, moved(&r, controller)),
@@ -205,6 +231,7 @@ static void two_lives(enum form form, const uint8_t *setup, uint32_t n,
         image_is(&r, image, rebuilt);
         left += (view & ~view_of(form, image, n)) != 0;
         returned += (~view & view_of(form, image, n)) != 0;
+        adopted += has_views(form) && shown != presence_shown_view(image, n);
     }
 }
 
@@ -213,18 +240,23 @@ void group_renumbered(void)
     static const uint32_t p_of[] = {1, 20, 3000, 100000};
     uint8_t setup[SETUP_MAX];
     uint32_t n, i;
+    enum form form;
 
     begin_group("renumbered racks");
     for (n = 2; n <= MAX_N; n++)
-        for (i = 0; i < 8; i++) {
-            random_setup(setup, n, 0, p_of[i % 4], 1 + below(5));
-            two_lives(COUNTS, setup, n, 100);
-            low_setup(FADING, setup, n, 0);
-            two_lives(FADING, setup, n, 100);
+        for (i = 0; i < 16; i++) {
+            form = i % 2 == 0 ? COUNTS : COUNTS_VIEWS;
+            random_setup(form, setup, n, 0, p_of[i / 2 % 4], 1 + below(5));
+            two_lives(form, setup, n, 100);
+            form = i % 2 == 0 ? FADING : FADING_VIEWS;
+            low_setup(form, setup, n, 0);
+            two_lives(form, setup, n, 100);
         }
     if (left < 100 || returned < 100)
         differ("modules that left and came back", left, returned);
     if (changes < 100)
         differ("changes", changes, 100);
+    if (adopted < 100)
+        differ("views adopted", adopted, 100);
     end_group();
 }

@@ -24,8 +24,8 @@ static void returning_setup(uint8_t *setup, uint32_t n, uint32_t u, uint32_t q)
 {
     uint32_t j;
 
-    make_setup(setup, n, P, R, 1);
-    put(setup, 0, head_word(n, q));
+    make_setup(COUNTS, setup, n, P, R, 1);
+    put(setup, 0, head_word(COUNTS, n, q));
     for (j = 1; u == 1 && j <= n; j++)
         put(setup, module_at(COUNTS, j), module_word(j, j > 1, j - 1, 1));
 }

@@ -5,6 +5,7 @@
 
 #include "check/expect.h"
 #include "check/inputs.h"
+#include "check/random.h"
 #include "check/report.h"
 #include "check/sizes.h"
 #include "check/words.h"
@@ -37,14 +38,15 @@ static void lengths_of(enum form form, uint32_t n)
 static void kinds_of_word_1(uint32_t n)
 {
     uint8_t s[SETUP_MAX];
-    uint32_t kind;
+    uint32_t kind, views;
     enum form form, other;
 
     for (kind = 0; kind < 16; kind++) {
         form = kind == 0 ? FADING : COUNTS;
         other = kind == 0 ? COUNTS : FADING;
+        views = below(2);
         memset(s, 0xEE, sizeof s);
-        put(s, 0, head_word(n, 0));
+        put(s, 0, head_word(views ? other_views(form) : form, n, 0));
         put(s, 1, kind << 28 | 0x0FFFFFFF);
         check_setup(s, setup_bytes(other, n), 3, 0);
         check_setup(s, setup_bytes(form, n), kind == 0 ? 22 : 4, 1);
@@ -55,12 +57,12 @@ static void kinds_of_word_1(uint32_t n)
 
 void group_setup_lengths(void)
 {
-    uint32_t n;
+    uint32_t n, form;
 
     begin_group("setup lengths");
     for (n = 2; n <= MAX_N; n++) {
-        lengths_of(COUNTS, n);
-        lengths_of(FADING, n);
+        for (form = 0; form < FORMS; form++)
+            lengths_of((enum form)form, n);
         kinds_of_word_1(n);
     }
     end_group();

@@ -15,9 +15,9 @@ static void limits_accepted(uint32_t n)
     uint8_t setup[SETUP_MAX];
     size_t len = setup_bytes(COUNTS, n);
 
-    make_setup(setup, n, 1, 1, 1);
+    make_setup(COUNTS, setup, n, 1, 1, 1);
     check_setup(setup, len, 0, 0);
-    make_setup(setup, n, 1000000, 8000000, 100000);
+    make_setup(COUNTS_VIEWS, setup, n, 1000000, 8000000, 100000);
     check_setup(setup, len, 0, 0);
 }
 
@@ -33,7 +33,8 @@ static void fading_accepted(uint32_t n)
 
     for (i = 0; i < COUNT(factors); i++)
         for (k = 0; k < COUNT(limits); k++) {
-            make_fading_setup(setup, n, factors[i], limits[k]);
+            make_fading_setup((i + k) % 2 == 0 ? FADING : FADING_VIEWS, setup,
+                              n, factors[i], limits[k]);
             check_setup(setup, setup_bytes(FADING, n), 0, 0);
         }
 }
@@ -45,10 +46,12 @@ static void front_written(uint32_t n)
     uint32_t i;
 
     for (i = 0; i < 20; i++) {
-        any_setup(FADING, setup, n, 0);
+        any_setup(i % 2 == 0 ? FADING : FADING_VIEWS, setup, n, 0);
         front[sizeof front - 1] = 0xA5;
         presence_fading_front(front, n, get(setup, 0) >> 8 & 0xFFFFF,
                               get_double(setup, 2), get_double(setup, 4));
+        if (i % 2 != 0)
+            front[3] |= PRESENCE_PARTITIONABLE;
         if (memcmp(front, setup, PRESENCE_FADING_FRONT_BYTES) != 0)
             differ("front of a fading setup", i, 0);
         same("byte after it", front[sizeof front - 1], 0xA5);
@@ -57,7 +60,7 @@ static void front_written(uint32_t n)
          4 * module_at(FADING, 1));
 }
 
-/* What both forms have: Q, read places, marks, criticalities. */
+/* What all forms have: Q, read places, marks, criticalities. */
 static void setups_of(enum form form, uint32_t n)
 {
     uint8_t setup[SETUP_MAX];
@@ -65,9 +68,9 @@ static void setups_of(enum form form, uint32_t n)
     uint32_t j, l, i;
 
     usual_setup(form, setup, n);
-    put(setup, 0, head_word(n, 1));
+    put(setup, 0, head_word(form, n, 1));
     check_setup(setup, len, 0, 0);
-    put(setup, 0, head_word(n, 1000000));
+    put(setup, 0, head_word(form, n, 1000000));
     check_setup(setup, len, 0, 0);
     for (j = 1; j <= n; j++)
         for (l = 0; l <= n; l++) {
@@ -87,15 +90,15 @@ static void setups_of(enum form form, uint32_t n)
 
 void group_setups_accepted(void)
 {
-    uint32_t n;
+    uint32_t n, form;
 
     begin_group("setups accepted");
     for (n = 2; n <= MAX_N; n++) {
         limits_accepted(n);
         fading_accepted(n);
         front_written(n);
-        setups_of(COUNTS, n);
-        setups_of(FADING, n);
+        for (form = 0; form < FORMS; form++)
+            setups_of((enum form)form, n);
     }
     end_group();
 }

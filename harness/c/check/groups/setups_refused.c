@@ -18,7 +18,7 @@ static void refused_setup(enum form form, const uint8_t *setup, uint32_t n,
                           uint32_t number, uint32_t index)
 {
     uint8_t good[SETUP_MAX], image[IMAGE_MAX];
-    uint8_t read[PRESENCE_MAX_READ_BYTES];
+    uint8_t read[READ_MAX];
     size_t setup_len = setup_bytes(form, n);
     size_t image_len = image_bytes(form, n);
 
@@ -33,11 +33,13 @@ static void refused_setup(enum form form, const uint8_t *setup, uint32_t n,
     memset(read, 0, sizeof read);
     save(image, image_len, image_len, number, index);
     outgoing(image, image_len, number, index);
-    step(image, image_len, read, 4 * n, 0, image_len, number, index, NULL);
+    step(image, image_len, read, read_bytes(form, n), 0, image_len, number,
+         index, NULL);
     change(image, image_len, good, setup_len, 0, 0, number, index, NULL);
     /* The rest of the image, the lengths and the controller wrong too, but not
        the rounds left, which call for a length. */
-    memset(image + setup_len, 0xFF, image_len - setup_len - 4);
+    memset(image + setup_len, 0xFF, image_len - setup_len);
+    put(image, left_at(form, n), 0);
     step(image, image_len, read, 3, 0xFFFFFFFF, 5, number, index, NULL);
     save(image, image_len, 0, number, index);
 }
@@ -55,9 +57,10 @@ static void refused_setup_word(enum form form, uint8_t *setup, uint32_t n,
 static void heads_refused(enum form form, uint32_t n)
 {
     static const uint32_t heads[] = {
-        0x10000000, 0x10000001, 0x10000011, 0x1000001F, 0x10000024, 0x10000044,
-        0x10000084, 0x100003E4, 0x00000004, 0x20000004, 0x90000004, 0xF0000004,
-        0xFFFFFFFF, 0x1F424104, 0x1F800004, 0x1FFFFF04
+        0x10000000, 0x10000001, 0x10000011, 0x1000001F, 0x10000044, 0x10000084,
+        0x10000020, 0x10000021, 0x10000031, 0x1000003F, 0x10000064, 0x100000A4,
+        0x100003E4, 0x00000004, 0x20000004, 0x90000004, 0xF0000004, 0xF0000024,
+        0xFFFFFFFF, 0x1F424104, 0x1F800004, 0x1FFFFF04, 0x1F424124
     };
     uint8_t s[SETUP_MAX];
     uint32_t i;
@@ -67,7 +70,7 @@ static void heads_refused(enum form form, uint32_t n)
 }
 
 /* 4 at word 1, at word 2, at both */
-static void limits_refused(uint32_t n)
+static void limits_refused(enum form form, uint32_t n)
 {
     static const uint32_t penalty_limits[] = {
         0x20000000, 0x200F4241, 0x2FFFFFFF, 0x28000001, 0x30000005, 0x10000005,
@@ -81,15 +84,15 @@ static void limits_refused(uint32_t n)
     uint32_t i;
 
     for (i = 0; i < COUNT(penalty_limits); i++) {
-        refused_setup_word(COUNTS, s, n, 1, penalty_limits[i], 4);
+        refused_setup_word(form, s, n, 1, penalty_limits[i], 4);
         put(s, 2, 0x30000000);
         put(s, 3, 0);
-        refused_setup(COUNTS, s, n, 4, 1);
+        refused_setup(form, s, n, 4, 1);
     }
     for (i = 0; i < COUNT(reward_limits); i++) {
-        refused_setup_word(COUNTS, s, n, 2, reward_limits[i], 4);
+        refused_setup_word(form, s, n, 2, reward_limits[i], 4);
         put(s, 3, module_word(1, 1, n, 1));
-        refused_setup(COUNTS, s, n, 4, 2);
+        refused_setup(form, s, n, 4, 2);
     }
 }
 
@@ -182,7 +185,7 @@ static void marks_refused(enum form form, uint32_t n, uint32_t j)
     refused_setup(form, s, n, 6, at);
 }
 
-/* What both forms have. */
+/* What all forms have. */
 static void words_refused(enum form form, uint32_t n)
 {
     uint32_t j;
@@ -196,14 +199,15 @@ static void words_refused(enum form form, uint32_t n)
 
 void group_setups_refused(void)
 {
-    uint32_t n;
+    uint32_t n, form;
 
     begin_group("setups refused");
     for (n = 2; n <= MAX_N; n++) {
-        limits_refused(n);
+        limits_refused(COUNTS, n);
+        limits_refused(COUNTS_VIEWS, n);
         fading_refused(n);
-        words_refused(COUNTS, n);
-        words_refused(FADING, n);
+        for (form = 0; form < FORMS; form++)
+            words_refused((enum form)form, n);
     }
     end_group();
 }

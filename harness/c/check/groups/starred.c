@@ -85,7 +85,7 @@ static void starred_marks(struct backplane *b)
 {
     uint8_t marks[SETUP_MAX];
 
-    make_setup(marks, 4, 1, 3, 1);
+    make_setup(COUNTS, marks, 4, 1, 3, 1);
     put(marks, 3, module_word(1, 0, 0, 1));
     put(marks, 4, module_word(2, 1, 0, 1));
     put(marks, 5, module_word(3, 1, 1, 1));
@@ -134,7 +134,7 @@ static void put_four(uint8_t *read, uint32_t word_1, uint32_t word_2,
    own row does not count. */
 static void starred_votes(const uint8_t *image)
 {
-    uint8_t read[PRESENCE_MAX_READ_BYTES];
+    uint8_t read[READ_MAX];
     size_t len = PRESENCE_IMAGE_BYTES(4);
     uint32_t health;
 
@@ -151,7 +151,7 @@ static void starred_votes(const uint8_t *image)
 /* 5000000F is heard, 5000001F and 4000000F are not, nor bit 27. */
 static void starred_heard(uint8_t *image)
 {
-    uint8_t read[PRESENCE_MAX_READ_BYTES];
+    uint8_t read[READ_MAX];
     size_t len = PRESENCE_IMAGE_BYTES(4);
 
     put_four(read, 0x5000000F, 0x5000001F, 0x4000000F, 0x5800000F);
@@ -168,7 +168,7 @@ void group_starred(void)
     uint8_t sheet[SETUP_MAX], image[IMAGE_MAX];
 
     begin_group("starred cases");
-    make_setup(sheet, 4, 1, 3, 1);
+    make_setup(COUNTS, sheet, 4, 1, 3, 1);
     starred_one_charge(&b, sheet);
     starred_two_charges(&b, sheet);
     starred_marks(&b);

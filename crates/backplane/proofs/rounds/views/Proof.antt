@@ -8,12 +8,12 @@ use Rattle.words.specs.Array.{array}
 use Rattle.words.proofs.ArrayLaws.{array-step, array-end}
 use Rattle.words.proofs.TableLaws.{getD-there}
 use Rattle.presence.specs.Opening.{blank}
-use Rattle.presence.specs.declared.State.{State}
+use Rattle.presence.specs.Shown.{shownView}
 use Rattle.backplane.proofs.rounds.views.Statement.{statement}
 use Rattle.backplane.proofs.rounds.views.Tie as tie
 
 abbrev Inv-loop : tie.InvT-loop
-Inv-loop n states views₀ i₀ views i = (i ≤ n) × (views ≡ array i (λ k. getD states k blank .counters .view))
+Inv-loop n states views₀ i₀ views i = (i ≤ n) × (views ≡ array i (λ k. shownView (getD states k blank)))
 
 abbrev μ-loop : tie.MeasureT-loop
 μ-loop n states views₀ i₀ views i = n - i
@@ -28,8 +28,8 @@ mul-state c = omega arith
 array-copy-out-state : tie.Need-array-copy-out-state Inv-loop μ-loop
 array-copy-out-state c = omega arith
 
-view-requires : tie.Need-view-requires Inv-loop μ-loop
-view-requires c κs = search needs
+shown-requires : tie.Need-shown-requires Inv-loop μ-loop
+shown-requires c κs = search needs
 
 mul-views : tie.Need-mul-views Inv-loop μ-loop
 mul-views c = omega arith
@@ -48,8 +48,8 @@ loop-again c =
     let l = c .before .before .before .loop in
     let a = c .before .before .before .before .args in
     let h : l .i < length (a .t2) = omega arith in
-    let e = ap (λ (s : State). s .counters .view) (getD-there (a .t2) (l .i) _ blank h) in
-    (omega arith, array-step _ _ (l .inv .1) (c .view .ensures ∙ e))
+    let e = ap shownView (getD-there (a .t2) (l .i) _ blank h) in
+    (omega arith, array-step _ _ (l .inv .1) (c .shown .ensures ∙ e))
 
 returns : tie.Need-returns Inv-loop μ-loop
 returns c =
@@ -65,7 +65,7 @@ views-spec =
     loop-holds
     mul-state
     array-copy-out-state
-    view-requires
+    shown-requires
     mul-views
     array-write-views
     add-i

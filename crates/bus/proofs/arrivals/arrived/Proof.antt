@@ -1,10 +1,6 @@
--- The controller bits and the words are put together.
-use Prim.Native.Nat.{ℕ}
-use mathlib.Core.Path.{ap₂}
-use mathlib.Core.List.{List}
+-- The controller bits, the words and the view words are put together.
 use borrow.Author.Needs.{needs}
-use Rattle.bus.specs.Bus.{arrived}
-use Rattle.bus.specs.declared.Bus.{Bus}
+use Rattle.bus.proofs.ArrivalLaws.{arrived-by}
 use Rattle.bus.proofs.arrivals.arrived.Statement.{statement}
 use Rattle.bus.proofs.arrivals.arrived.Tie as tie
 
@@ -14,9 +10,13 @@ arrived-bits-requires c κs = search needs
 arrived-words-requires : tie.Need-arrived-words-requires
 arrived-words-requires c κs = search needs
 
+arrived-words-requires-2 : tie.Need-arrived-words-requires-2
+arrived-words-requires-2 c κs = search needs
+
 returns : tie.Need-returns
-unfolding Rattle.bus.specs.Bus.arrived
-returns c = ap₂ (λ (x y : List ℕ). record { bits = x; words = y }) (c .before .before .before .arrived-bits .ensures) (c .arrived-words .ensures)
+returns c =
+    let g = c .before .before .before in
+    arrived-by _ _ _ _ (g .before .before .before .arrived-bits .ensures) (g .arrived-words .ensures) (c .arrived-words2 .ensures)
 
 pub arrived-spec : {M : Type 1} → statement M
-arrived-spec = tie.close (tie.spec arrived-bits-requires arrived-words-requires returns)
+arrived-spec = tie.close (tie.spec arrived-bits-requires arrived-words-requires arrived-words-requires-2 returns)

@@ -1,18 +1,17 @@
 -- After x turns the first x entries are the words that arrive.
-use Prim.Native.Nat.{_-_, _%_, _≤_}
+use Prim.Native.Nat.{_-_, _≤_}
 use mathlib.Core.Path.{_≡_, refl}
-use mathlib.Core.Bool.{cond}
 use native.Mathlib.Omega.{arith}
-use lib.Dec.{eqb}
-use lib.ListN.{getD, replicate}
+use lib.ListN.{replicate}
 use borrow.Author.Needs.{needs}
 use Rattle.words.specs.Table.{updated, table}
 use Rattle.words.proofs.TableLaws.{updated-step}
+use Rattle.bus.specs.Bus.{arriving}
 use Rattle.bus.proofs.arrivals.arrived_words.Statement.{statement}
 use Rattle.bus.proofs.arrivals.arrived_words.Tie as tie
 
 abbrev Inv-loop : tie.InvT-loop
-Inv-loop fate told sent words₀ x₀ words x = (x ≤ 256) × (words ≡ updated x (λ k. cond (eqb (getD fate k 0) 8) (getD told k 0) (getD sent (k % 16) 0)) (replicate 256 0))
+Inv-loop fate told sent words₀ x₀ words x = (x ≤ 256) × (words ≡ updated x (arriving fate told sent) (replicate 256 0))
 
 abbrev μ-loop : tie.MeasureT-loop
 μ-loop fate told sent words₀ x₀ words x = 256 - x

@@ -1,36 +1,16 @@
 -- The image, the new setup, the frame, the lead, the room, each in its turn; then the words are written.
 use native.Mathlib.Omega.{arith}
 use mathlib.Core.Path.{_∙_}
-use Rattle.calls.proofs.FrameWordLaws.{held, forms}
-use Rattle.calls.proofs.ChangeCallLaws.{change-bad-image, image-is, change-bad-setup, setup-is, change-other-frame, same-is, some-rounds, change-no-lead, change-no-room, change-done, left-room, left-word, setup-of, size-of}
+use Rattle.calls.proofs.FrameWordLaws.{held}
+use Rattle.calls.proofs.ModuleCallLaws.{parted-by}
+use Rattle.calls.proofs.ChangeCallLaws.{change-bad-image, image-is, change-bad-setup, change-other-frame, same-is, some-rounds, none-pending, change-long, change-no-lead, change-no-room, change-done, left-room, left-word, setup-of, size-of}
 use borrow.Author.Needs.{needs}
 use Rattle.calls.proofs.calls.presence_change.Statement.{statement}
 use Rattle.calls.proofs.calls.presence_change.Tie as tie
-use Rattle.calls.proofs.calls.refuse.Reads as refuse-reads
-use Rattle.calls.proofs.change.same_frame.Reads as same-frame-reads
-use Rattle.calls.proofs.change.save_changed.Reads as save-changed-reads
-use Rattle.image.proofs.check.check_image.Reads as check-image-reads
-use Rattle.image.proofs.image_length.Reads as image-length-reads
-use Rattle.image.proofs.left_at.Reads as left-at-reads
-use Rattle.setup.proofs.check.check.Reads as check-reads
-use Rattle.setup.proofs.check.size_at.Reads as size-at-reads
-use Rattle.words.proofs.word.word_at.Reads as word-at-reads
-
-check-image-requires : tie.Need-check-image-requires
-check-image-requires c κs = search needs
-
-refuse-requires : tie.Need-refuse-requires
-refuse-requires c κs = search needs
 
 returns : tie.Need-returns
 returns c =
     change-bad-image _ _ _ _ (c .before .before .before .check-image .ensures) (c .before .if1 .taken) (c .refuse .ensures)
-
-check-requires : tie.Need-check-requires
-check-requires c κs = search needs
-
-refuse-requires-2 : tie.Need-refuse-requires-2
-refuse-requires-2 c κs = search needs
 
 returns-2 : tie.Need-returns-2
 returns-2 c =
@@ -39,9 +19,6 @@ returns-2 c =
 same-frame-requires : tie.Need-same-frame-requires
 same-frame-requires c κs =
     (image-is _ _ (c .before .before .before .before .before .before .before .before .before .args .lead) (c .before .before .before .before .before .before .before .before .before .args .out .now) (c .before .before .before .before .before .check-image .ensures) (c .before .before .before .if1 .left) (c .before .before .check .ensures), setup-of _ (c .before .before .check .ensures) (c .if2 .left))
-
-refuse-requires-3 : tie.Need-refuse-requires-3
-refuse-requires-3 c κs = search needs
 
 returns-3 : tie.Need-returns-3
 returns-3 c =
@@ -63,67 +40,64 @@ word-at-requires : tie.Need-word-at-requires
 word-at-requires c κs =
     left-room _ _ (c .before .before .before .before .before .before .before .before .before .before .before .before .before .args .lead) (c .before .before .before .before .before .before .before .before .before .before .before .before .before .args .out .now) (c .before .before .before .before .before .before .before .before .before .check-image .ensures) (c .before .before .before .before .before .before .before .if1 .left) (c .before .before .before .before .before .before .check .ensures) (c .before .before .before .before .if2 .left) (c .before .before .before .same-frame .ensures) (c .before .before .if3 .left) (c .before .size-at .ensures) (c .left-at .ensures)
 
-refuse-requires-4 : tie.Need-refuse-requires-4
-refuse-requires-4 c κs = search needs
-
 returns-4 : tie.Need-returns-4
 returns-4 c =
     change-no-lead _ _ _ _ (c .before .before .before .before .before .before .before .before .before .before .before .before .check-image .ensures) (c .before .before .before .before .before .before .before .before .before .before .if1 .left) (c .before .before .before .before .before .before .before .before .before .check .ensures) (c .before .before .before .before .before .before .before .if2 .left) (c .before .before .before .before .before .before .same-frame .ensures) (c .before .before .before .before .before .if3 .left) (c .before .before .before .before .size-at .ensures) (left-word _ _ (c .before .before .before .left-at .ensures) (c .before .before .word-at .ensures)) (c .before .if4 .taken) (c .refuse4 .ensures)
 
+word-at-requires-2 : tie.Need-word-at-requires-2
+word-at-requires-2 c κs =
+    let ok = image-is (c .before .before .before .before .before .before .before .before .before .before .before .before .before .before .before .args .image .now) (c .before .before .before .before .before .before .before .before .before .before .before .before .before .before .before .args .bytes .now) (c .before .before .before .before .before .before .before .before .before .before .before .before .before .before .before .args .lead) (c .before .before .before .before .before .before .before .before .before .before .before .before .before .before .before .args .out .now) (c .before .before .before .before .before .before .before .before .before .before .before .check-image .ensures) (c .before .before .before .before .before .before .before .before .before .if1 .left) (c .before .before .before .before .before .before .before .before .check .ensures) in
+    omega (arith, held _ (c .before .before .before .before .before .before .before .before .before .before .before .before .before .before .before .args .bytes .now) ok (setup-of _ (c .before .before .before .before .before .before .before .before .check .ensures) (c .before .before .before .before .before .before .if2 .left)) .front .room)
+
 image-length-requires : tie.Need-image-length-requires
 image-length-requires c κs =
-    let ok = image-is (c .before .before .before .before .before .before .before .before .before .before .before .before .before .before .before .args .image .now) (c .before .before .before .before .before .before .before .before .before .before .before .before .before .before .before .args .bytes .now) (c .before .before .before .before .before .before .before .before .before .before .before .before .before .before .before .args .lead) (c .before .before .before .before .before .before .before .before .before .before .before .before .before .before .before .args .out .now) (c .before .before .before .before .before .before .before .before .before .before .before .check-image .ensures) (c .before .before .before .before .before .before .before .before .before .if1 .left) (c .before .before .before .before .before .before .before .before .check .ensures) in
-    let few = held _ (c .before .before .before .before .before .before .before .before .before .before .before .before .before .before .before .args .bytes .now) ok (setup-of _ (c .before .before .before .before .before .before .before .before .check .ensures) (c .before .before .before .before .before .before .if2 .left)) .front .most in
-    let e = c .before .before .before .size-at .ensures in
+    let ok = image-is (c .before .before .before .before .before .before .before .before .before .before .before .before .before .before .before .before .before .args .image .now) (c .before .before .before .before .before .before .before .before .before .before .before .before .before .before .before .before .before .args .bytes .now) (c .before .before .before .before .before .before .before .before .before .before .before .before .before .before .before .before .before .args .lead) (c .before .before .before .before .before .before .before .before .before .before .before .before .before .before .before .before .before .args .out .now) (c .before .before .before .before .before .before .before .before .before .before .before .before .before .check-image .ensures) (c .before .before .before .before .before .before .before .before .before .before .before .if1 .left) (c .before .before .before .before .before .before .before .before .before .before .check .ensures) in
+    let few = held _ (c .before .before .before .before .before .before .before .before .before .before .before .before .before .before .before .before .before .args .bytes .now) ok (setup-of _ (c .before .before .before .before .before .before .before .before .before .before .check .ensures) (c .before .before .before .before .before .before .before .before .if2 .left)) .front .most in
+    let e = c .before .before .before .before .before .size-at .ensures in
     (omega arith, omega (arith, e, few))
-
-refuse-requires-5 : tie.Need-refuse-requires-5
-refuse-requires-5 c κs = search needs
 
 returns-5 : tie.Need-returns-5
 returns-5 c =
-    change-no-room _ _ _ _ (c .before .before .before .before .before .before .before .before .before .before .before .before .before .before .check-image .ensures) (c .before .before .before .before .before .before .before .before .before .before .before .before .if1 .left) (c .before .before .before .before .before .before .before .before .before .before .before .check .ensures) (c .before .before .before .before .before .before .before .before .before .if2 .left) (c .before .before .before .before .before .before .before .before .same-frame .ensures) (c .before .before .before .before .before .before .before .if3 .left) (c .before .before .before .before .before .before .size-at .ensures) (left-word _ _ (c .before .before .before .before .before .left-at .ensures) (c .before .before .before .before .word-at .ensures)) (c .before .before .before .if4 .left) (c .before .before .image-length .ensures) (c .before .if5 .taken) (c .refuse5 .ensures)
+    change-no-room _ _ _ _ (c .before .before .before .before .before .before .before .before .before .before .before .before .before .before .before .before .check-image .ensures) (c .before .before .before .before .before .before .before .before .before .before .before .before .before .before .if1 .left) (c .before .before .before .before .before .before .before .before .before .before .before .before .before .check .ensures) (c .before .before .before .before .before .before .before .before .before .before .before .if2 .left) (c .before .before .before .before .before .before .before .before .before .before .same-frame .ensures) (c .before .before .before .before .before .before .before .before .before .if3 .left) (c .before .before .before .before .before .before .before .before .size-at .ensures) (left-word _ _ (c .before .before .before .before .before .before .before .left-at .ensures) (c .before .before .before .before .before .before .word-at .ensures)) (c .before .before .before .before .before .if4 .left) (parted-by _ (c .before .before .before .before .word-at2 .ensures) (c .before .before .before .bit-at .ensures)) (c .before .before .image-length .ensures) (c .before .if5 .taken) (c .refuse5 .ensures)
 
 save-changed-requires : tie.Need-save-changed-requires
 save-changed-requires c κs =
-    let ok = image-is (c .before .before .before .before .before .before .before .before .before .before .before .before .before .before .before .before .before .before .args .image .now) (c .before .before .before .before .before .before .before .before .before .before .before .before .before .before .before .before .before .before .args .bytes .now) (c .before .before .before .before .before .before .before .before .before .before .before .before .before .before .before .before .before .before .args .lead) (c .before .before .before .before .before .before .before .before .before .before .before .before .before .before .before .before .before .before .args .out .now) (c .before .before .before .before .before .before .before .before .before .before .before .before .before .before .check-image .ensures) (c .before .before .before .before .before .before .before .before .before .before .before .before .if1 .left) (c .before .before .before .before .before .before .before .before .before .before .before .check .ensures) in
-    let good = setup-of _ (c .before .before .before .before .before .before .before .before .before .before .before .check .ensures) (c .before .before .before .before .before .before .before .before .before .if2 .left) in
-    let same = same-is _ _ (c .before .before .before .before .before .before .before .before .before .before .before .before .before .before .before .before .before .before .args .lead) (c .before .before .before .before .before .before .before .before .before .before .before .before .before .before .before .before .before .before .args .out .now) (c .before .before .before .before .before .before .before .before .before .before .before .before .before .before .check-image .ensures) (c .before .before .before .before .before .before .before .before .before .before .before .before .if1 .left) (c .before .before .before .before .before .before .before .before .before .before .before .check .ensures) (c .before .before .before .before .before .before .before .before .before .if2 .left) (c .before .before .before .before .before .before .before .before .same-frame .ensures) (c .before .before .before .before .before .before .before .if3 .left) (c .before .before .before .before .before .before .size-at .ensures) (left-word _ _ (c .before .before .before .before .before .left-at .ensures) (c .before .before .before .before .word-at .ensures)) in
-    let some = some-rounds _ _ _ (c .before .before .before .before .before .before .before .before .before .before .before .before .before .before .before .before .before .before .args .out .now) (c .before .before .before .before .before .before .before .before .before .before .before .before .before .before .check-image .ensures) (c .before .before .before .before .before .before .before .before .before .before .before .before .if1 .left) (c .before .before .before .before .before .before .before .before .before .before .before .check .ensures) (c .before .before .before .before .before .before .before .before .before .if2 .left) (c .before .before .before .before .before .before .before .before .same-frame .ensures) (c .before .before .before .before .before .before .before .if3 .left) (c .before .before .before .before .before .before .size-at .ensures) (left-word _ _ (c .before .before .before .before .before .left-at .ensures) (c .before .before .before .before .word-at .ensures)) (c .before .before .before .if4 .left) in
-    ((ok, good, size-of _ (c .before .before .before .before .before .before .size-at .ensures), same, some, c .before .if5 .left ∙ c .before .before .image-length .ensures), (λ i. omega (arith, c .before .before .before .before .before .before .before .before .before .before .before .before .before .before .before .before .before .shared-slice-known .given i), λ i. omega (arith, c .before .before .before .before .before .before .before .before .before .before .before .before .before .before .before .before .shared-slice-known2 .given i)))
-
-refuse-requires-6 : tie.Need-refuse-requires-6
-refuse-requires-6 c κs = search needs
-
-same-length : tie.Need-same-length
-same-length c = search needs
+    let ok = image-is (c .before .before .before .before .before .before .before .before .before .before .before .before .before .before .before .before .before .before .before .before .args .image .now) (c .before .before .before .before .before .before .before .before .before .before .before .before .before .before .before .before .before .before .before .before .args .bytes .now) (c .before .before .before .before .before .before .before .before .before .before .before .before .before .before .before .before .before .before .before .before .args .lead) (c .before .before .before .before .before .before .before .before .before .before .before .before .before .before .before .before .before .before .before .before .args .out .now) (c .before .before .before .before .before .before .before .before .before .before .before .before .before .before .before .before .check-image .ensures) (c .before .before .before .before .before .before .before .before .before .before .before .before .before .before .if1 .left) (c .before .before .before .before .before .before .before .before .before .before .before .before .before .check .ensures) in
+    let good = setup-of _ (c .before .before .before .before .before .before .before .before .before .before .before .before .before .check .ensures) (c .before .before .before .before .before .before .before .before .before .before .before .if2 .left) in
+    let same = same-is _ _ (c .before .before .before .before .before .before .before .before .before .before .before .before .before .before .before .before .before .before .before .before .args .lead) (c .before .before .before .before .before .before .before .before .before .before .before .before .before .before .before .before .before .before .before .before .args .out .now) (c .before .before .before .before .before .before .before .before .before .before .before .before .before .before .before .before .check-image .ensures) (c .before .before .before .before .before .before .before .before .before .before .before .before .before .before .if1 .left) (c .before .before .before .before .before .before .before .before .before .before .before .before .before .check .ensures) (c .before .before .before .before .before .before .before .before .before .before .before .if2 .left) (c .before .before .before .before .before .before .before .before .before .before .same-frame .ensures) (c .before .before .before .before .before .before .before .before .before .if3 .left) (c .before .before .before .before .before .before .before .before .size-at .ensures) (left-word _ _ (c .before .before .before .before .before .before .before .left-at .ensures) (c .before .before .before .before .before .before .word-at .ensures)) in
+    let some = some-rounds _ _ _ (c .before .before .before .before .before .before .before .before .before .before .before .before .before .before .before .before .before .before .before .before .args .out .now) (c .before .before .before .before .before .before .before .before .before .before .before .before .before .before .before .before .check-image .ensures) (c .before .before .before .before .before .before .before .before .before .before .before .before .before .before .if1 .left) (c .before .before .before .before .before .before .before .before .before .before .before .before .before .check .ensures) (c .before .before .before .before .before .before .before .before .before .before .before .if2 .left) (c .before .before .before .before .before .before .before .before .before .before .same-frame .ensures) (c .before .before .before .before .before .before .before .before .before .if3 .left) (c .before .before .before .before .before .before .before .before .size-at .ensures) (left-word _ _ (c .before .before .before .before .before .before .before .left-at .ensures) (c .before .before .before .before .before .before .word-at .ensures)) (c .before .before .before .before .before .if4 .left) in
+    let none = none-pending _ _ (c .before .before .before .before .before .before .before .before .before .before .before .before .before .before .before .before .before .before .before .before .args .lead) (c .before .before .before .before .before .before .before .before .before .before .before .before .before .before .before .before .before .before .before .before .args .out .now) (c .before .before .before .before .before .before .before .before .before .before .before .before .before .before .before .before .check-image .ensures) (c .before .before .before .before .before .before .before .before .before .before .before .before .before .before .if1 .left) (c .before .before .before .before .before .before .before .before .before .before .before .before .before .check .ensures) (c .before .before .before .before .before .before .before .before .before .before .before .if2 .left) (c .before .before .before .before .before .before .before .before .before .before .same-frame .ensures) (c .before .before .before .before .before .before .before .before .before .if3 .left) (c .before .before .before .before .before .before .before .before .size-at .ensures) (left-word _ _ (c .before .before .before .before .before .before .before .left-at .ensures) (c .before .before .before .before .before .before .word-at .ensures)) (c .before .before .before .before .before .if4 .left) in
+    let long = change-long _ _ (c .before .before .before .before .before .before .before .before .before .before .before .before .before .before .before .before .before .before .before .before .args .lead) (c .before .before .before .before .before .before .before .before .before .before .before .before .before .before .before .before .before .before .before .before .args .out .now) (c .before .before .before .before .before .before .before .before .before .before .before .before .before .before .before .before .check-image .ensures) (c .before .before .before .before .before .before .before .before .before .before .before .before .before .before .if1 .left) (c .before .before .before .before .before .before .before .before .before .before .before .before .before .check .ensures) (c .before .before .before .before .before .before .before .before .before .before .before .if2 .left) (c .before .before .before .before .before .before .before .before .before .before .same-frame .ensures) (c .before .before .before .before .before .before .before .before .before .if3 .left) (c .before .before .before .before .before .before .before .before .size-at .ensures) (left-word _ _ (c .before .before .before .before .before .before .before .left-at .ensures) (c .before .before .before .before .before .before .word-at .ensures)) (c .before .before .before .before .before .if4 .left) (parted-by _ (c .before .before .before .before .word-at2 .ensures) (c .before .before .before .bit-at .ensures)) (c .before .before .image-length .ensures) (c .before .if5 .left) in
+    ((ok, good, size-of _ (c .before .before .before .before .before .before .before .before .size-at .ensures), same, some, none, long), (λ i. omega (arith, c .before .before .before .before .before .before .before .before .before .before .before .before .before .before .before .before .before .before .before .shared-slice-known .given i), λ i. omega (arith, c .before .before .before .before .before .before .before .before .before .before .before .before .before .before .before .before .before .before .shared-slice-known2 .given i)))
 
 returns-6 : tie.Need-returns-6
 returns-6 c =
-    change-done _ _ _ (c .before .before .before .before .before .before .before .before .before .before .before .before .before .before .before .before .before .before .before .before .before .before .args .out .now) (c .before .before .before .before .before .before .before .before .before .before .before .before .before .before .before .before .before .before .check-image .ensures) (c .before .before .before .before .before .before .before .before .before .before .before .before .before .before .before .before .if1 .left) (c .before .before .before .before .before .before .before .before .before .before .before .before .before .before .before .check .ensures) (c .before .before .before .before .before .before .before .before .before .before .before .before .before .if2 .left) (c .before .before .before .before .before .before .before .before .before .before .before .before .same-frame .ensures) (c .before .before .before .before .before .before .before .before .before .before .before .if3 .left) (c .before .before .before .before .before .before .before .before .before .before .size-at .ensures) (left-word _ _ (c .before .before .before .before .before .before .before .before .before .left-at .ensures) (c .before .before .before .before .before .before .before .before .word-at .ensures)) (c .before .before .before .before .before .before .before .if4 .left) (c .before .before .before .before .before .before .image-length .ensures) (c .before .before .before .before .before .if5 .left) (c .refuse6 .ensures) (c .before .before .before .save-changed .ensures)
+    change-done _ _ _ (c .before .before .before .before .before .before .before .before .before .before .before .before .before .before .before .before .before .before .before .before .before .before .before .before .args .out .now) (c .before .before .before .before .before .before .before .before .before .before .before .before .before .before .before .before .before .before .before .before .check-image .ensures) (c .before .before .before .before .before .before .before .before .before .before .before .before .before .before .before .before .before .before .if1 .left) (c .before .before .before .before .before .before .before .before .before .before .before .before .before .before .before .before .before .check .ensures) (c .before .before .before .before .before .before .before .before .before .before .before .before .before .before .before .if2 .left) (c .before .before .before .before .before .before .before .before .before .before .before .before .before .before .same-frame .ensures) (c .before .before .before .before .before .before .before .before .before .before .before .before .before .if3 .left) (c .before .before .before .before .before .before .before .before .before .before .before .before .size-at .ensures) (left-word _ _ (c .before .before .before .before .before .before .before .before .before .before .before .left-at .ensures) (c .before .before .before .before .before .before .before .before .before .before .word-at .ensures)) (c .before .before .before .before .before .before .before .before .before .if4 .left) (parted-by _ (c .before .before .before .before .before .before .before .before .word-at2 .ensures) (c .before .before .before .before .before .before .before .bit-at .ensures)) (c .before .before .before .before .before .before .image-length .ensures) (c .before .before .before .before .before .if5 .left) (c .refuse6 .ensures) (c .before .before .before .save-changed .ensures)
 
 pub presence-change-spec : {M : Type 1} → statement M
 presence-change-spec =
     tie.close
     (tie.spec
-    check-image-requires
-    refuse-requires
+    (λ c κs. search needs)
+    (λ c κs. search needs)
     returns
-    check-requires
-    refuse-requires-2
+    (λ c κs. search needs)
+    (λ c κs. search needs)
     returns-2
     same-frame-requires
-    refuse-requires-3
+    (λ c κs. search needs)
     returns-3
     size-at-requires
     left-at-requires
     word-at-requires
-    refuse-requires-4
+    (λ c κs. search needs)
     returns-4
+    word-at-requires-2
+    (λ c κs. search needs)
     image-length-requires
-    refuse-requires-5
+    (λ c κs. search needs)
     returns-5
     save-changed-requires
-    refuse-requires-6
-    same-length
+    (λ c κs. search needs)
+    (λ c. search needs)
     returns-6)

@@ -6,11 +6,8 @@ use Rattle.calls.proofs.ModuleCallLaws.{outgoing-refused, outgoing-made
 use Rattle.calls.proofs.calls.presence_outgoing.Statement.{statement}
 use Rattle.calls.proofs.calls.presence_outgoing.Tie as tie
 
-check-image-requires : tie.Need-check-image-requires
-check-image-requires c κs = search needs
-
 returns : tie.Need-returns
-returns c = outgoing-refused _ (c .before .before .check-image .ensures) (c .if1 .taken)
+returns c = outgoing-refused _ (c .before .before .before .check-image .ensures) (c .before .if1 .taken) (c .refuse-word .ensures)
 
 word-in-requires : tie.Need-word-in-requires
 word-in-requires c κs = ap (λ (v : Verdict). v .number) (sym (c .before .before .check-image .ensures)) ∙ c .if1 .left
@@ -22,7 +19,8 @@ pub presence-outgoing-spec : {M : Type 1} → statement M
 presence-outgoing-spec =
     tie.close
     (tie.spec
-    check-image-requires
+    (λ c κs. search needs)
+    (λ c κs. search needs)
     returns
     word-in-requires
     returns-2)

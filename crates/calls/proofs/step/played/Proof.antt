@@ -5,12 +5,13 @@ use mathlib.Core.Path.{ap, _∙_, sym}
 use Rattle.words.proofs.ArrayLaws.{array-none}
 use Rattle.setup.specs.Layout.{frontWords}
 use Rattle.rules.specs.Hearing.{readingOf}
-use Rattle.presence.specs.Step.{judgementFor, afterRound}
-use Rattle.presence.specs.Image.{imageOf, stateOf}
+use Rattle.views.proofs.ViewWordLaws.{words-least}
+use Rattle.presence.specs.Step.{judgementFor}
+use Rattle.presence.specs.Image.{stateOf}
 use Rattle.rules.specs.declared.Judgement.{Judgement}
 use Rattle.image.proofs.SectionLaws.{accounts-written}
 use Rattle.presence.proofs.StateRoundLaws.{place-small}
-use Rattle.calls.proofs.ImageStepLaws.{fits, place-is, own-place, small-size, small-view, filled-rows, filled-counters, counted-range, judged-held, small-health, small-next, image-next}
+use Rattle.calls.proofs.ImageStepLaws.{fits, place-is, own-place, small-size, small-view, filled-rows, filled-counters, counted-range, judged-held, small-health, views-asked, small-next, none-put, some-put, image-next}
 use borrow.Author.Needs.{needs}
 use Rattle.calls.proofs.step.played.Statement.{statement}
 use Rattle.calls.proofs.step.played.Tie as tie
@@ -33,7 +34,7 @@ judged-read-requires c κs =
       small-size _ (a .0) (a .3) (a .1) (a .2),
       small-view _ (a .0) (a .3) (a .1) (a .2),
       place-small _ (fits _ (a .0)) (place-is _ (a .0) (f ∙ ap frontWords (a .2)) (a .3 .own) (c .before .before .before .place-in .ensures)),
-      s .pre .1 .0,
+      omega (arith, s .pre .1 .1, words-least (s .args .partitionable) (s .args .n)),
       filled-rows _ (a .0) (a .3) (a .1) (a .2),
       array-none _,
     )
@@ -53,7 +54,7 @@ save-setup-requires c κs =
     let s = c .before .before .before .before .before .before .before .before .before .before .before .before .before .before .before in
     let a = s .pre .0 in
     let f = c .before .before .before .before .before .before .before .before .before .before .before .front-words .ensures .0 in
-    (a .0, a .1, f ∙ ap frontWords (a .2), a .3 .left, omega (arith, s .pre .1 .2, f))
+    (a .0, a .1, f ∙ ap frontWords (a .2), a .3 .left, omega (arith, s .pre .1 .3, f))
 
 save-sections-requires : tie.Need-save-sections-requires
 save-sections-requires c κs =
@@ -63,7 +64,7 @@ save-sections-requires c κs =
     let t = c .before .before .before .before .before .before .kept .ensures in
     let g = judged-held _ (a .0) _ _ (a .3) (a .1) (a .2) (c .before .before .before .before .before .before .before .before .before .before .before .before .before .before .before .before .front-words .ensures .0) (c .before .before .before .before .before .before .before .before .before .before .before .before .before .before .place-in .ensures) (c .before .before .before .before .before .before .before .before .before .before .before .before .before .pick .ensures) in
     let m = small-next _ (a .0) _ _ (a .3) (a .1) (a .2) (a .4) (r .2 ∙ ap (λ (j : Judgement). j .health) g) (r .3 ∙ ap (λ (j : Judgement). j .syndrome) g) (r .0) (r .1) (t .0) (t .1) (t .2) (t .3) in
-    let l = c .before .before .before .before .save-setup .kept .1 .1 .1 .1 .0 ∙ s .pre .1 .2 in
+    let l = c .before .before .before .before .save-setup .kept .1 .1 .1 .1 .0 ∙ s .pre .1 .3 in
     ((small-size _ (a .0) (a .3) (a .1) (a .2), omega (arith, l), m .0 .0, m .0 .1, m .0 .2, m .0 .3), m .1 .0)
 
 save-accounts-requires : tie.Need-save-accounts-requires
@@ -74,7 +75,7 @@ save-accounts-requires c κs =
     let t = c .before .before .before .before .before .before .before .before .before .before .before .before .before .kept .ensures in
     let g = judged-held _ (a .0) _ _ (a .3) (a .1) (a .2) (c .before .before .before .before .before .before .before .before .before .before .before .before .before .before .before .before .before .before .before .before .before .before .before .front-words .ensures .0) (c .before .before .before .before .before .before .before .before .before .before .before .before .before .before .before .before .before .before .before .before .before .place-in .ensures) (c .before .before .before .before .before .before .before .before .before .before .before .before .before .before .before .before .before .before .before .before .pick .ensures) in
     let m = small-next _ (a .0) _ _ (a .3) (a .1) (a .2) (a .4) (r .2 ∙ ap (λ (j : Judgement). j .health) g) (r .3 ∙ ap (λ (j : Judgement). j .syndrome) g) (r .0) (r .1) (t .0) (t .1) (t .2) (t .3) in
-    let l = c .before .before .before .before .before .before .save-sections .kept .1 .1 .1 .1 .1 .1 .1 .1 .0 ∙ c .before .before .before .before .before .before .before .before .before .before .before .save-setup .kept .1 .1 .1 .1 .0 ∙ s .pre .1 .2 in
+    let l = c .before .before .before .before .before .before .save-sections .kept .1 .1 .1 .1 .1 .1 .1 .1 .0 ∙ c .before .before .before .before .before .before .before .before .before .before .before .save-setup .kept .1 .1 .1 .1 .0 ∙ s .pre .1 .3 in
     (small-size _ (a .0) (a .3) (a .1) (a .2), omega (arith, l), m .1 .1)
 
 save-pending-requires : tie.Need-save-pending-requires
@@ -82,28 +83,56 @@ save-pending-requires c κs =
     let s = c .before .before .before .before .before .before .before .before .before .before .before .before .before .before .before .before .before .before .before .before .before .before .before .before .before .before .before .before .before .before .before in
     let a = s .pre .0 in
     let f = c .before .before .before .before .before .before .before .before .before .before .before .before .before .before .before .before .before .before .before .before .before .before .before .before .before .before .before .front-words .ensures .0 in
-    let l = c .before .before .before .save-accounts .kept .1 .1 .1 .1 .1 .0 ∙ c .before .before .before .before .before .before .before .before .before .before .save-sections .kept .1 .1 .1 .1 .1 .1 .1 .1 .0 ∙ c .before .before .before .before .before .before .before .before .before .before .before .before .before .before .before .save-setup .kept .1 .1 .1 .1 .0 ∙ s .pre .1 .2 in
+    let l = c .before .before .before .save-accounts .kept .1 .1 .1 .1 .1 .0 ∙ c .before .before .before .before .before .before .before .before .before .before .save-sections .kept .1 .1 .1 .1 .1 .1 .1 .1 .0 ∙ c .before .before .before .before .before .before .before .before .before .before .before .before .before .before .before .save-setup .kept .1 .1 .1 .1 .0 ∙ s .pre .1 .3 in
     (a .0, a .1, f ∙ ap frontWords (a .2), a .3 .left, omega (arith, l, f))
+
+save-views-requires : tie.Need-save-views-requires
+save-views-requires c κs =
+    let s = c .before .before .before .before .before .before .before .before .before .before .before .before .before .before .before .before .before .before .before .before .before .before .before .before .before .before .before .before .before .before .before .before .before .before .before .before .before in
+    let a = s .pre .0 in
+    let l = c .before .before .before .before .before .save-pending .kept .1 .1 .1 .1 .0 ∙ c .before .before .before .before .before .before .before .before .before .save-accounts .kept .1 .1 .1 .1 .1 .0 ∙ c .before .before .before .before .before .before .before .before .before .before .before .before .before .before .before .before .save-sections .kept .1 .1 .1 .1 .1 .1 .1 .1 .0 ∙ c .before .before .before .before .before .before .before .before .before .before .before .before .before .before .before .before .before .before .before .before .before .save-setup .kept .1 .1 .1 .1 .0 in
+    views-asked _ (a .0) (s .args .read .now) (s .args .controller) (a .3) (a .1) (a .2) (c .before .before .before .before .before .before .before .before .before .before .before .before .before .before .before .before .before .before .before .before .before .before .before .before .before .before .before .before .before .before .before .before .before .front-words .ensures .0) (s .pre .1 .0) (c .before .before .if1 .taken) (s .pre .1 .1) (s .pre .1 .3) l
 
 returns : tie.Need-returns
 returns c =
-    let s = c .before .before .before .before .before .before .before .before .before .before .before .before .before .before .before .before .before .before .before .before .before .before .before .before .before .before .before .before .before .before .before .before .before .before in
+    let s = c .before .before .before .before .before .before .before .before .before .before .before .before .before .before .before .before .before .before .before .before .before .before .before .before .before .before .before .before .before .before .before .before .before .before .before .before .before .before .before .before in
     let a = s .pre .0 in
-    let r = c .before .before .before .before .before .before .before .before .before .before .before .before .before .before .before .before .before .before .before .before .before .before .before .before .judged-read .ensures in
-    let t = c .before .before .before .before .before .before .before .before .before .before .before .before .before .before .before .before .before .before .before .before .kept .ensures in
-    let f = c .before .before .before .before .before .before .before .before .before .before .before .before .before .before .before .before .before .before .before .before .before .before .before .before .before .before .before .before .before .before .front-words .ensures .0 in
-    let g = judged-held _ (a .0) _ _ (a .3) (a .1) (a .2) f (c .before .before .before .before .before .before .before .before .before .before .before .before .before .before .before .before .before .before .before .before .before .before .before .before .before .before .before .before .place-in .ensures) (c .before .before .before .before .before .before .before .before .before .before .before .before .before .before .before .before .before .before .before .before .before .before .before .before .before .before .before .pick .ensures) in
+    let r = c .before .before .before .before .before .before .before .before .before .before .before .before .before .before .before .before .before .before .before .before .before .before .before .before .before .before .before .before .before .before .judged-read .ensures in
+    let t = c .before .before .before .before .before .before .before .before .before .before .before .before .before .before .before .before .before .before .before .before .before .before .before .before .before .before .kept .ensures in
+    let f = c .before .before .before .before .before .before .before .before .before .before .before .before .before .before .before .before .before .before .before .before .before .before .before .before .before .before .before .before .before .before .before .before .before .before .before .before .front-words .ensures .0 in
+    let g = judged-held _ (a .0) _ _ (a .3) (a .1) (a .2) f (c .before .before .before .before .before .before .before .before .before .before .before .before .before .before .before .before .before .before .before .before .before .before .before .before .before .before .before .before .before .before .before .before .before .before .place-in .ensures) (c .before .before .before .before .before .before .before .before .before .before .before .before .before .before .before .before .before .before .before .before .before .before .before .before .before .before .before .before .before .before .before .before .before .pick .ensures) in
     let e = r .2 ∙ ap (λ (j : Judgement). j .health) g in
     let y = r .3 ∙ ap (λ (j : Judgement). j .syndrome) g in
     let st = stateOf (s .args .image .now) in
     let read = s .args .read .now in
-    let both = accounts-written (s .args .fades) (s .args .n) (s .args .part .own) (c .before .before .before .before .before .before .before .before .before .before .before .before .before .before .before .before .before .before .before .before .kept .result)
-    (record { heard = c .before .before .before .before .before .before .before .before .before .before .before .before .before .before .before .before .before .before .before .before .before .before .before .before .judged-read .result .heard; rows = c .before .before .before .before .before .before .before .before .before .before .before .before .before .before .before .before .before .before .before .before .before .before .before .before .judged-read .last .1 .1 .1 .1 .1 .1 .1 .1 .1 .0 }) (c .before .before .before .before .before .before .before .before .before .before .before .before .before .before .before .before .before .before .before .before .before .before .before .before .judged-read .result .syndrome) (s .args .part .latest) _ _ _ _
-    (c .before .before .before .before .before .before .before .before .before .before .before .before .before .save-sections .ensures) (c .before .before .before .before .before .before .save-accounts .ensures)
+    let both = accounts-written (s .args .fades) (s .args .n) (s .args .part .own) (c .before .before .before .before .before .before .before .before .before .before .before .before .before .before .before .before .before .before .before .before .before .before .before .before .before .before .kept .result)
+    (record { heard = c .before .before .before .before .before .before .before .before .before .before .before .before .before .before .before .before .before .before .before .before .before .before .before .before .before .before .before .before .before .before .judged-read .result .heard; rows = c .before .before .before .before .before .before .before .before .before .before .before .before .before .before .before .before .before .before .before .before .before .before .before .before .before .before .before .before .before .before .judged-read .last .1 .1 .1 .1 .1 .1 .1 .1 .1 .0 }) (c .before .before .before .before .before .before .before .before .before .before .before .before .before .before .before .before .before .before .before .before .before .before .before .before .before .before .before .before .before .before .judged-read .result .syndrome) (s .args .part .latest) _ _ _ _
+    (c .before .before .before .before .before .before .before .before .before .before .before .before .before .before .before .before .before .before .before .save-sections .ensures) (c .before .before .before .before .before .before .before .before .before .before .before .before .save-accounts .ensures)
     in (
       e ∙ ap (λ (i : ℕ). judgementFor st (readingOf i read (s .args .controller)) .health) (sym (a .1)),
-      image-next _ (a .0) _ _ (a .3) (a .1) (a .2) (a .4) e y (r .0) (r .1) (t .0) (t .1) (t .2) (t .3) (s .args .out .now) f (s .pre .1 .2) (c .before .before .before .before .before .before .before .before .before .before .before .before .before .before .before .before .before .before .save-setup .ensures) both (c .before .before .save-pending .ensures)
-          ∙ ap (λ (i : ℕ). imageOf (afterRound st (readingOf i read (s .args .controller)))) (sym (a .1)),
+      image-next _ (a .0) _ _ (a .3) (a .1) (a .2) (a .4) e y (r .0) (r .1) (t .0) (t .1) (t .2) (t .3) (s .args .out .now) f (s .pre .1 .0) (s .pre .1 .3) (c .before .before .before .before .before .before .before .before .before .before .before .before .before .before .before .before .before .before .before .before .before .before .before .before .save-setup .ensures) both (c .before .before .before .before .before .before .before .before .save-pending .ensures)
+          (some-put _ (a .0) _ _ (a .3) (a .1) (a .2) (a .4) e y (r .0) (r .1) (t .0) (t .1) (t .2) (t .3) _ (s .pre .1 .0) (c .before .before .before .before .before .if1 .taken) f (c .before .before .before .before .before .before .before .before .before .before .before .before .before .before .before .before .before .before .before .before .before .before .before .before .before .before .before .before .before .before .before .before .before .before .place-in .ensures) (c .before .before .before .before .pick2 .ensures) (c .before .before .save-views .ensures)),
+    )
+
+returns-2 : tie.Need-returns-2
+returns-2 c =
+    let s = c .before .before .before .before .before .before .before .before .before .before .before .before .before .before .before .before .before .before .before .before .before .before .before .before .before .before .before .before .before .before .before .before .before .before .before in
+    let a = s .pre .0 in
+    let r = c .before .before .before .before .before .before .before .before .before .before .before .before .before .before .before .before .before .before .before .before .before .before .before .before .before .judged-read .ensures in
+    let t = c .before .before .before .before .before .before .before .before .before .before .before .before .before .before .before .before .before .before .before .before .before .kept .ensures in
+    let f = c .before .before .before .before .before .before .before .before .before .before .before .before .before .before .before .before .before .before .before .before .before .before .before .before .before .before .before .before .before .before .before .front-words .ensures .0 in
+    let g = judged-held _ (a .0) _ _ (a .3) (a .1) (a .2) f (c .before .before .before .before .before .before .before .before .before .before .before .before .before .before .before .before .before .before .before .before .before .before .before .before .before .before .before .before .before .place-in .ensures) (c .before .before .before .before .before .before .before .before .before .before .before .before .before .before .before .before .before .before .before .before .before .before .before .before .before .before .before .before .pick .ensures) in
+    let e = r .2 ∙ ap (λ (j : Judgement). j .health) g in
+    let y = r .3 ∙ ap (λ (j : Judgement). j .syndrome) g in
+    let st = stateOf (s .args .image .now) in
+    let read = s .args .read .now in
+    let both = accounts-written (s .args .fades) (s .args .n) (s .args .part .own) (c .before .before .before .before .before .before .before .before .before .before .before .before .before .before .before .before .before .before .before .before .before .kept .result)
+    (record { heard = c .before .before .before .before .before .before .before .before .before .before .before .before .before .before .before .before .before .before .before .before .before .before .before .before .before .judged-read .result .heard; rows = c .before .before .before .before .before .before .before .before .before .before .before .before .before .before .before .before .before .before .before .before .before .before .before .before .before .judged-read .last .1 .1 .1 .1 .1 .1 .1 .1 .1 .0 }) (c .before .before .before .before .before .before .before .before .before .before .before .before .before .before .before .before .before .before .before .before .before .before .before .before .before .judged-read .result .syndrome) (s .args .part .latest) _ _ _ _
+    (c .before .before .before .before .before .before .before .before .before .before .before .before .before .before .save-sections .ensures) (c .before .before .before .before .before .before .before .save-accounts .ensures)
+    in (
+      e ∙ ap (λ (i : ℕ). judgementFor st (readingOf i read (s .args .controller)) .health) (sym (a .1)),
+      image-next _ (a .0) _ _ (a .3) (a .1) (a .2) (a .4) e y (r .0) (r .1) (t .0) (t .1) (t .2) (t .3) (s .args .out .now) f (s .pre .1 .0) (s .pre .1 .3) (c .before .before .before .before .before .before .before .before .before .before .before .before .before .before .before .before .before .before .before .save-setup .ensures) both (c .before .before .before .save-pending .ensures)
+          (none-put _ (a .0) _ _ (a .3) (a .1) (a .2) (a .4) e y (r .0) (r .1) (t .0) (t .1) (t .2) (t .3) _ (s .pre .1 .0) (c .if1 .left)),
     )
 
 pub played-spec : {M : Type 1} → statement M
@@ -120,5 +149,9 @@ played-spec =
     save-sections-requires
     save-accounts-requires
     save-pending-requires
+    (λ c κs. search needs)
+    save-views-requires
     (λ c. search needs)
-    returns)
+    returns
+    (λ c. search needs)
+    returns-2)

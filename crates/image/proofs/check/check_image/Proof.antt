@@ -7,6 +7,7 @@ use borrow.Author.Tests.{eqb-true, not-true, not-false}
 use Rattle.words.specs.Word.{wordAt}
 use Prim.Native.Nat.{ℕ, _≤_}
 use Rattle.setup.specs.Layout.{frontWords, setupLength}
+use Rattle.setup.specs.Setup.{partitionableIn}
 use Rattle.setup.proofs.SetupAnswerLaws.{head-fits}
 use Rattle.image.specs.Layout.{leftAt, imageLength}
 use Rattle.image.proofs.ImageAnswers.{stays-head, stays-length, stays-words, ends-tail}
@@ -15,12 +16,12 @@ use Rattle.image.proofs.check.check_image.Statement.{statement}
 use Rattle.image.proofs.check.check_image.Tie as tie
 
 -- an image has room for its setup
-front-room : {front k : ℕ} (b : Bool) (n : ℕ) (s : List ℕ) → front ≡ frontWords b → k ≡ imageLength front n (wordAt s (leftAt front n))
+front-room : {front k : ℕ} (b : Bool) (n : ℕ) (s : List ℕ) → front ≡ frontWords b → k ≡ imageLength front n (wordAt s (leftAt front n)) (partitionableIn (wordAt s 0))
     → setupLength (frontWords b) n ≤ k
 front-room b n s e h = omega (arith, e)
 
-by-form : {front k : ℕ} (b : Bool) (n : ℕ) (s : List ℕ) → front ≡ frontWords b → k ≡ imageLength front n (wordAt s (leftAt front n))
-    → k ≡ imageLength (frontWords b) n (wordAt s (leftAt (frontWords b) n))
+by-form : {front k : ℕ} (b : Bool) (n : ℕ) (s : List ℕ) → front ≡ frontWords b → k ≡ imageLength front n (wordAt s (leftAt front n)) (partitionableIn (wordAt s 0))
+    → k ≡ imageLength (frontWords b) n (wordAt s (leftAt (frontWords b) n)) (partitionableIn (wordAt s 0))
 by-form b n s e h = rw e at h
 
 check-head-requires : tie.Need-check-head-requires

@@ -1,9 +1,11 @@
 -- The sections in their turn.
 use Rattle.image.proofs.SectionLaws.{tail-joined}
-use mathlib.Core.Path.{_≡_}
+use Rattle.image.proofs.TornLaws.{length-found}
+use mathlib.Core.Path.{_≡_, refl}
 use mathlib.Core.Bool.{Bool}
 use mathlib.Core.List.{List}
 use Rattle.setup.specs.Layout.{frontWords}
+use Rattle.setup.specs.Setup.{partitionableIn}
 use Prim.Native.Nat.{ℕ, _+_, _*_, _≤_}
 use native.Mathlib.Omega.{arith}
 use Rattle.image.specs.Layout.{leftAt, beforeLeft, imageLength}
@@ -14,12 +16,12 @@ use Rattle.image.proofs.check.check_tail.Statement.{statement}
 use Rattle.image.proofs.check.check_tail.Tie as tie
 
 -- the length, by the number of words before those of the modules
-by-front : {front k : ℕ} (b : Bool) (n : ℕ) (s : List ℕ) → front ≡ frontWords b → k ≡ imageLength (frontWords b) n (wordAt s (leftAt (frontWords b) n))
+by-front : {front k : ℕ} (b : Bool) (n : ℕ) (s : List ℕ) → front ≡ frontWords b → k ≡ imageLength (frontWords b) n (wordAt s (leftAt (frontWords b) n)) (partitionableIn (wordAt s 0))
     → beforeLeft front n ≤ k
 by-front b n s e h = omega (arith, e)
 
 change-room : {front at k : ℕ} (b : Bool) (n : ℕ) (w : ℕ → ℕ) → front ≡ frontWords b → at ≡ leftAt front n
-    → k ≡ imageLength (frontWords b) n (w (leftAt (frontWords b) n)) → (at + 1 + newCount n (w at)) * 4 ≤ k
+    → k ≡ imageLength (frontWords b) n (w (leftAt (frontWords b) n)) (partitionableIn (w 0)) → (at + 1 + newCount n (w at)) * 4 ≤ k
 change-room b n w e a h = rw (a, e) (omega (arith, h))
 
 front-words-requires : tie.Need-front-words-requires
@@ -78,13 +80,20 @@ then-change-requires c κs =
     let e = c .left-at .ensures in
     (s .pre .0, omega arith, change-room (s .args .fades) (s .args .n) (wordAt (s .args .s .now)) (f .0) e (s .pre .1))
 
+then-views-requires : tie.Need-then-views-requires
+then-views-requires c κs =
+    let f = c .before .before .before .before .before .before .before .before .before .before .front-words .ensures in
+    let s = c .before .before .before .before .before .before .before .before .before .before .before .before in
+    (f .2, s .pre .0, length-found (s .args .fades) (s .args .n) (wordAt (s .args .s .now)) (f .0) refl refl refl (s .pre .1))
+
 returns : tie.Need-returns
 returns c =
-    let b = c .before .before .before .before .before .before in
+    let b = c .before .before .before .before .before .before .before in
     let a = b .before .before .before in
     tail-joined _ _ _ (a .before .front-words .ensures .0) (a .check-own .ensures) (b .before .before .rows-at .ensures) (b .before .then-section .ensures)
-    (b .latest-at .ensures) (c .before .before .before .before .before .then-syndrome .ensures) (c .before .before .before .before .earlier-at .ensures)
-    (c .before .before .before .then-syndrome2 .ensures) (c .before .before .then-accounts .ensures) (c .before .left-at .ensures) (c .then-change .ensures)
+    (b .latest-at .ensures) (c .before .before .before .before .before .before .then-syndrome .ensures) (c .before .before .before .before .before .earlier-at .ensures)
+    (c .before .before .before .before .then-syndrome2 .ensures) (c .before .before .before .then-accounts .ensures) (c .before .before .left-at .ensures)
+    (c .before .then-change .ensures) (c .then-views .ensures)
 
 pub check-tail-spec : {M : Type 1} → statement M
 check-tail-spec =
@@ -101,4 +110,5 @@ check-tail-spec =
     then-accounts-requires
     left-at-requires
     then-change-requires
+    then-views-requires
     returns)

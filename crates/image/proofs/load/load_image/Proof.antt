@@ -8,11 +8,12 @@ use borrow.Author.Tests.{not-true, not-false}
 use Rattle.words.specs.Word.{wordAt}
 use Rattle.words.proofs.Truth.{and-l, and-r}
 use Rattle.setup.specs.Layout.{frontWords}
-use Rattle.setup.specs.Setup.{returnLimitIn}
+use Rattle.setup.specs.Setup.{returnLimitIn, partitionableIn}
 use Rattle.changes.specs.Words.{newCount}
 use Rattle.image.specs.Layout.{leftAt, beforeLeft, imageLength}
-use Rattle.image.proofs.ReadLaws.{limits-wrong, limits-fine, change-good}
+use Rattle.image.proofs.ReadLaws.{limits-wrong, limits-fine, change-good, views-good}
 use Rattle.image.proofs.LentLaws.{asked-by, given-by}
+use Rattle.image.proofs.TornLaws.{length-found}
 use borrow.Author.Needs.{needs}
 use Rattle.image.proofs.load.load_image.Statement.{statement}
 use Rattle.image.proofs.load.load_image.Tie as tie
@@ -28,16 +29,18 @@ use Rattle.setup.proofs.bounds.front_words.Reads as front-words-reads
 use Rattle.setup.proofs.bounds.limits_at.Reads as limits-at-reads
 use Rattle.setup.proofs.bounds.limits_right.Reads as limits-right-reads
 use Rattle.setup.proofs.modules.load_modules.Reads as load-modules-reads
+use Rattle.image.proofs.torn.views_good.Reads as views-good-reads
+use Rattle.words.proofs.bits.bit_at.Reads as bit-at-reads
 use Rattle.words.proofs.word.field.Reads as field-reads
 use Rattle.words.proofs.word.word_at.Reads as word-at-reads
 
 -- the length, by the number of words before those of the modules
-by-front : {front k : ℕ} (b : Bool) (n : ℕ) (s : List ℕ) → front ≡ frontWords b → k ≡ imageLength (frontWords b) n (wordAt s (leftAt (frontWords b) n))
+by-front : {front k : ℕ} (b : Bool) (n : ℕ) (s : List ℕ) → front ≡ frontWords b → k ≡ imageLength (frontWords b) n (wordAt s (leftAt (frontWords b) n)) (partitionableIn (wordAt s 0))
     → beforeLeft front n ≤ k
 by-front b n s e h = omega (arith, e)
 
 change-room : {front at k : ℕ} (b : Bool) (n : ℕ) (w : ℕ → ℕ) → front ≡ frontWords b → at ≡ leftAt front n
-    → k ≡ imageLength (frontWords b) n (w (leftAt (frontWords b) n)) → (at + 1 + newCount n (w at)) * 4 ≤ k
+    → k ≡ imageLength (frontWords b) n (w (leftAt (frontWords b) n)) (partitionableIn (w 0)) → (at + 1 + newCount n (w at)) * 4 ≤ k
 change-room b n w e a h = rw (a, e) (omega (arith, h))
 
 word-at-requires : tie.Need-word-at-requires
@@ -55,12 +58,6 @@ load-modules-requires c κs = search needs
 load-words-requires : tie.Need-load-words-requires
 load-words-requires c κs = search needs
 
-load-rows-requires : tie.Need-load-rows-requires
-load-rows-requires c κs =
-    let s = c .before .before .before .before .before .before .before .before in
-    let f = c .before .before .before .before .front-words .ensures in
-    (f .2, s .pre .0 .0, by-front (s .args .fades) (s .args .n) (s .args .s .now) (f .0) (s .pre .0 .1), s .pre .1 .1)
-
 left-at-requires : tie.Need-left-at-requires
 left-at-requires c κs = search needs
 
@@ -69,14 +66,35 @@ word-at-requires-2 c κs = search needs
 
 check-change-requires : tie.Need-check-change-requires
 check-change-requires c κs =
-    let s = c .before .before .before .before .before .before .before .before .before .before .before in
-    let f = c .before .before .before .before .before .before .before .front-words .ensures in
+    let f = c .before .before .before .before .before .front-words .ensures in
+    let s = c .before .before .before .before .before .before .before .before .before in
     let e = c .before .left-at .ensures in
     (s .pre .0 .0, omega (arith, f .2, s .pre .0 .0), change-room (s .args .fades) (s .args .n) (wordAt (s .args .s .now)) (f .0) e (s .pre .0 .1))
 
+bit-at-requires : tie.Need-bit-at-requires
+bit-at-requires c κs = search needs
+
+views-good-requires : tie.Need-views-good-requires
+views-good-requires c κs =
+    let d = c .before .before .before in
+    let f = d .before .before .before .before .front-words .ensures in
+    let head = d .before .before .before .before .before .before .word-at .ensures in
+    let s = d .before .before .before .before .before .before .before .before in (
+      f .2,
+      s .pre .0 .0,
+      length-found (s .args .fades) (s .args .n) (wordAt (s .args .s .now)) (f .0) (d .left-at .ensures) (c .before .before .word-at2 .ensures)
+          (c .bit-at .ensures ∙ ap partitionableIn head) (s .pre .0 .1),
+    )
+
+load-rows-requires : tie.Need-load-rows-requires
+load-rows-requires c κs =
+    let f = c .before .before .before .before .before .before .before .before .before .front-words .ensures in
+    let s = c .before .before .before .before .before .before .before .before .before .before .before .before .before in
+    (f .2, s .pre .0 .0, by-front (s .args .fades) (s .args .n) (s .args .s .now) (f .0) (s .pre .0 .1), s .pre .1 .1)
+
 limits-right-requires : tie.Need-limits-right-requires
 limits-right-requires c κs =
-    let s = c .before .before .before .before .before .before .before .before .before .before .before .before in
+    let s = c .before .before .before .before .before .before .before .before .before .before .before .before .before .before in
     omega (arith, s .pre .0 .1)
 
 no-part-requires : tie.Need-no-part-requires
@@ -85,41 +103,49 @@ no-part-requires c κs = search needs
 returns : tie.Need-returns
 returns c =
     let f = c .no-part .ensures in
-    let a = c .before .before .before .before .before .before .before .before .before .before .before .before .before .before .before .pre .0 in
+    let a = c .before .before .before .before .before .before .before .before .before .before .before .before .before .before .before .before .before .pre .0 in
     (f ∙ limits-wrong _ _ (a .3) refl (c .before .before .limits-right .ensures) (not-true _ (c .before .if1 .taken)), λ t. absurd (true≢false (sym t ∙ f)))
 
 limits-at-requires : tie.Need-limits-at-requires
 limits-at-requires c κs =
-    let s = c .before .before .before .before .before .before .before .before .before .before .before .before .before .before in
+    let s = c .before .before .before .before .before .before .before .before .before .before .before .before .before .before .before .before in
     omega (arith, s .pre .0 .1)
 
 load-accounts-requires : tie.Need-load-accounts-requires
 load-accounts-requires c κs =
     let i = c .before .before .before .before .before in
-    let q = c .before .before .before .before .before .before .before .before .before .before .before .before .before .before .before .before .field .ensures ∙ ap returnLimitIn (c .before .before .before .before .before .before .before .before .before .before .before .before .before .before .before .before .before .word-at .ensures) in
-    let s = c .before .before .before .before .before .before .before .before .before .before .before .before .before .before .before .before .before .before .before in
+    let q = c .before .before .before .before .before .before .before .before .before .before .before .before .before .before .before .before .before .before .field .ensures ∙ ap returnLimitIn (c .before .before .before .before .before .before .before .before .before .before .before .before .before .before .before .before .before .before .before .word-at .ensures) in
+    let s = c .before .before .before .before .before .before .before .before .before .before .before .before .before .before .before .before .before .before .before .before .before in
     let a = s .pre .0 in (
-      asked-by _ _ (s .args .fades) (c .before .before .before .before .limits-at .ensures) (c .before .before .before .before .before .before .before .before .before .before .before .before .before .before .before .front-words .ensures .0) (a .0) (omega (arith, a .1)) (sym (i .before .limits-right .ensures) ∙ not-false _ (i .if1 .left)) q
-          (omega (arith, q, a .4)) (c .before .before .before .before .before .before .before .before .before .before .before .before .before .load-modules .ensures .1) (c .before .before .before .before .before .before .before .before .before .before .before .before .load-words .ensures .2),
+      asked-by _ _ (s .args .fades) (c .before .before .before .before .limits-at .ensures) (c .before .before .before .before .before .before .before .before .before .before .before .before .before .before .before .before .before .front-words .ensures .0) (a .0) (omega (arith, a .1)) (sym (i .before .limits-right .ensures) ∙ not-false _ (i .if1 .left)) q
+          (omega (arith, q, a .4)) (c .before .before .before .before .before .before .before .before .before .before .before .before .before .before .before .load-modules .ensures .1) (c .before .before .before .before .before .before .before .before .before .before .before .before .before .before .load-words .ensures .2),
       (s .pre .1 .2, s .pre .1 .3, s .pre .1 .4),
     )
 
 returns-2 : tie.Need-returns-2
 returns-2 c =
     let counted = c .before .before .before .before .load-accounts in
-    let change = c .before .before .before .before .before .before .before .before .before .before .before .before .check-change in
-    let read = c .before .before .before .before .before .before .before .before .before .before .before .before .before .before .before .load-rows in
-    let alone = c .before .before .before .before .before .before .before .before .before .before .before .before .before .before .before .before .before .load-words in
-    let modules = c .before .before .before .before .before .before .before .before .before .before .before .before .before .before .before .before .before .before .load-modules in
-    let front = c .before .before .before .before .before .before .before .before .before .before .before .before .before .before .before .before .before .before .before .before .front-words in
     let limits = c .before .before .before .before .before .before .before .before .before .limits-at .ensures in
-    let q = c .before .before .before .before .before .before .before .before .before .before .before .before .before .before .before .before .before .before .before .before .before .field .ensures ∙ ap returnLimitIn (c .before .before .before .before .before .before .before .before .before .before .before .before .before .before .before .before .before .before .before .before .before .before .word-at .ensures) in
     let i = c .before .before .before .before .before .before .before .before .before .before in
-    let s = c .before .before .before .before .before .before .before .before .before .before .before .before .before .before .before .before .before .before .before .before .before .before .before .before in
+    let read = i .before .before .load-rows in
+    let views = i .before .before .before .before .views-good in
+    let bit = i .before .before .before .before .before .bit-at .ensures in
+    let change = i .before .before .before .before .before .before .check-change in
+    let left = i .before .before .before .before .before .before .before .word-at2 .ensures in
+    let h = i .before .before .before .before .before .before .before .before in
+    let at = h .left-at .ensures in
+    let alone = h .before .load-words in
+    let modules = h .before .before .load-modules in
+    let front = h .before .before .before .before .front-words in
+    let head = h .before .before .before .before .before .before .word-at .ensures in
+    let q = h .before .before .before .before .before .field .ensures ∙ ap returnLimitIn head in
+    let s = h .before .before .before .before .before .before .before .before in
+    let w = wordAt (s .args .s .now) in
     let a = s .pre .0 in
     let x = given-by _ _ (s .args .fades) limits (counted .ensures) in (
       limits-fine _ _ (a .3) (front .ensures .0) (i .before .limits-right .ensures) (not-false _ (i .if1 .left)) (modules .ensures .0) (alone .ensures .0) (read .ensures .0) (x .0)
-          (change-good (s .args .fades) (wordAt (s .args .s .now)) _ (s .args .n) (c .before .before .before .before .before .before .before .before .before .before .before .before .before .before .left-at .ensures) (change .ensures)),
+          (change-good (s .args .fades) w _ (s .args .n) at (change .ensures))
+          (views-good w _ (s .args .n) (bit ∙ ap partitionableIn head) (alone .ensures .2) at left (views .ensures)),
       λ t.
           let others = and-r (modules .result .good) _ t in
           let arrays = x .1 (and-l (counted .result) _ (and-r (read .result .good) _ (and-r (alone .result .good) _ others))) in
@@ -138,7 +164,7 @@ returns-2 c =
             first = arrays .0;
             second = arrays .1;
             returns = arrays .2;
-            left = c .before .before .before .before .before .before .before .before .before .before .before .before .before .word-at2 .ensures ∙ ap (wordAt (s .args .s .now)) (c .before .before .before .before .before .before .before .before .before .before .before .before .before .before .left-at .ensures ∙ ap (λ (x : ℕ). leftAt x (s .args .n)) place);
+            left = left ∙ ap w (at ∙ ap (λ (x : ℕ). leftAt x (s .args .n)) place);
           },
     )
 
@@ -151,10 +177,12 @@ load-image-spec =
     front-words-requires
     load-modules-requires
     load-words-requires
-    load-rows-requires
     left-at-requires
     word-at-requires-2
     check-change-requires
+    bit-at-requires
+    views-good-requires
+    load-rows-requires
     limits-right-requires
     no-part-requires
     returns

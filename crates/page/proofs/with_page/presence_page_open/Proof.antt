@@ -1,5 +1,5 @@
 -- An opening as without a page; where it is accepted the page is written after it.
-use Rattle.page.proofs.OpenLaws.{open-no-page, open-refused, setup-room, setup-whole, in-fresh, open-paged}
+use Rattle.page.proofs.OpenLaws.{open-no-page, open-refused, setup-room, setup-whole, few, in-fresh, open-paged}
 use borrow.Author.Needs.{needs}
 use Rattle.page.proofs.with_page.presence_page_open.Statement.{statement}
 use Rattle.page.proofs.with_page.presence_page_open.Tie as tie
@@ -18,16 +18,15 @@ size-at-requires c κs = setup-room _ _ _ (c .before .before .before .before .pr
 fades-at-requires : tie.Need-fades-at-requires
 fades-at-requires c κs = setup-whole _ _ _ (c .before .before .before .before .before .before .presence-open2 .ensures) (c .before .before .if2 .left)
 
-view-in-requires : tie.Need-view-in-requires
-view-in-requires c κs =
+shown-in-requires : tie.Need-shown-in-requires
+shown-in-requires c κs =
     let f = c .front-words .ensures in
-    let s = in-fresh _ _ _ (c .before .before .before .before .before .before .before .before .presence-open2 .ensures) (c .before .before .before .before .if2 .left) (c .before .before .before .size-at .ensures) (c .before .fades-at .ensures) (f .0) in
-    (f .2, s .0, s .1)
+    in-fresh _ _ _ (c .before .before .before .before .before .before .before .before .presence-open2 .ensures) (c .before .before .before .before .if2 .left) (c .before .before .before .size-at .ensures) (c .before .fades-at .ensures) (f .0)
 
 open-page-requires : tie.Need-open-page-requires
 open-page-requires c κs =
     let f = c .before .before in (
-      in-fresh _ _ _ (c .before .before .before .before .before .before .before .before .before .before .presence-open2 .ensures) (c .before .before .before .before .before .before .if2 .left) (c .before .before .before .before .before .size-at .ensures) (f .before .fades-at .ensures) (f .front-words .ensures .0) .0,
+      few _ _ _ (c .before .before .before .before .before .before .before .before .before .before .presence-open2 .ensures) (c .before .before .before .before .before .before .if2 .left) (c .before .before .before .before .before .size-at .ensures) (f .before .fades-at .ensures) (f .front-words .ensures .0),
       c .before .before .before .before .before .before .before .before .before .before .before .before .if1 .left,
     )
 
@@ -35,7 +34,7 @@ returns-3 : tie.Need-returns-3
 returns-3 c =
     let f = c .before .before .before .before .before in
     open-paged _ _ _ (c .before .before .before .before .before .before .before .before .before .before .before .before .before .presence-open2 .ensures) (c .before .before .before .before .before .before .before .before .before .if2 .left) (c .before .before .before .before .before .before .before .before .size-at .ensures) (f .before .fades-at .ensures) (f .front-words .ensures .0) _ (c .before .before .before .before .before .before .before .before .before .before .before .before .before .before .before .if1 .left)
-    (c .before .before .before .before .view-in .ensures) (c .before .before .open-page .ensures)
+    (c .before .before .before .before .shown-in .ensures) (c .before .before .open-page .ensures)
 
 pub presence-page-open-spec : {M : Type 1} → statement M
 presence-page-open-spec =
@@ -52,7 +51,7 @@ presence-page-open-spec =
     size-at-requires
     fades-at-requires
     (λ c κs. search needs)
-    view-in-requires
+    shown-in-requires
     open-page-requires
     (λ c. search needs)
     (λ c. search needs)

@@ -27,10 +27,9 @@ found-view-requires : tie.Need-found-view-requires
 found-view-requires c κs =
     (checked _ _ _ _ (c .before .before .before .before .before .before .before .presence-step2 .ensures) (c .before .before .before .if2 .left), c .front-words .ensures .0 ∙ ap frontWords (c .before .fades-at .ensures), c .before .before .size-at .ensures)
 
-view-in-requires : tie.Need-view-in-requires
-view-in-requires c κs =
-    let s = in-output _ _ _ _ (c .before .before .before .before .before .before .before .before .before .presence-step2 .ensures) (c .before .before .before .before .before .if2 .left) (c .before .before .before .before .size-at .ensures) (c .before .before .before .fades-at .ensures) (c .before .before .front-words .ensures .0) in
-    (c .before .before .front-words .ensures .2, s .0, s .1)
+shown-in-requires : tie.Need-shown-in-requires
+shown-in-requires c κs =
+    in-output _ _ _ _ (c .before .before .before .before .before .before .before .before .before .presence-step2 .ensures) (c .before .before .before .before .before .if2 .left) (c .before .before .before .before .size-at .ensures) (c .before .before .before .fades-at .ensures) (c .before .before .front-words .ensures .0)
 
 causes-requires : tie.Need-causes-requires
 causes-requires c κs =
@@ -48,7 +47,7 @@ step-page-requires c κs =
 returns-3 : tie.Need-returns-3
 returns-3 c =
     step-paged _ _ _ _ (c .before .before .before .before .before .before .before .before .before .before .before .before .before .before .before .presence-step2 .ensures) (c .before .before .before .before .before .before .before .before .before .before .before .if2 .left) (c .before .before .before .before .before .before .before .before .before .before .size-at .ensures) (c .before .before .before .before .before .before .before .before .before .fades-at .ensures) (c .before .before .before .before .before .before .before .before .front-words .ensures .0) (c .before .before .before .before .before .before .before .found-view .ensures) _ (c .before .before .before .before .before .before .before .before .before .before .before .before .before .before .before .before .before .if1 .left)
-    (c .before .before .before .before .before .view-in .ensures) (c .before .before .before .before .causes .ensures) (c .before .before .step-page .ensures)
+    (c .before .before .before .before .before .shown-in .ensures) (c .before .before .before .before .causes .ensures) (c .before .before .step-page .ensures)
 
 pub presence-page-step-spec : {M : Type 1} → statement M
 presence-page-step-spec =
@@ -66,7 +65,7 @@ presence-page-step-spec =
     fades-at-requires
     (λ c κs. search needs)
     found-view-requires
-    view-in-requires
+    shown-in-requires
     causes-requires
     step-page-requires
     (λ c. search needs)

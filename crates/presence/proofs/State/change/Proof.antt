@@ -17,7 +17,7 @@ pending-of-requires c κs = search needs
 
 returns-2 : tie.Need-returns-2
 returns-2 c =
-    change-made _ _ _ (c .before .before .before .before .before .before .change-verdict .ensures) (c .before .before .before .before .if1 .left) (c .pending-of .ensures)
+    change-made _ _ _ (c .before .before .before .before .before .before .before .change-verdict .ensures) (c .before .before .before .before .before .if1 .left) (c .pending-of .ensures)
 
 pub change-spec : {M : Type 1} → statement M
 change-spec = tie.close (tie.spec change-verdict-requires returns pending-of-requires returns-2)

@@ -1,5 +1,5 @@
 -- An accepted image gives its state, and another the answer of the check.
-use Rattle.setup.specs.Setup.{fadesIn, frontIn}
+use Rattle.setup.specs.Setup.{partitionableIn, fadesIn, frontIn}
 use Rattle.words.specs.Word.{wordAt}
 use Prim.Native.Nat.{ℕ}
 use mathlib.Core.List.{List}
@@ -15,8 +15,8 @@ use Rattle.presence.proofs.State.load.Statement.{statement}
 use Rattle.presence.proofs.State.load.Tie as tie
 
 -- the length, by the form
-by-form : {b : Bool} {k : ℕ} (s : List ℕ) (n : ℕ) → b ≡ fadesIn (wordAt s) → k ≡ imageLength (frontIn (wordAt s)) n (wordAt s (leftAt (frontIn (wordAt s)) n))
-    → k ≡ imageLength (frontWords b) n (wordAt s (leftAt (frontWords b) n))
+by-form : {b : Bool} {k : ℕ} (s : List ℕ) (n : ℕ) → b ≡ fadesIn (wordAt s) → k ≡ imageLength (frontIn (wordAt s)) n (wordAt s (leftAt (frontIn (wordAt s)) n)) (partitionableIn (wordAt s 0))
+    → k ≡ imageLength (frontWords b) n (wordAt s (leftAt (frontWords b) n)) (partitionableIn (wordAt s 0))
 by-form s n e h = rw e h
 
 image-size-requires : tie.Need-image-size-requires

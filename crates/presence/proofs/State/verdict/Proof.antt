@@ -45,13 +45,13 @@ array-borrow-prefix-out : tie.Need-array-borrow-prefix-out
 array-borrow-prefix-out c =
     let e = c .image-length .ensures in
     let f = struct-fits _ (c .before .before .before .before .before .before .before .verdict .ensures) (c .before .before .before .before .before .if1 .left) in
-    omega (arith, e, length-most _ (c .before .before .before .before .before .before .before .before .before .before .args .self .setup .n) (c .before .before .before .before .before .before .before .before .before .before .args .self .pending .left) (c .before .front-words .ensures .2) (f .most))
+    omega (arith, e, length-most _ (c .before .before .before .before .before .before .before .before .before .before .args .self .setup .n) (c .before .before .before .before .before .before .before .before .before .before .args .self .pending .left) (c .before .before .before .before .before .before .before .before .before .before .args .self .setup .partitionable) (c .before .front-words .ensures .2) (f .most))
 
 slice-aggregate-image-verdict : tie.Need-slice-aggregate-image-verdict
 slice-aggregate-image-verdict c =
     let e = c .before .image-length .ensures in
     let f = struct-fits _ (c .before .before .before .before .before .before .before .before .verdict .ensures) (c .before .before .before .before .before .before .if1 .left) in
-    sym (length-take-le _ _ (omega (arith, e, length-most _ (c .before .before .before .before .before .before .before .before .before .before .before .args .self .setup .n) (c .before .before .before .before .before .before .before .before .before .before .before .args .self .pending .left) (c .before .before .front-words .ensures .2) (f .most))))
+    sym (length-take-le _ _ (omega (arith, e, length-most _ (c .before .before .before .before .before .before .before .before .before .before .before .args .self .setup .n) (c .before .before .before .before .before .before .before .before .before .before .before .args .self .pending .left) (c .before .before .before .before .before .before .before .before .before .before .before .args .self .setup .partitionable) (c .before .before .front-words .ensures .2) (f .most))))
 
 image-verdict-requires : tie.Need-image-verdict-requires
 image-verdict-requires c κs =
@@ -59,7 +59,7 @@ image-verdict-requires c κs =
     let f = struct-fits _ (c .before .before .before .before .before .before .before .before .verdict .ensures) (c .before .before .before .before .before .before .if1 .left) in (
       struct-verdict _ (c .before .before .before .before .before .before .before .before .verdict .ensures) (c .before .before .before .before .before .before .if1 .left),
       room-is _ (c .before .before .before .before .before .roomy .ensures) (c .before .before .before .before .if2 .left),
-      length-take-le _ _ (omega (arith, e, length-most _ (c .before .before .before .before .before .before .before .before .before .before .before .args .self .setup .n) (c .before .before .before .before .before .before .before .before .before .before .before .args .self .pending .left) (c .before .before .front-words .ensures .2) (f .most)))
+      length-take-le _ _ (omega (arith, e, length-most _ (c .before .before .before .before .before .before .before .before .before .before .before .args .self .setup .n) (c .before .before .before .before .before .before .before .before .before .before .before .args .self .pending .left) (c .before .before .before .before .before .before .before .before .before .before .before .args .self .setup .partitionable) (c .before .before .front-words .ensures .2) (f .most)))
           ∙ length-by (c .before .before .before .before .before .before .before .before .before .before .before .args .self) (c .before .before .before .fades .ensures) (c .before .before .front-words .ensures .0) e,
     )
 

@@ -1,47 +1,31 @@
--- The setup, then the sections.
-use Rattle.setup.proofs.SetupWords.{place-small}
-use Rattle.changes.proofs.PendingLaws.{pending-roomy}
-use Rattle.changes.specs.Words.{changeRuns}
-use Rattle.words.specs.Runs.{putRuns}
-use Rattle.presence.specs.Image.{stateLength}
+-- What stands before the views, then the views where there are any.
+use mathlib.Core.Path.{_≡_, ap, sym, _∙_, subst}
+use mathlib.Core.Bool.{Bool, true}
+use Prim.Native.Nat.{ℕ, _+_, _*_, _≤_}
 use native.Mathlib.Omega.{arith}
-use mathlib.Core.Path.{_≡_, ap, sym, _∙_, ap₂}
-use mathlib.Core.Bool.{Bool}
-use mathlib.Core.List.{_++_, List}
-use Prim.Native.Nat.{ℕ, _≤_}
-use lib.ListN.{length, drop, take, length-append, length-drop}
-use lib.Seq.{length-take-le}
-use Rattle.setup.specs.Layout.{frontWords, setupLength}
+use lib.ListN.{length}
+use Rattle.setup.specs.Layout.{frontWords}
 use Rattle.setup.specs.Limits.{fades}
-use Rattle.setup.specs.Setup.{frontOf}
-use Rattle.setup.specs.declared.Setup.{Setup}
-use Rattle.setup.proofs.SetupLaws.{verdict-fits, verdict-room, fits-room}
-use Rattle.image.specs.Layout.{imageLength, leftAt}
-use Rattle.image.proofs.SectionLaws.{accounts-written}
-use Rattle.presence.proofs.SmallLaws.{roomy-small}
-use Rattle.presence.proofs.SaveLaws.{accounts-lent, lent-state, image-written}
+use Rattle.setup.proofs.SetupLaws.{verdict-fits}
+use Rattle.changes.proofs.SectionTests.{new-most}
+use Rattle.views.specs.Section.{viewsCount}
+use Rattle.image.specs.Layout.{viewsAt}
+use Rattle.presence.specs.Image.{stateLength}
+use Rattle.presence.specs.declared.State.{State}
+use Rattle.presence.proofs.SaveLaws.{no-views-put, views-put, front-written}
 use borrow.Author.Needs.{needs}
 use Rattle.presence.proofs.save.save_words.Statement.{statement}
 use Rattle.presence.proofs.save.save_words.Tie as tie
-use Rattle.changes.proofs.section.save_change.Reads as save-change-reads
-use Rattle.image.proofs.left_at.Reads as left-at-reads
-use Rattle.image.proofs.first_of.Reads as first-of-reads
-use Rattle.image.proofs.second_of.Reads as second-of-reads
-use Rattle.image.proofs.save_accounts.Reads as save-accounts-reads
-use Rattle.image.proofs.save_sections.Reads as save-sections-reads
-use Rattle.setup.proofs.bounds.fades.Reads as fades-reads
-use Rattle.setup.proofs.bounds.front_words.Reads as front-words-reads
-use Rattle.setup.proofs.layout.setup_length.Reads as setup-length-reads
-use Rattle.setup.proofs.write.write_words.Reads as write-words-reads
 
--- the length of the setup, as it is found from the limits
-length-by : {b : Bool} {front k : ℕ} (s : Setup) → b ≡ fades (s .limits) → front ≡ frontWords b → k ≡ setupLength front (s .n)
-    → k ≡ setupLength (frontOf s) (s .n)
-length-by s f e k = k ∙ ap (λ (x : ℕ). setupLength x (s .n)) (e ∙ ap frontWords f)
+-- the views end where the image ends
+views-end : {at front k : ℕ} {b : Bool} (st : State) → at ≡ viewsAt front (st .setup .n) (st .pending .left) → front ≡ frontWords b → b ≡ fades (st .setup .limits)
+    → k ≡ stateLength st (st .pending .left) → st .setup .partitionable ≡ true → (at + st .setup .n + 4) * 4 ≤ k
+views-end st h e f l t =
+    let c : viewsCount (st .setup .partitionable) (st .setup .n) ≡ st .setup .n + 4 = ap (λ (b : Bool). viewsCount b (st .setup .n)) t in
+    omega (arith, h ∙ ap (λ (x : ℕ). viewsAt x (st .setup .n) (st .pending .left)) (e ∙ ap frontWords f), l, c)
 
--- what stands behind the setup's words stays
-whole : (x o : List ℕ) (k m : ℕ) → length x ≡ length (take k o) → k ≤ length o → length o ≡ m → length (x ++ drop k o) ≡ m
-whole x o k m e h l = length-append x (drop k o) ∙ omega (arith, e, length-take-le k o h, length-drop k o)
+save-front-requires : tie.Need-save-front-requires
+save-front-requires c κs = search needs
 
 fades-requires : tie.Need-fades-requires
 fades-requires c κs = search needs
@@ -49,111 +33,49 @@ fades-requires c κs = search needs
 front-words-requires : tie.Need-front-words-requires
 front-words-requires c κs = search needs
 
-setup-length-requires : tie.Need-setup-length-requires
-setup-length-requires c κs =
-    let m = verdict-fits _ (c .before .before .before .before .before .pre .0) .most in
-    (c .front-words .ensures .2, omega arith)
+views-at-requires : tie.Need-views-at-requires
+views-at-requires c κs =
+    (c .before .front-words .ensures .2, verdict-fits _ (c .before .before .before .before .before .before .before .before .before .before .before .before .before .pre .0) .most)
 
-left-at-requires : tie.Need-left-at-requires
-left-at-requires c κs =
-    (c .before .front-words .ensures .2, verdict-fits _ (c .before .before .before .before .before .before .pre .0) .most)
-
-first-of-requires : tie.Need-first-of-requires
-first-of-requires c κs =
-    verdict-fits _ (c .before .before .before .before .before .before .before .before .before .before .pre .0) .most
-
-second-of-requires : tie.Need-second-of-requires
-second-of-requires c κs =
-    verdict-fits _ (c .before .before .before .before .before .before .before .before .before .before .before .pre .0) .most
-
-slice-relend-prefix-write-words : tie.Need-slice-relend-prefix-write-words
-slice-relend-prefix-write-words c =
-    let k = length-by (c .before .before .before .before .before .before .before .before .before .before .before .before .before .args .state .setup) (c .before .before .before .before .before .before .before .before .before .fades .ensures) (c .before .before .before .before .before .before .before .before .front-words .ensures .0) (c .before .before .before .before .before .before .before .setup-length .ensures) in
-    omega (arith, c .before .before .before .before .before .before .before .before .before .before .before .before .before .pre .2)
-
-slice-aggregate-write-words : tie.Need-slice-aggregate-write-words
-slice-aggregate-write-words c =
-    let k = length-by (c .before .before .before .before .before .before .before .before .before .before .before .before .before .before .args .state .setup) (c .before .before .before .before .before .before .before .before .before .before .fades .ensures) (c .before .before .before .before .before .before .before .before .before .front-words .ensures .0) (c .before .before .before .before .before .before .before .before .setup-length .ensures) in
-    sym (length-take-le _ _ (omega (arith, c .before .before .before .before .before .before .before .before .before .before .before .before .before .before .pre .2)))
-
-write-words-requires : tie.Need-write-words-requires
-write-words-requires c κs =
-    let k = length-by (c .before .before .before .before .before .before .before .before .before .before .before .before .before .before .args .state .setup) (c .before .before .before .before .before .before .before .before .before .before .fades .ensures) (c .before .before .before .before .before .before .before .before .before .front-words .ensures .0) (c .before .before .before .before .before .before .before .before .setup-length .ensures) in
-    let a = c .before .before .before .before .before .before .before .before .before .before .before .before .before .before .pre in
-    (verdict-room _ (a .0), length-take-le _ _ (omega (arith, a .2)) ∙ k)
-
-save-sections-requires : tie.Need-save-sections-requires
-save-sections-requires c κs =
-    let k = length-by (c .before .before .before .before .before .before .before .before .before .before .before .before .before .before .before .before .before .before .before .args .state .setup) (c .before .before .before .before .before .before .before .before .before .before .before .before .before .before .before .fades .ensures) (c .before .before .before .before .before .before .before .before .before .before .before .before .before .before .front-words .ensures .0) (c .before .before .before .before .before .before .before .before .before .before .before .before .before .setup-length .ensures) in
-    let a = c .before .before .before .before .before .before .before .before .before .before .before .before .before .before .before .before .before .before .before in
-    let f = c .before .before .before .before .before .before .before .before .before .before .before .before .before .before .before .fades .ensures in
+save-views-requires : tie.Need-save-views-requires
+save-views-requires c κs =
+    let a = c .before .before .before .before .before .before .before .before .before .before .before .before .before .before in
+    let f = c .before .before .front-words .ensures in
     let l = verdict-fits _ (a .pre .0) .most in
-    let m = roomy-small _ l (a .pre .1) in
-    let at = ap frontWords f in
-    ((l, omega (arith, a .pre .2), m .own, m .view, m .latest, m .earlier), m .rows .row)
-
-save-accounts-requires : tie.Need-save-accounts-requires
-save-accounts-requires c κs =
-    let k = length-by (c .before .before .before .before .before .before .before .before .before .before .before .before .before .before .before .before .before .before .before .before .before .before .before .before .before .before .args .state .setup) (c .before .before .before .before .before .before .before .before .before .before .before .before .before .before .before .before .before .before .before .before .before .before .fades .ensures) (c .before .before .before .before .before .before .before .before .before .before .before .before .before .before .before .before .before .before .before .before .before .front-words .ensures .0) (c .before .before .before .before .before .before .before .before .before .before .before .before .before .before .before .before .before .before .before .before .setup-length .ensures) in
-    let a = c .before .before .before .before .before .before .before .before .before .before .before .before .before .before .before .before .before .before .before .before .before .before .before .before .before .before in
-    let f = c .before .before .before .before .before .before .before .before .before .before .before .before .before .before .before .before .before .before .before .before .before .before .fades .ensures in
-    let l = verdict-fits _ (a .pre .0) .most in
-    let m = roomy-small _ l (a .pre .1) in
-    let at = ap frontWords f in
-    let written : length (c .before .before .before .before .before .before .before .before .before .before .before .write-words .last .1 .0 ++ drop (c .before .before .before .before .before .before .before .before .before .before .before .before .before .before .before .before .before .before .before .before .setup-length .result) (a .args .out .now)) ≡ stateLength (a .args .state) (a .args .state .pending .left) =
-    whole (c .before .before .before .before .before .before .before .before .before .before .before .write-words .last .1 .0) (a .args .out .now) (c .before .before .before .before .before .before .before .before .before .before .before .before .before .before .before .before .before .before .before .before .setup-length .result) _ (c .before .before .before .before .before .before .before .before .before .before .before .write-words .kept .1 .0) (omega (arith, k, a .pre .2)) (a .pre .2)
-    in
-    let kept = c .before .before .before .before .before .before .save-sections .kept .1 .1 .1 .1 .1 .1 .1 .1 .0 ∙ written in
-    (l, omega (arith, kept), accounts-lent (a .args .state) f (c .before .before .before .before .before .before .before .before .before .before .before .before .before .before .before .first-of .ensures) (c .before .before .before .before .before .before .before .before .before .before .before .before .before .before .second-of .ensures) l (m .counters))
-
-save-change-requires : tie.Need-save-change-requires
-save-change-requires c κs =
-    let k = length-by (c .before .before .before .before .before .before .before .before .before .before .before .before .before .before .before .before .before .before .before .before .before .before .before .before .before .before .before .before .before .before .args .state .setup) (c .before .before .before .before .before .before .before .before .before .before .before .before .before .before .before .before .before .before .before .before .before .before .before .before .before .before .fades .ensures) (c .before .before .before .before .before .before .before .before .before .before .before .before .before .before .before .before .before .before .before .before .before .before .before .before .before .front-words .ensures .0) (c .before .before .before .before .before .before .before .before .before .before .before .before .before .before .before .before .before .before .before .before .before .before .before .before .setup-length .ensures) in
-    let a = c .before .before .before .before .before .before .before .before .before .before .before .before .before .before .before .before .before .before .before .before .before .before .before .before .before .before .before .before .before .before in
-    let l = verdict-fits _ (a .pre .0) in
-    let m = roomy-small _ (l .most) (a .pre .1) in
-    let at = ap frontWords (c .before .before .before .before .before .before .before .before .before .before .before .before .before .before .before .before .before .before .before .before .before .before .before .before .before .before .fades .ensures) in
-    let written : length (c .before .before .before .before .before .before .before .before .before .before .before .before .before .before .before .write-words .last .1 .0 ++ drop (c .before .before .before .before .before .before .before .before .before .before .before .before .before .before .before .before .before .before .before .before .before .before .before .before .setup-length .result) (a .args .out .now)) ≡ stateLength (a .args .state) (a .args .state .pending .left) =
-    whole (c .before .before .before .before .before .before .before .before .before .before .before .before .before .before .before .write-words .last .1 .0) (a .args .out .now) (c .before .before .before .before .before .before .before .before .before .before .before .before .before .before .before .before .before .before .before .before .before .before .before .before .setup-length .result) _ (c .before .before .before .before .before .before .before .before .before .before .before .before .before .before .before .write-words .kept .1 .0) (omega (arith, k, a .pre .2)) (a .pre .2)
-    in
-    let kept = c .before .before .before .save-accounts .kept .1 .1 .1 .1 .1 .0 ∙ c .before .before .before .before .before .before .before .before .before .before .save-sections .kept .1 .1 .1 .1 .1 .1 .1 .1 .0 ∙ written in
-    let place = c .before .before .before .before .before .before .before .before .before .before .before .before .before .before .before .before .before .before .before .before .before .before .before .left-at .ensures in
-    let front = c .before .before .before .before .before .before .before .before .before .before .before .before .before .before .before .before .before .before .before .before .before .before .before .before .before .front-words .ensures .0 in
-    ((l .most, pending-roomy (a .args .state .setup .n) (a .args .state .pending) (m .pending), omega (arith, place, l .most, c .before .before .before .before .before .before .before .before .before .before .before .before .before .before .before .before .before .before .before .before .before .before .before .before .before .front-words .ensures .2), omega (arith, kept, place, front)), place-small (a .args .state .setup) (fits-room (a .args .state .setup) l))
+    let h = c .views-at .ensures in
+    let kept = c .before .before .before .before .before .before .before .before .before .before .before .save-front .kept .1 .0 ∙ a .pre .2 in
+    (l, omega (arith, h, f .2, l, new-most (a .args .state .setup .n) (a .args .state .pending .left)), views-end (a .args .state) h (f .0) (c .before .before .before .fades .ensures) kept (c .before .before .before .before .before .before .before .if1 .taken))
 
 same-length : tie.Need-same-length
 same-length c = search needs
 
 returns : tie.Need-returns
 returns c =
-    let k = length-by (c .before .before .before .before .before .before .before .before .before .before .before .before .before .before .before .before .before .before .before .before .before .before .before .before .before .before .before .before .before .before .before .before .before .args .state .setup) (c .before .before .before .before .before .before .before .before .before .before .before .before .before .before .before .before .before .before .before .before .before .before .before .before .before .before .before .before .before .fades .ensures) (c .before .before .before .before .before .before .before .before .before .before .before .before .before .before .before .before .before .before .before .before .before .before .before .before .before .before .before .before .front-words .ensures .0) (c .before .before .before .before .before .before .before .before .before .before .before .before .before .before .before .before .before .before .before .before .before .before .before .before .before .before .before .setup-length .ensures) in
-    let a = c .before .before .before .before .before .before .before .before .before .before .before .before .before .before .before .before .before .before .before .before .before .before .before .before .before .before .before .before .before .before .before .before .before in
+    let a = c .before .before .before .before .before .before .before .before .before .before .before .before .before .before .before .before .before in
     let st = a .args .state in
-    let f = c .before .before .before .before .before .before .before .before .before .before .before .before .before .before .before .before .before .before .before .before .before .before .before .before .before .before .before .before .before .fades .ensures in
-    let l = verdict-fits _ (a .pre .0) .most in
-    let written = accounts-written (c .before .before .before .before .before .before .before .before .before .before .before .before .before .before .before .before .before .before .before .before .before .before .before .before .before .before .before .before .before .fades .result) (st .setup .n) (st .own) (st .counters .view) (st .previous) (st .latest) (st .earlier)
-    (c .before .before .before .before .before .before .before .before .before .before .before .before .before .before .before .before .before .before .before .before .before .before .first-of .result) (c .before .before .before .before .before .before .before .before .before .before .before .before .before .before .before .before .before .before .before .before .before .second-of .result) (st .counters .returns) _ (c .before .before .before .before .before .before .before .before .before .before .before .before .before .save-sections .ensures) (c .before .before .before .before .before .before .save-accounts .ensures)
-    in
-    let place = c .before .before .before .before .before .before .before .before .before .before .before .before .before .before .before .before .before .before .before .before .before .before .before .before .before .before .left-at .ensures ∙ ap (λ (x : ℕ). leftAt x (st .setup .n)) (c .before .before .before .before .before .before .before .before .before .before .before .before .before .before .before .before .before .before .before .before .before .before .before .before .before .before .before .before .front-words .ensures .0) in
-    let changed = c .before .before .save-change .ensures ∙ ap₂ (λ (x : List ℕ) (i : ℕ). putRuns x i (changeRuns (st .setup) (st .pending))) written place in
-    image-written _ (a .args .out .now) _ k (c .before .before .before .before .before .before .before .before .before .before .before .before .before .before .before .before .before .before .write-words .ensures)
-    (changed ∙ lent-state st f (c .before .before .before .before .before .before .before .before .before .before .before .before .before .before .before .before .before .before .before .before .before .before .first-of .ensures) (c .before .before .before .before .before .before .before .before .before .before .before .before .before .before .before .before .before .before .before .before .before .second-of .ensures) l _) (a .pre .2)
+    front-written st (a .args .out .now) (c .before .before .before .before .before .before .before .before .before .before .before .before .before .before .save-front .ensures)
+    (c .before .before .save-views .ensures ∙ views-put _ st (c .before .before .before .before .before .before .before .before .before .before .if1 .taken) (c .before .before .before .before .before .before .fades .ensures) (c .before .before .before .before .before .front-words .ensures .0) (c .before .before .before .views-at .ensures))
+    (a .pre .2)
+
+same-length-2 : tie.Need-same-length-2
+same-length-2 c = search needs
+
+returns-2 : tie.Need-returns-2
+returns-2 c =
+    let a = c .before .before .before .before .before .before .before in
+    let st = a .args .state in
+    front-written st (a .args .out .now) (c .before .before .before .before .save-front .ensures) (no-views-put _ _ st (c .if1 .left)) (a .pre .2)
 
 pub save-words-spec : {M : Type 1} → statement M
 save-words-spec =
     tie.close
     (tie.spec
+    save-front-requires
     fades-requires
     front-words-requires
-    setup-length-requires
-    left-at-requires
-    first-of-requires
-    second-of-requires
-    slice-relend-prefix-write-words
-    slice-aggregate-write-words
-    write-words-requires
-    save-sections-requires
-    save-accounts-requires
-    save-change-requires
+    views-at-requires
+    save-views-requires
     same-length
-    returns)
+    returns
+    same-length-2
+    returns-2)

@@ -22,7 +22,8 @@ check-tail-requires : tie.Need-check-tail-requires
 check-tail-requires c κs =
     let a = c .before .before .before .before .before .before .before .before in
     let f = c .fades .ensures in
-    (verdict-fits _ (a .pre .0) .most, length-left (a .args .state) f (c .before .before .before .before .save-words .ensures))
+    let s = verdict-fits _ (a .pre .0) in
+    (s .most, length-left (a .args .state) s f (c .before .before .before .before .save-words .ensures))
 
 same-length : tie.Need-same-length
 same-length c = search needs

@@ -5,14 +5,14 @@ use borrow.Author.Needs.{needs}
 use Rattle.scanlock.proofs.Locks.after_step.Statement.{statement}
 use Rattle.scanlock.proofs.Locks.after_step.Tie as tie
 
-view-requires : tie.Need-view-requires
-view-requires c κs = search needs
+shown-requires : tie.Need-shown-requires
+shown-requires c κs = search needs
 
 set-view-requires : tie.Need-set-view-requires
 set-view-requires c κs = search needs
 
 returns : tie.Need-returns
-returns c = c .set-view .ensures ∙ ap (setViewOf (c .before .before .args .self)) (c .before .view .ensures)
+returns c = c .set-view .ensures ∙ ap (setViewOf (c .before .before .args .self)) (c .before .shown .ensures)
 
 pub after-step-spec : {M : Type 1} → statement M
-after-step-spec = tie.close (tie.spec view-requires set-view-requires returns)
+after-step-spec = tie.close (tie.spec shown-requires set-view-requires returns)

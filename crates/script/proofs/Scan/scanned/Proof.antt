@@ -1,26 +1,23 @@
--- Each branch is the case of the definition that its test names.
-use mathlib.Core.Path.{sym, _∙_}
-use borrow.Author.Tests.{eq-eqb, ne-eqb}
-use Rattle.words.proofs.Truth.{cond-true, cond-false}
-use Rattle.script.specs.Check.{scanned}
+-- Each field is that of the definition.
+use Rattle.script.proofs.ScanLaws.{scanned-by}
 use borrow.Author.Needs.{needs}
 use Rattle.script.proofs.Scan.scanned.Statement.{statement}
 use Rattle.script.proofs.Scan.scanned.Tie as tie
 
+is-play-requires : tie.Need-is-play-requires
+is-play-requires c κs = search needs
+
+due-after-requires : tie.Need-due-after-requires
+due-after-requires c κs = search needs
+
+add-pick : tie.Need-add-pick
+add-pick c = search needs
+
+pick-requires : tie.Need-pick-requires
+pick-requires c κs = search needs
+
 returns : tie.Need-returns
-unfolding scanned
-returns c = sym (cond-true _ _ (c .if1 .taken))
-
-add-more : tie.Need-add-more
-add-more c = search needs
-
-returns-2 : tie.Need-returns-2
-unfolding scanned
-returns-2 c = sym (cond-false _ _ (c .before .if1 .left) ∙ cond-true _ _ (eq-eqb _ 9 (c .if2 .taken)))
-
-returns-3 : tie.Need-returns-3
-unfolding scanned
-returns-3 c = sym (cond-false _ _ (c .before .if1 .left) ∙ cond-false _ _ (ne-eqb _ 9 (c .if2 .left)))
+returns c = scanned-by _ _ _ (c .before .before .before .is-play .ensures) (c .before .before .due-after .ensures) (c .pick .ensures)
 
 pub scanned-spec : {M : Type 1} → statement M
-scanned-spec = tie.close (tie.spec returns add-more returns-2 returns-3)
+scanned-spec = tie.close (tie.spec is-play-requires due-after-requires add-pick pick-requires returns)

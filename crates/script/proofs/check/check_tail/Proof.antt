@@ -10,11 +10,14 @@ use Rattle.script.proofs.check.check_tail.Statement.{statement}
 use Rattle.script.proofs.check.check_tail.Tie as tie
 
 abbrev Inv-loop : tie.InvT-loop
-Inv-loop s n cast from count at₀ so-far₀ at so-far =
+Inv-loop s n cast from count partitionable at₀ so-far₀ at so-far =
     (at ≤ count) × (so-far .rounds ≤ mostRounds) × (scan s n cast (count - at) at so-far ≡ scan s n cast (count - from) from unscanned)
 
 abbrev μ-loop : tie.MeasureT-loop
-μ-loop s n cast from count at₀ so-far₀ at so-far = count - at
+μ-loop s n cast from count partitionable at₀ so-far₀ at so-far = count - at
+
+partitionable-at-requires : tie.Need-partitionable-at-requires Inv-loop μ-loop
+partitionable-at-requires c κs = search needs
 
 loop-holds : tie.Need-loop-holds Inv-loop μ-loop
 loop-holds c = (omega arith, omega arith, refl)
@@ -48,8 +51,11 @@ loop-again c =
     let g = c .before .before .before in
     let l = g .before .before .loop in (
       omega arith,
-      rounds-next _ _ _ _ _ _ (g .before .if1 .left) (g .word-at .ensures) (c .before .before .word-refusal .ensures) (c .before .if2 .left) (c .scanned .ensures) (l .inv .1),
-      scan-next _ _ _ _ _ _ (g .before .if1 .left) (g .word-at .ensures) (c .before .before .word-refusal .ensures) (c .before .if2 .left) (c .scanned .ensures) ∙ l .inv .2,
+      rounds-next _ _ _ _ _ _ (g .before .if1 .left) (g .word-at .ensures) (c .before .before .word-refusal .ensures) _ (c .before .if2 .left)
+          (c .scanned .ensures) (l .inv .1),
+      scan-next _ _ _ _ _ _ (g .before .if1 .left) (g .word-at .ensures) (c .before .before .word-refusal .ensures) (c .before .if2 .left)
+          (g .before .before .before .partitionable-at .ensures) (c .scanned .ensures)
+          ∙ l .inv .2,
     )
 
 returns : tie.Need-returns Inv-loop μ-loop
@@ -67,6 +73,7 @@ check-tail-spec =
     (tie.spec
     Inv-loop
     μ-loop
+    partitionable-at-requires
     loop-holds
     check-end-requires
     word-at-requires

@@ -10,10 +10,10 @@ use Rattle.script.proofs.play.next_play.Statement.{statement}
 use Rattle.script.proofs.play.next_play.Tie as tie
 
 abbrev Inv-loop : tie.InvT-loop
-Inv-loop s from count at₀ lie₀ events₀ at lie events = gather s (count - at) at lie events ≡ gather s (count - from) from 0 none
+Inv-loop s from count at₀ due₀ events₀ at due events = gather s (count - at) at due events ≡ gather s (count - from) from 0 none
 
 abbrev μ-loop : tie.MeasureT-loop
-μ-loop s from count at₀ lie₀ events₀ at lie events = count - at
+μ-loop s from count at₀ due₀ events₀ at due events = count - at
 
 none-requires : tie.Need-none-requires Inv-loop μ-loop
 none-requires c κs = search needs
@@ -27,8 +27,8 @@ none-requires-2 c κs = search needs
 word-at-requires : tie.Need-word-at-requires Inv-loop μ-loop
 word-at-requires c κs = omega arith
 
-add-at : tie.Need-add-at Inv-loop μ-loop
-add-at c = omega arith
+add-next : tie.Need-add-next Inv-loop μ-loop
+add-next c = omega arith
 
 is-play-requires : tie.Need-is-play-requires Inv-loop μ-loop
 is-play-requires c κs = search needs
@@ -37,19 +37,22 @@ less-one-requires : tie.Need-less-one-requires Inv-loop μ-loop
 less-one-requires c κs = search needs
 
 events-after-requires : tie.Need-events-after-requires Inv-loop μ-loop
-events-after-requires c κs = search needs
+events-after-requires c κs = omega arith
 
-lie-after-requires : tie.Need-lie-after-requires Inv-loop μ-loop
-lie-after-requires c κs = search needs
+partitionable-at-requires : tie.Need-partitionable-at-requires Inv-loop μ-loop
+partitionable-at-requires c κs = omega arith
+
+due-after-requires : tie.Need-due-after-requires Inv-loop μ-loop
+due-after-requires c κs = search needs
 
 loop-less : tie.Need-loop-less Inv-loop μ-loop
 loop-less c = omega arith
 
 loop-again : tie.Need-loop-again Inv-loop μ-loop
 loop-again c =
-    let g = c .before .before .before .before in
-    gather-next _ _ _ _ _ (g .before .if1 .left) (g .word-at .ensures) (c .before .before .before .is-play .ensures) (c .before .before .if2 .left)
-    (c .lie-after .ensures) (c .before .events-after .ensures)
+    let g = c .before .before .before .before .before in
+    gather-next _ _ _ _ _ (g .before .if1 .left) (g .word-at .ensures) (c .before .before .before .before .is-play .ensures)
+    (c .before .before .before .if2 .left) (c .before .partitionable-at .ensures) (c .due-after .ensures) (c .before .before .events-after .ensures)
     ∙ g .before .before .loop .inv
 
 returns : tie.Need-returns Inv-loop μ-loop
@@ -71,11 +74,12 @@ next-play-spec =
     loop-holds
     none-requires-2
     word-at-requires
-    add-at
+    add-next
     is-play-requires
     less-one-requires
     events-after-requires
-    lie-after-requires
+    partitionable-at-requires
+    due-after-requires
     loop-less
     loop-again
     returns

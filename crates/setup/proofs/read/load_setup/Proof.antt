@@ -92,8 +92,12 @@ loop-again c =
 field-requires-2 : tie.Need-field-requires-2 Inv-loop μ-loop
 field-requires-2 c κs = omega arith
 
+bit-at-requires-2 : tie.Need-bit-at-requires-2 Inv-loop μ-loop
+bit-at-requires-2 c κs = omega arith
+
 returns : tie.Need-returns Inv-loop μ-loop
-returns c =
+returns d =
+    let c = d .before in
     let l = c .before .before .loop in
     let i = l .inv in
     let t = c .before .before .before in
@@ -101,7 +105,7 @@ returns c =
     let a = f .before .before .before in
     let e : l .j ≡ a .args .n = omega arith in (
       words-good _ (a .pre .3) (f .front-words .ensures .0) _ (t .before .limits-right .ensures) (all-end _ e (i .1)),
-      setup-by _ (a .pre .3) (f .front-words .ensures .0) e (a .pre .2) (f .before .word-at .ensures) (c .field2 .ensures) (t .limits-at .ensures) (i .2),
+      setup-by _ (a .pre .3) (f .front-words .ensures .0) e (a .pre .2) (f .before .word-at .ensures) (c .field2 .ensures) (d .bit-at2 .ensures) (t .limits-at .ensures) (i .2),
     )
 
 pub load-setup-spec : {M : Type 1} → statement M
@@ -130,4 +134,5 @@ load-setup-spec =
     loop-less
     loop-again
     field-requires-2
+    bit-at-requires-2
     returns)

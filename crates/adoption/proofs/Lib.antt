@@ -1,0 +1,4 @@
+pub mod Adoption
+pub mod AdoptedViews
+pub mod SyndromesAlone
+pub mod Cases

@@ -1,0 +1,5 @@
+pub mod Adopts
+pub mod Adoption
+pub mod AdoptedViews
+pub mod SyndromesAlone
+pub mod Cases
