@@ -1,0 +1,3 @@
+pub mod Marks
+pub mod Retired
+pub mod AsItWas
