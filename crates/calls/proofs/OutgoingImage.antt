@@ -15,7 +15,6 @@ use Rattle.rules.proofs.Causes.{zero-heard}
 use Rattle.setup.specs.Setup.{partitionableIn, setupOf}
 use Rattle.views.specs.ViewWord.{viewWord, viewWordHeard}
 use Rattle.image.specs.Check.{checkImage}
-use Rattle.presence.specs.Step.{markOf}
 use Rattle.presence.specs.Image.{stateOf}
 use Rattle.presence.specs.declared.State.{State}
 use Rattle.presence.proofs.ValidLaws.{StateFits, valid-fits}

@@ -16,8 +16,8 @@ use Rattle.words.proofs.Truth.{and-r, and-true}
 use Rattle.words.proofs.BitLaws.{pack-ext}
 use Rattle.words.proofs.RunLaws.{Follows, runs-length, runs-follow}
 use Rattle.setup.specs.Layout.{frontWords, setupWords}
-use Rattle.setup.specs.Setup.{sizeIn, returnLimitIn, partitionableIn, markIn, placeIn, criticalityIn, fadesIn, frontIn, limitsIn, setupOf}
-use Rattle.setup.specs.Check.{headOk, limitTests, moduleFits, moduleOk, markOk}
+use Rattle.setup.specs.Setup.{sizeIn, returnLimitIn, partitionableIn, placeIn, criticalityIn, fadesIn, frontIn, limitsIn, setupOf}
+use Rattle.setup.specs.Check.{headOk, limitTests, moduleFits, moduleOk}
 use Rattle.setup.specs.declared.Limits.{Limits}
 use Rattle.setup.specs.declared.Setup.{Setup}
 use Rattle.setup.proofs.BoundLaws.{front-least, limits-same, right-same, fades-same}
@@ -196,7 +196,7 @@ module _ (s : List ℕ) (ok : checkScript s .number ≡ 0) (π : Renumbering (si
 
   -- where every read place is N no module has a send mark that could be wrong under another number
   pub words′ : ((j : ℕ) → j < n → placeIn (wordAt s (start + j)) ≡ n) → WordsFit s′ n
-  unfolding moduleOk markOk
+  unfolding moduleOk
   words′ straight =
       let f = fits .front .words in
       record {

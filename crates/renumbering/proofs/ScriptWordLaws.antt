@@ -13,7 +13,7 @@ use Rattle.words.specs.Verdict.{between}
 use Rattle.words.proofs.Truth.{and-l, and-r, and-true}
 use Rattle.words.proofs.BitLaws.{bit-high, bit-ext}
 use Rattle.words.proofs.VerdictLaws.{between-of}
-use Rattle.setup.specs.Setup.{markIn, placeIn, criticalityIn}
+use Rattle.setup.specs.Setup.{placeIn, criticalityIn}
 use Rattle.setup.proofs.WordFields.{number-back, mark-back, place-back, criticality-back}
 use Rattle.rules.proofs.ReceptionLaws.{below-kind}
 use Rattle.script.specs.Words.{kindOf, castIn, castOk, senderIn, receiversIn, eventOk}

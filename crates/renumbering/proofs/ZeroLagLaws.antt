@@ -11,7 +11,6 @@ use borrow.Author.Tests.{eqb-true, eq-eqb, lt-leb, not-false}
 use Rattle.words.specs.Bits.{b2n}
 use Rattle.words.proofs.Truth.{which, clash, and-false-r}
 use Rattle.words.proofs.CountLaws.{any-none, any-empty}
-use Rattle.setup.specs.Check.{markFits}
 use Rattle.rules.specs.Lag.{skewed}
 
 pub skew-none : (n : ℕ) (places : List ℕ) → b2n (skewed n places) ≡ 0 → skewed n places ≡ false
@@ -27,10 +26,10 @@ unfolding skewed
 full-places n places e = any-empty n _ (λ j h. ap not (eq-eqb _ _ (e j h)))
 
 pub mark-none : (j n : ℕ) (mark : Bool) (place : ℕ) → j < n → place ≡ n → markFits j mark place ≡ true → mark ≡ false
-unfolding markFits
+unfolding
 mark-none j n false place h e t = refl
 mark-none j n true place h e t = clash (ltb 0 j && leb place j) t (and-false-r (ltb 0 j) _ (lt-leb place j (omega arith)))
 
 pub mark-ok : (j : ℕ) (mark : Bool) (place : ℕ) → mark ≡ false → markFits j mark place ≡ true
-unfolding markFits
+unfolding
 mark-ok j mark place e = rw e

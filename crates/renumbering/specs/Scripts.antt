@@ -5,7 +5,7 @@ use mathlib.Core.List.{List, [], _∷_}
 use lib.ListN.{length}
 use Rattle.words.specs.Word.{wordAt, kindUnit, numberUnit}
 use Rattle.words.specs.Runs.{Run, one, runsOf}
-use Rattle.setup.specs.Setup.{moduleWord, markIn, placeIn, criticalityIn, frontIn}
+use Rattle.setup.specs.Setup.{moduleWord, placeIn, criticalityIn, frontIn}
 use Rattle.script.specs.Words.{castAt, eventsAt, kindOf, castIn, senderIn, receiversIn}
 use Rattle.script.specs.Effect.{toldAt, playAt}
 use Rattle.renumbering.specs.Renumbering.{Renumbering, vectorFor, wordFor}

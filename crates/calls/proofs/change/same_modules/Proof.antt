@@ -6,6 +6,7 @@ use lib.Dec.{eqb}
 use Rattle.words.specs.Word.{wordAt}
 use Rattle.words.specs.Count.{all}
 use Rattle.words.proofs.CountLaws.{all-step, all-end}
+use Rattle.setup.specs.SendMark.{unmarked}
 use Rattle.setup.specs.Setup.{placeUnit}
 use Rattle.calls.proofs.change.same_modules.Statement.{statement}
 use Rattle.calls.proofs.change.same_modules.Tie as tie
@@ -13,7 +14,7 @@ use Rattle.words.proofs.word.word_at.Reads as word-at-reads
 
 abbrev Inv-loop : tie.InvT-loop
 Inv-loop image bytes n same₀ j₀ same j =
-    (j ≤ n) × (same ≡ all j (λ k. eqb (wordAt image (3 + k) / placeUnit) (wordAt bytes (3 + k) / placeUnit)))
+    (j ≤ n) × (same ≡ all j (λ k. eqb (unmarked (wordAt image (3 + k)) / placeUnit) (unmarked (wordAt bytes (3 + k)) / placeUnit)))
 
 abbrev μ-loop : tie.MeasureT-loop
 μ-loop image bytes n same₀ j₀ same j = n - j
