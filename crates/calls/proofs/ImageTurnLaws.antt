@@ -132,7 +132,7 @@ unfolding setupBytes runsOf limitList
 renewed-bytes s c =
     let e : s .n + 2 ≡ 2 + s .n = omega arith in
     let limits : bytesOf 2 (λ i. getD (limitList (Counts (c .p) (c .r))) i 0) ≡ bytesOf 2 (newWord s c) = bytes-ext 2 _ _ two in
-    let later : bytesOf (s .n) (λ j. moduleWord j (bit (s .marks) j) (getD (s .places) j 0) (getD (c .criticality) j 0)) ≡ bytesOf (s .n) (λ j. newWord s c (2 + j)) =
+    let later : bytesOf (s .n) (λ j. moduleWord j (getD (s .places) j 0) (getD (c .criticality) j 0)) ≡ bytesOf (s .n) (λ j. newWord s c (2 + j)) =
     bytes-ext (s .n) _ _ (λ j h. after j)
     in
     ap (λ (x : List ℕ). bytesOf 1 (λ _. headWord (s .q) (s .partitionable) (s .n)) ++ x)
@@ -143,11 +143,11 @@ renewed-bytes s c =
     two (suc zero) h = second-word s c 1 refl
     two (suc (suc i)) h = absurd (omega arith)
 
-    after : (j : ℕ) → moduleWord j (bit (s .marks) j) (getD (s .places) j 0) (getD (c .criticality) j 0) ≡ newWord s c (2 + j)
+    after : (j : ℕ) → moduleWord j (getD (s .places) j 0) (getD (c .criticality) j 0) ≡ newWord s c (2 + j)
     after j =
         let e : j ≡ 2 + j - 2 = omega arith in
-        later-word s c (2 + j) (λ z. omega arith) (λ z. omega arith) refl
-        (ap (λ (i : ℕ). moduleWord i (bit (s .marks) i) (getD (s .places) i 0) (getD (c .criticality) i 0)) e)
+        later-word s c (2 + j) (λ z. omega arith) (λ z. omega arith)
+        (ap (λ (i : ℕ). moduleWord i (getD (s .places) i 0) (getD (c .criticality) i 0)) e)
 
 -- the new words are the same, however many rounds are left
 same-words : (s : Setup) (c : Pending) (left i : ℕ) → newWord s c i ≡ newWord s (record { left = left; p = c .p; r = c .r; criticality = c .criticality }) i

@@ -441,7 +441,7 @@ module _ (ns : List ℕ) where
     head : (fits : Bool) → allAmong ns (headTests s fits) ≡ true
     counts : allAmong ns (limitTests false (wordAt s)) ≡ true
     fading : allAmong ns (limitTests true (wordAt s)) ≡ true
-    modules : (front n : ℕ) → allAmong ns (moduleTests (wordAt s) front n 5 ∷ moduleTests (wordAt s) front n 6 ∷ []) ≡ true
+    modules : (front n : ℕ) → allAmong ns (moduleTests (wordAt s) front n ∷ []) ≡ true
 
   limit-numbers : (s : List ℕ) → Numbers s → (b : Bool) → allAmong ns (limitTests b (wordAt s)) ≡ true
   limit-numbers s h true = h .fading
@@ -450,7 +450,7 @@ module _ (ns : List ℕ) where
   word-numbers : (s : List ℕ) → Numbers s → (n : ℕ) → allAmong ns (wordTests s n) ≡ true
   word-numbers s h n =
       let b = fadesIn (wordAt s) in
-      among-join (limitTests b (wordAt s)) (moduleTests (wordAt s) (frontWords b) n 5 ∷ moduleTests (wordAt s) (frontWords b) n 6 ∷ []) (limit-numbers s h b) (h .modules (frontWords b) n)
+      among-join (limitTests b (wordAt s)) (moduleTests (wordAt s) (frontWords b) n ∷ []) (limit-numbers s h b) (h .modules (frontWords b) n)
 
   among-setup : (s : List ℕ) → Numbers s → Among (checkSetup s .number)
   unfolding checkSetup checkHead checkWords

@@ -29,6 +29,10 @@ no-modules n left z = cond-true _ _ (eq-eqb left 0 z)
 some-words : (n left : ℕ) → 0 < left → newCount n left ≡ n + 2
 some-words n left pos = cond-false _ _ (ne-eqb left 0 (λ z. omega arith))
 
+-- where one is pending there are so many new words
+pub some-count : (n left : ℕ) → (left ≡ 0 → ⊥) → newCount n left ≡ n + 2
+some-count n left f = cond-false _ _ (ne-eqb left 0 f)
+
 none-at : (at : ℕ) (w : ℕ → ℕ) (i : ℕ) → unmarkedFrom at 0 w i ≡ w i
 none-at at w i = none-unmarked at 0 w (λ j h. absurd (omega arith)) i
 
@@ -83,6 +87,11 @@ module _ (front n : ℕ) (w : ℕ → ℕ) where
       let c = some-words n (w at) pos in
       after-unmarked (at + 3) (newModules n (w at)) (unmarkedFrom front n w) i (omega arith) ∙ after-unmarked front n w i (omega arith))
       (eq-zero-or-pos (w at))
+
+  -- where nothing is pending only those of the setup lose theirs
+  pub none-left-words : w at ≡ 0 → (i : ℕ) → W i ≡ unmarkedFrom front n w i
+  none-left-words z i =
+      ap (λ (m : ℕ). unmarkedFrom (at + 3) m (unmarkedFrom front n w) i) (no-modules n (w at) z) ∙ none-at (at + 3) (unmarkedFrom front n w) i
 
   -- words without a mark stay as they are
   pub no-marks : ((j : ℕ) → j < n → bit (w (front + j)) 22 ≡ false) → (0 < w at → (j : ℕ) → j < n → bit (w (at + 3 + j)) 22 ≡ false) → (i : ℕ) → W i ≡ w i

@@ -1,6 +1,6 @@
 -- After j turns the words of the modules below j are the same, or not.
 use Prim.Native.Nat.{ℕ, _+_, _-_, _/_, _≤_}
-use mathlib.Core.Path.{_≡_, refl, ap₂}
+use mathlib.Core.Path.{_≡_, refl, ap, ap₂, _∙_}
 use native.Mathlib.Omega.{arith}
 use lib.Dec.{eqb}
 use Rattle.words.specs.Word.{wordAt}
@@ -29,11 +29,17 @@ add-word-at c = omega arith
 word-at-requires : tie.Need-word-at-requires Inv-loop μ-loop
 word-at-requires c κs = omega arith
 
+unmarked-requires : tie.Need-unmarked-requires Inv-loop μ-loop
+unmarked-requires c κs = tt
+
 add-word-at-2 : tie.Need-add-word-at-2 Inv-loop μ-loop
 add-word-at-2 c = omega arith
 
 word-at-requires-2 : tie.Need-word-at-requires-2 Inv-loop μ-loop
 word-at-requires-2 c κs = omega arith
+
+unmarked-requires-2 : tie.Need-unmarked-requires-2 Inv-loop μ-loop
+unmarked-requires-2 c κs = tt
 
 add-j : tie.Need-add-j Inv-loop μ-loop
 add-j c = omega arith
@@ -43,8 +49,8 @@ loop-less c = omega arith
 
 loop-again : tie.Need-loop-again Inv-loop μ-loop
 loop-again c =
-    let i = c .before .before .before .loop .inv in
-    (omega arith, all-step _ _ (i .1) (ap₂ (λ (a b : ℕ). eqb (a / placeUnit) (b / placeUnit)) (c .before .word-at .ensures) (c .word-at2 .ensures)))
+    let i = c .before .before .before .before .before .loop .inv in
+    (omega arith, all-step _ _ (i .1) (ap₂ (λ (a b : ℕ). eqb (a / placeUnit) (b / placeUnit)) (c .before .before .unmarked .ensures ∙ ap unmarked (c .before .before .before .word-at .ensures)) (c .unmarked2 .ensures ∙ ap unmarked (c .before .word-at2 .ensures))))
 
 returns : tie.Need-returns Inv-loop μ-loop
 returns c = all-end _ (omega arith) (c .before .loop .inv .1)
@@ -58,8 +64,10 @@ same-modules-spec =
     loop-holds
     add-word-at
     word-at-requires
+    unmarked-requires
     add-word-at-2
     word-at-requires-2
+    unmarked-requires-2
     add-j
     loop-less
     loop-again
