@@ -283,9 +283,13 @@ fn a_run_script_is_played_as_if_its_marks_were_clear() {
 
 // ---- from opening on, what is on the bus in a round is unchanged ----
 
+/// What each receiver got of each sender in a round, `[sender - 1][receiver - 1]`: controller bit, word, view word.
+type Arrived = Vec<Vec<(bool, u32, u32)>>;
+
 /// A backplane by document 01 as it was. Within a round module i steps after slot l and before slot l + 1, and in slot j module j sends. Rule 7: "The module
 /// hands out the syndrome of round k-1 if its send mark is set, else that of round k." "A session": it is sent in the round of that step if the mark is
 /// set, else in the round after; in round 1 without the mark it is the all-ones word. Views go as syndromes do (document 02, E11).
+#[derive(Clone)]
 struct AsItWas {
     setups: Vec<Setup>,
     marks: u32,
@@ -294,8 +298,10 @@ struct AsItWas {
     handed: Vec<[u32; 2]>,
     /// The words sent in the round played last.
     bus: Vec<[u32; 2]>,
-    /// The same as each receiver got them, `[sender - 1][receiver - 1]`: controller bit, word, view word.
-    arrived: Vec<Vec<(bool, u32, u32)>>,
+    /// The same as each receiver got them.
+    arrived: Arrived,
+    /// The latest read of each, with its controller word.
+    reads: Vec<(Vec<u32>, u32)>,
     health: Vec<u32>,
 }
 
@@ -312,6 +318,7 @@ impl AsItWas {
             handed: vec![ones; n],
             bus: vec![ones; n],
             arrived: vec![vec![(true, ones[0], ones[1]); n]; n],
+            reads: vec![(Vec::new(), 0); n],
             health: vec![full(n); n],
         }
     }
@@ -334,7 +341,7 @@ impl AsItWas {
         }
     }
 
-    fn step(&mut self, i: usize, earlier: &[Vec<(bool, u32, u32)>]) {
+    fn step(&mut self, i: usize, earlier: &Arrived) {
         let setup = self.setups[i - 1];
         let (words, controller) = read_of(&setup, i, &self.arrived, earlier);
         let before = self.states[i - 1];
@@ -345,6 +352,7 @@ impl AsItWas {
         let syndrome = if marked { syndrome_before } else { outcome.syndrome };
         let view = if marked { view_before } else { self.states[i - 1].view };
         self.handed[i - 1] = [5 << 28 | syndrome, 10 << 28 | view];
+        self.reads[i - 1] = (words, controller);
         self.health[i - 1] = outcome.health;
     }
 }
@@ -360,7 +368,7 @@ fn heard_by(n: usize, sender: usize, [word, view]: [u32; 2], events: &Events) ->
 }
 
 /// Rule 3: words of this round for j <= l, of the round before for the others.
-fn read_of(setup: &Setup, i: usize, this: &[Vec<(bool, u32, u32)>], earlier: &[Vec<(bool, u32, u32)>]) -> (Vec<u32>, u32) {
+fn read_of(setup: &Setup, i: usize, this: &Arrived, earlier: &Arrived) -> (Vec<u32>, u32) {
     let place = setup.module(i).place as usize;
     let of = |j: usize| if j <= place { this[j - 1][i - 1] } else { earlier[j - 1][i - 1] };
     let words = (1..=setup.n).map(|j| of(j).1);
@@ -374,7 +382,7 @@ fn read_of(setup: &Setup, i: usize, this: &[Vec<(bool, u32, u32)>], earlier: &[V
 struct Now {
     images: Vec<Vec<u8>>,
     bus: Vec<[u32; 2]>,
-    arrived: Vec<Vec<(bool, u32, u32)>>,
+    arrived: Arrived,
     health: Vec<u32>,
 }
 
@@ -538,40 +546,30 @@ fn an_old_image_in_the_middle_of_a_session() {
     let script = harness::script::check(&script_of(&words, &[&[NO_CAST], &tail[..]].concat())).unwrap();
     let marks = 0b1110;
     let mut was = AsItWas::opened(&script.setup, marks);
-    let mut rounds: Vec<(Vec<[u32; 2]>, Vec<[u32; 2]>, Vec<State>)> = Vec::new();
+    let mut rounds: Vec<AsItWas> = Vec::new();
     each_round(&script, |events| {
         was.play_round(events);
-        rounds.push((was.bus.clone(), was.handed.clone(), was.states.clone()));
+        rounds.push(was.clone());
         Ok::<(), ()>(())
     })
     .unwrap();
     let mut seen = 0;
-    for k in 1..rounds.len() {
+    for pair in rounds.windows(2) {
+        let (this, next) = (&pair[0], &pair[1]);
         for j in [2, 3, 4] {
-            let (_, handed, states) = &rounds[k - 1];
-            let (next_bus, _, next_states) = &rounds[k];
-            let needed = next_bus[j - 1][0];
+            let due = next.bus[j - 1][0];
             // The image after step k has it as its latest syndrome.
-            let old = with_marks(&image_words(&script.setup, &states[j - 1]), 3, marks);
-            assert_eq!(Model.outgoing(&bytes_of(&old)).word, needed);
-            // Step k handed out what was sent in round k, and step k+1, made now, hands out what round k+2 needs.
-            assert_eq!(handed[j - 1][0], rounds[k - 1].0[j - 1][0]);
-            let by_next_step = 5 << 28 | next_states[j - 1].latest;
+            let old = with_marks(&image_words(&script.setup, &this.states[j - 1]), 3, marks);
+            assert_eq!(Model.outgoing(&bytes_of(&old)).word, due);
+            // Step k handed out what was sent in round k. Step k+1, made by the rule as it is, hands out what is due in round k+2.
+            assert_eq!(this.handed[j - 1], this.bus[j - 1]);
             let mut after = vec![0; 4 * old.len()];
-            let (read, controller) = as_read(&rounds, &losses, k, j, &script.setup);
-            assert_eq!(Model.step(&bytes_of(&old), &bytes_of(&read), controller, &mut after).number, 0);
-            assert_eq!(Model.outgoing(&after).word, by_next_step);
-            seen += u32::from(handed[j - 1][0] != needed && by_next_step != needed);
+            let (read, controller) = &next.reads[j - 1];
+            assert_eq!(Model.step(&bytes_of(&old), &bytes_of(read), *controller, &mut after).number, 0);
+            let by_next_step = Model.outgoing(&after).word;
+            assert_eq!(by_next_step, 5 << 28 | next.states[j - 1].latest);
+            seen += u32::from(this.handed[j - 1][0] != due && by_next_step != due);
         }
     }
     assert!(seen > 3, "{seen}");
-}
-
-/// The read of module j in round k + 1 of such a run.
-fn as_read(rounds: &[(Vec<[u32; 2]>, Vec<[u32; 2]>, Vec<State>)], losses: &[u32], k: usize, j: usize, setup: &Setup) -> (Vec<u32>, u32) {
-    let arrived = |round: usize| -> Vec<Vec<(bool, u32, u32)>> {
-        let lost = |sender: usize| losses[round] >> 23 & 31 == sender as u32;
-        (1..=4).map(|sender| vec![if lost(sender) { (false, 0, 0) } else { (true, rounds[round].0[sender - 1][0], 0) }; 4]).collect()
-    };
-    read_of(setup, j, &arrived(k), &arrived(k - 1))
 }
