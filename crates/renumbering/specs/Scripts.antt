@@ -10,9 +10,10 @@ use Rattle.script.specs.Words.{castAt, eventsAt, kindOf, castIn, senderIn, rece
 use Rattle.script.specs.Effect.{toldAt, playAt}
 use Rattle.renumbering.specs.Renumbering.{Renumbering, vectorFor, wordFor}
 
--- the word of module j + 1: its new number, and send mark, read place and criticality by the word w that it had
+-- the word of module j + 1: its new number, and read place and criticality by the word w that it had; it is written without the send mark
+-- (document 02, E12)
 abbrev pub moduleWordFor : ℕ → ℕ → ℕ
-moduleWordFor j w = moduleWord j (markIn w) (placeIn w) (criticalityIn w)
+moduleWordFor j w = moduleWord j (placeIn w) (criticalityIn w)
 
 module _ (n : ℕ) (π : Renumbering n) where
   -- the cast: the rule-breakers

@@ -1,2 +1,1 @@
 pub mod Retired
-pub mod AsItWas

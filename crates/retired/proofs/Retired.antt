@@ -67,12 +67,12 @@ module _ (S : Session) (ok : Accepted S) (marks i : ℕ) (hi : i < size S) where
   -- nothing was handed out before the first step but what is sent before round 1
   words-same : (k : ℕ) → sentBy S marks i k ≡ sent S i k
   unfolding sentBy handedBy sent handed
-  words-same zero = cond-same (bit marks i) _ ∙ sym (cond-same (bit (S .setup .marks) i) _)
+  words-same zero = cond-same (bit marks i) _
   words-same (suc k) = sent-by k ∙ sym (sent-is S ok i hi k)
 
   view-words-same : (k : ℕ) → viewSentBy S marks i k ≡ viewWordSent S i k
   unfolding viewSentBy viewHandedBy viewWordSent viewWordHanded
-  view-words-same zero = cond-same (bit marks i) _ ∙ sym (cond-same (bit (S .setup .marks) i) _)
+  view-words-same zero = cond-same (bit marks i) _
   view-words-same (suc k) = view-by k ∙ sym (view-sent-is S ok i hi k)
 
 pub same-sent : SameSent
