@@ -135,11 +135,11 @@ abbrev pub fadingImage : List ℕ
 fadingImage = openCall (limitSetup two fading) 1 (replicate 100 0) .out
 
 -- module 3 has l = 0, without and with the send mark, which is retired (document 02, E12)
-abbrev pub unmarked : List ℕ
-unmarked = putWord old 5 0x4180_0004
+abbrev pub withoutMark : List ℕ
+withoutMark = putWord old 5 0x4180_0004
 
-abbrev pub marked : List ℕ
-marked = putWord old 5 0x41C0_0004
+abbrev pub withMark : List ℕ
+withMark = putWord old 5 0x41C0_0004
 
 abbrev pub changed : List ℕ → List ℕ → Answer
 changed from to = changeCall (openCall from 1 short .out) to 1 long .answer
@@ -148,7 +148,7 @@ abbrev pub frameCases : List Case
 frameCases =
     answers (changed old (bytes (0x1000_0204 ∷ 0x2000_0005 ∷ 0x3000_0004 ∷ 0x4086_0002 ∷ 0x4106_0003 ∷ 0x4186_0004 ∷ 0x4206_0001 ∷ []))) 23 0
     ++ (answers (changed old (limitSetup thrice (limits 5 4 2 3 4))) 23 0 ++ (answers (changed old (putWord old 4 0x4104_0003)) 23 0
-    ++ (answers (changed unmarked marked) 0 0 ++ (answers (changed marked unmarked) 0 0 ++ (answers (changed marked marked) 0 0
+    ++ (answers (changed withoutMark withMark) 0 0 ++ (answers (changed withMark withoutMark) 0 0 ++ (answers (changed withMark withMark) 0 0
     ++ (answers (changed old (limitSetup two fading)) 23 0 ++ (answers (changeCall fadingImage old 1 long .answer) 23 0
     ++ (answers (changeCall fadingImage (limitSetup two fading) 1 long .answer) 23 0 ++ (answers (changed old old) 0 0
     ++ (answers (changed old (limitSetup two (limits 6 4 2 3 4))) 0 0 ++ (answers (changed old (limitSetup two (limits 5 5 2 3 4))) 0 0
@@ -294,7 +294,7 @@ savedWordCases =
     ++ (answers (alteredPending 22 0x3000_0009) 8 22 ++ (answers (alteredPending 23 0x3000_0000) 8 23 ++ (answers (alteredPending 23 0x307A_1201) 8 23
     ++ (answers (alteredPending 24 0x4086_0000) 8 24 ++ (answers (alteredPending 24 0x4087_86A1) 8 24 ++ (answers (alteredPending 24 0x4087_86A0) 0 0
     ++ (answers (alteredPending 25 0x4186_0006) 8 25 ++ (answers (alteredPending 26 0x4184_0005) 8 26 ++ (answers (alteredPending 26 0x41C6_0005) 0 0
-    ++ (answers (movedPlace unmarked 0x41C0_0004) 0 0 ++ (answers (movedPlace marked 0x4180_0004) 0 0 ++ (answers (movedPlace marked 0x41C0_0009) 0 0
+    ++ (answers (movedPlace withoutMark 0x41C0_0004) 0 0 ++ (answers (movedPlace withMark 0x4180_0004) 0 0 ++ (answers (movedPlace withMark 0x41C0_0009) 0 0
     ++ (answers (pended (1 ∷ limits 0 8 0 6 5)) 8 22 ++ (answers (pended (1001 ∷ limits 0 8 7 6 5)) 8 21
     ++ answers (savedAnswer (putWord (quiet (1001 ∷ limits 0 8 7 6 5)) 20 0xF180_0001)) 8 20))))))))))))))))))))
 

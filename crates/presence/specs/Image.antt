@@ -77,7 +77,7 @@ pub record NoMarks (s : List ℕ) : Type 0 where
 
 -- ---- reading as a call, and the room that saving needs
 
--- reading: 1 to 8 and 22; what is held where an image is refused is blank
+-- reading: 1 to 5, 7, 8 and 22; what is held where an image is refused is blank
 unfoldable pub loadOf : List ℕ → Opened
 loadOf image =
     let v = checkImage image in

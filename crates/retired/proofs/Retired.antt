@@ -31,7 +31,7 @@ use Rattle.agreement.proofs.Aligned.{sent-is, view-sent-is}
 use Rattle.agreement.proofs.Existence.{existence}
 use Rattle.agreement.proofs.Demand.{demand-3}
 use Rattle.retired.specs.Marks.{handedBy, sentBy, viewHandedBy, viewSentBy}
-use Rattle.retired.specs.Retired.{SameSent, PlaysBy, Same, Retired, Played, SameBound, StillAgree}
+use Rattle.retired.specs.Retired.{SameSent, PlaysBy, Same, Retired, AnyMarksPlayed, SameBound, StillAgree}
 
 -- ---- what is sent
 
@@ -283,8 +283,8 @@ plain marks C S P =
 pub retired : Retired
 retired C marks S S′ P P′ = fixed C S S′ (plain marks C S P) P′
 
-pub played : Played
-played C marks =
+pub any-marks-played : AnyMarksPlayed
+any-marks-played C marks =
     let (S, P) = existence C in
     let good : Accepted S = subst (λ (s : Setup). setupVerdict s .number ≡ 0) (sym (P .setup)) (C .accepted) in (
       S,

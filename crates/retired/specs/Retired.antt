@@ -49,8 +49,8 @@ abbrev pub Retired : Type 0
 Retired = (C : Choice) (marks : ℕ) (S S′ : Session) → PlaysBy marks C S → Plays C S′ → Same S S′
 
 -- and there is such a session with any marks, so this speaks of something
-abbrev pub Played : Type 0
-Played = (C : Choice) (marks : ℕ) → (S : Session) × PlaysBy marks C S
+abbrev pub AnyMarksPlayed : Type 0
+AnyMarksPlayed = (C : Choice) (marks : ℕ) → (S : Session) × PlaysBy marks C S
 
 -- ---- agreement
 
