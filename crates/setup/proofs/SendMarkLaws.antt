@@ -13,6 +13,8 @@ use mathlib.Core.List.{List}
 use Rattle.words.specs.Word.{putWord}
 use Rattle.words.specs.Bits.{b2n, bit}
 use Rattle.words.specs.Runs.{putRun}
+use Rattle.words.specs.Count.{any}
+use Rattle.words.proofs.CountLaws.{any-none}
 use Rattle.words.proofs.RunLaws.{put-ext}
 use Rattle.words.proofs.Truth.{which, clash, and-l, and-r, and-true, and-false-l, and-false-r, cond-true, cond-false}
 use Rattle.words.proofs.BitLaws.{bit-low, bit-mod, b2n-bit}
@@ -136,3 +138,18 @@ copied-setup o front k w {o₁} h e₁ e₂ =
     let z : front ≡ 0 + front = omega arith in
     copied o 0 front (k - front) w (λ j. w (front + j)) (λ j. refl) e₁ (e₂ ∙ ap (λ (i : ℕ). putRun o₁ i (k - front) (λ j. unmarked (w (front + j)))) z)
     ∙ ap (λ (m : ℕ). putRun o 0 m (unmarkedFrom front (k - front) w)) e
+
+-- ---- where no word has it
+
+-- nothing is found
+pub none-found : {b : Bool} (n : ℕ) (f : ℕ → ℕ) → b ≡ any n (λ j. bit (f j) 22) → b ≡ false → (j : ℕ) → j < n → bit (f j) 22 ≡ false
+none-found n f e z = any-none n (λ j. bit (f j) 22) (sym e ∙ z)
+
+-- then a plain copy does it
+pub copied-all : (o : List ℕ) (to front n : ℕ) (w : ℕ → ℕ) {o₁ : List ℕ} → ((j : ℕ) → j < n → bit (w (front + j)) 22 ≡ false) → o₁ ≡ putRun o to (front + n) w
+    → o₁ ≡ putRun o to (front + n) (unmarkedFrom front n w)
+copied-all o to front n w f e = e ∙ put-ext o to (front + n) w _ (λ i h. sym (none-unmarked front n w f i))
+
+pub copied-setup-all : (o : List ℕ) (front k : ℕ) (w : ℕ → ℕ) {o₁ : List ℕ} → front ≤ k → ((j : ℕ) → j < k - front → bit (w (front + j)) 22 ≡ false)
+    → o₁ ≡ putRun o 0 k w → o₁ ≡ putRun o 0 k (unmarkedFrom front (k - front) w)
+copied-setup-all o front k w h f e = e ∙ put-ext o 0 k w _ (λ i l. sym (none-unmarked front (k - front) w f i))

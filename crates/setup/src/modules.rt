@@ -3,6 +3,7 @@ use crate::ModulesPart;
 use crate::layout::MOST_CRITICALITY;
 use crate::layout::PLACE;
 use crate::word::unmarked;
+use words::bits::bit_at;
 use words::word::copy_run;
 use words::word::copy_words;
 use words::word::gap;
@@ -14,6 +15,7 @@ ghost use Prim.Native.Nat.{_+_, _-_, _*_, _^_, _≤_, _<_};
 ghost use lib.ListN.{length};
 ghost use lib.Dec.{eqb};
 ghost use Rattle.words.specs.Word.{wordAt};
+ghost use Rattle.words.specs.Bits.{bit};
 ghost use Rattle.words.specs.Array.{array};
 ghost use Rattle.words.specs.Runs.{putRun};
 ghost use Rattle.words.specs.Count.{all, any};
@@ -70,13 +72,29 @@ fn copy_modules(s: &[u8], from: usize, k: usize, out: &mut [u8], to: usize)
     }
 }
 
-// Writes `front` words of s, from place `from` on, and the n module words after them, these without the send mark, to `out`, from place `to` on.
+// Whether one of the words of n modules, from place `at` on, has the send mark.
+fn marked(s: &[u8], at: usize, n: usize) -> bool
+    requires { ⌜ (at + n) * 4 ≤ length (now s) ⌝ }
+    ensures { λ r. ⌜ r ≡ any n (λ j. bit (wordAt (now (s .entry)) (at + j)) 22) ⌝ }
+{
+    let mut some = false;
+    for j in 0..n {
+        some = some | bit_at(word_at(s, at + j), 22);
+    }
+    some
+}
+
+// Writes `front` words of s, from place `from` on, and the n module words after them, these without the send mark, to `out`, from place `to` on. Where
+// there is none, as in all that this code wrote, one copy does it.
 pub fn copy_unmarked(s: &[u8], from: usize, front: usize, n: usize, out: &mut [u8], to: usize)
     requires { ⌜ (from < 2 ^ 16) × (to < 2 ^ 16) × (front ≤ 6) × (n ≤ 16) × ((from + front + n) * 4 ≤ length (now s)) × ((to + front + n) * 4 ≤ length (now out)) ⌝ }
     ensures { λ _. ⌜ now (out .exit) ≡ putRun (now (out .entry)) to (front + n) (unmarkedFrom front n (λ j. wordAt (now (s .entry)) (from + j))) ⌝ }
 {
-    copy_run(s, from, front, out, to);
-    copy_modules(s, from + front, n, out, to + front);
+    if marked(s, from + front, n) {
+        copy_run(s, from, front, out, to);
+        return copy_modules(s, from + front, n, out, to + front);
+    }
+    copy_run(s, from, front + n, out, to)
 }
 
 // Writes the first k words of s, those of a setup, to `out`: the module words, which stand after the first `front`, without the send mark.
@@ -84,6 +102,9 @@ pub fn copy_setup(s: &[u8], front: usize, k: usize, out: &mut [u8])
     requires { ⌜ (front ≤ k) × (k * 4 ≤ length (now s)) × (k * 4 ≤ length (now out)) ⌝ }
     ensures { λ _. ⌜ now (out .exit) ≡ putRun (now (out .entry)) 0 k (unmarkedFrom front (k - front) (wordAt (now (s .entry)))) ⌝ }
 {
-    copy_words(s, front, out);
-    copy_modules(s, front, k - front, out, front);
+    if marked(s, front, k - front) {
+        copy_words(s, front, out);
+        return copy_modules(s, front, k - front, out, front);
+    }
+    copy_words(s, k, out)
 }
