@@ -12,10 +12,9 @@ use rules::judge::judged_read;
 use setup::Limits;
 use setup::bounds::front_words;
 use setup::layout::setup_words;
-use setup::modules::copy_setup;
-use setup::modules::copy_unmarked;
 use views::lent::agree;
 use words::bits::pick;
+use words::word::copy_run;
 use words::word::copy_words;
 use words::word::put_word;
 ghost use mathlib.Core.Path.{_≡_};
@@ -109,8 +108,8 @@ pub fn left_after(left: u32) -> u32
     left - 1
 }
 
-// Writes the words of the setup that holds after the round: where a change is due the new ones after the head, else its own. They are copied: but for
-// send marks those of an accepted image are in their one form.
+// Writes the words of the setup that holds after the round: where a change is due the new ones after the head, else its own. They are copied: those of
+// an accepted image are in their one form.
 fn save_setup(image: &[u8], front: usize, n: usize, left: u32, out: &mut [u8])
     requires { ⌜ (checkImage (now image) .number ≡ 0) × (n ≡ stateOf (now image) .setup .n) × (front ≡ frontOf (stateOf (now image) .setup))
         × (left ≡ stateOf (now image) .pending .left) × (setupLength front n ≤ length (now out)) ⌝ }
@@ -119,9 +118,9 @@ fn save_setup(image: &[u8], front: usize, n: usize, left: u32, out: &mut [u8])
 {
     if left == 1 {
         copy_words(image, 1, out);
-        return copy_unmarked(image, left_at(front, n) + 1, 2, n, out, 1);
+        return copy_run(image, left_at(front, n) + 1, n + 2, out, 1);
     }
-    copy_setup(image, front, setup_words(front, n), out)
+    copy_words(image, setup_words(front, n), out)
 }
 
 // Writes the rounds left after the round, and the new words where a change is pending still.
@@ -136,7 +135,7 @@ fn save_pending(image: &[u8], front: usize, n: usize, left: u32, out: &mut [u8])
         return put_word(out, at, 0);
     }
     put_word(out, at, left - 1);
-    copy_unmarked(image, at + 1, 2, n, out, at + 1)
+    copy_run(image, at + 1, n + 2, out, at + 1)
 }
 
 // Writes the views after the round, of a partitionable setup: their view words are aligned at `split`, the local view was `before` and is `after` now.

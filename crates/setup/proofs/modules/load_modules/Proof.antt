@@ -10,18 +10,16 @@ use Rattle.words.specs.Count.{all, any}
 use Rattle.words.proofs.ArrayLaws.{array-step, array-end}
 use Rattle.words.proofs.CountLaws.{all-step, all-end, any-step}
 use Rattle.setup.specs.Setup.{criticalityIn}
-use Rattle.setup.specs.SendMark.{unmarked}
-use Rattle.setup.specs.Check.{moduleOk}
-use Rattle.setup.specs.Modules.{placeBy}
-use Rattle.setup.proofs.ModuleLaws.{criticality-same, word-by, skew-by}
+use Rattle.setup.specs.Modules.{moduleRight, markedPlace}
+use Rattle.setup.proofs.ModuleLaws.{word-by, skew-by}
 use Rattle.setup.proofs.modules.load_modules.Statement.{statement}
 use Rattle.setup.proofs.modules.load_modules.Tie as tie
 
 abbrev Inv-loop : tie.InvT-loop
 Inv-loop s front n criticality₀ good₀ skew₀ j₀ criticality good skew j =
     (j ≤ n)
-    × (good ≡ all j (λ k. moduleOk n k (wordAt s (front + k))))
-    × (skew ≡ any j (λ k. not (eqb (placeBy k (unmarked (wordAt s (front + k)))) n)))
+    × (good ≡ all j (λ k. moduleRight n k (wordAt s (front + k))))
+    × (skew ≡ any j (λ k. not (eqb (markedPlace k (wordAt s (front + k))) n)))
     × (criticality ≡ array j (λ k. criticalityIn (wordAt s (front + k))))
 
 abbrev μ-loop : tie.MeasureT-loop
@@ -37,11 +35,8 @@ add-word-at c = omega arith
 word-at-requires : tie.Need-word-at-requires Inv-loop μ-loop
 word-at-requires c κs = omega arith
 
-unmarked-requires : tie.Need-unmarked-requires Inv-loop μ-loop
-unmarked-requires c κs = tt
-
-place-by-requires : tie.Need-place-by-requires Inv-loop μ-loop
-place-by-requires c κs = omega arith
+marked-place-requires : tie.Need-marked-place-requires Inv-loop μ-loop
+marked-place-requires c κs = omega arith
 
 fields-fit-requires : tie.Need-fields-fit-requires Inv-loop μ-loop
 fields-fit-requires c κs = omega arith
@@ -63,16 +58,15 @@ loop-less c = omega arith
 
 loop-again : tie.Need-loop-again Inv-loop μ-loop
 loop-again c =
-    let l = c .before .before .before .before .before .loop in
-    let a = c .before .before .before .before .before .before .before .args in
-    let w = c .before .before .before .word-at in
-    let v = c .before .before .unmarked .ensures in
-    let p = c .before .place-by .ensures in
+    let l = c .before .before .before .before .loop in
+    let a = c .before .before .before .before .before .before .args in
+    let w = c .before .before .word-at in
+    let p = c .before .marked-place .ensures in
     let hw : w .result < 2 ^ 32 = omega arith in (
       omega arith,
-      all-step _ _ (l .inv .1) (word-by (a .front) (a .n) (l .j) (a .s .now) (omega arith) (omega arith) hw (w .ensures) v p (c .fields-fit .ensures)),
-      any-step _ _ (l .inv .2) (ap (λ (x : ℕ). not (eqb x (a .n))) (p ∙ ap (placeBy (l .j)) (v ∙ ap unmarked (w .ensures)))),
-      array-step _ _ (l .inv .3) (ap criticalityIn v ∙ criticality-same (w .result) ∙ ap criticalityIn (w .ensures)),
+      all-step _ _ (l .inv .1) (word-by (a .front) (a .n) (l .j) (a .s .now) (omega arith) (omega arith) hw (w .ensures) p (c .fields-fit .ensures)),
+      any-step _ _ (l .inv .2) (ap (λ (x : ℕ). not (eqb x (a .n))) (p ∙ ap (markedPlace (l .j)) (w .ensures))),
+      array-step _ _ (l .inv .3) (ap criticalityIn (w .ensures)),
     )
 
 returns : tie.Need-returns Inv-loop μ-loop
@@ -92,8 +86,7 @@ load-modules-spec =
     loop-holds
     add-word-at
     word-at-requires
-    unmarked-requires
-    place-by-requires
+    marked-place-requires
     fields-fit-requires
     cast-skew
     mul-criticality
