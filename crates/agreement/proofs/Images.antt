@@ -42,7 +42,7 @@ use Rattle.calls.proofs.CallAnswers.{open-writes, step-writes, change-writes, ch
 use Rattle.calls.proofs.Refusals.{open-accepted, step-accepted, save-accepted}
 use Rattle.page.proofs.PageRefusals.{refusals, open-accepted as page-open-accepted, step-accepted as page-step-accepted}
 use Rattle.page.proofs.Promise.{promise}
-use Rattle.agreement.specs.Session.{Offer, Session, Accepted, size, RuleFollower, read_bits, read_bytes, answer_at, state, ready, health, handed, view_word_handed, Common, Bound}
+use Rattle.agreement.specs.Session.{Offer, Session, Accepted, size, RuleFollower, read_bits, read_bytes, answer_at, state, ready, handed, view_word_handed, Common, Bound}
 use Rattle.agreement.specs.Life.{Life, opens, steps, changes}
 use Rattle.agreement.specs.Demand.{KeptTo}
 use Rattle.agreement.specs.Images.{ImageLife, opens as image-opens, steps as image-steps, changes as image-changes, skips, page-opens, page-steps, saves, refused, SetUp, length_with, Opens, Kept, ImageAgreement, Demand3C}

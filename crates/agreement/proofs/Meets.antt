@@ -23,7 +23,7 @@ use Rattle.rules.proofs.ReceptionLaws.{below-kind, row-of-bus, entry-bit, entry_
 use Rattle.rules.proofs.SyndromeLaws.{voter-bit, health-bit, syndrome-bit}
 use Rattle.vote.proofs.VoteLaws.{tally-ext}
 use Rattle.agreement.specs.Fault.{half}
-use Rattle.agreement.specs.Session.{Session, Accepted, size, u, RuleFollower, follows, bit_in, word_in, round, state, health, sent, Common, Bound, view_of}
+use Rattle.agreement.specs.Session.{Session, Accepted, size, u, RuleFollower, follows, bit_in, word_in, round, state, health, Common, Bound, view_of}
 use Rattle.agreement.proofs.FaultLaws.{half-none}
 use Rattle.agreement.proofs.Protocol.{Rules}
 use Rattle.agreement.proofs.Steps.{small, held, reading, state-zero, health-suc, syndrome-suc}

@@ -10,7 +10,7 @@ use Rattle.rules.specs.Syndrome.{judgement_of}
 use Rattle.changes.specs.Pending.{penalty_limit_of}
 use Rattle.presence.specs.Step.{own_syndrome, aligned_for, found_view}
 use Rattle.presence.specs.Change.{change_of}
-use Rattle.agreement.specs.Session.{Offer, Session, read_bits, read_bytes, state, ready, health}
+use Rattle.agreement.specs.Session.{Offer, Session, read_bits, read_bytes, state, ready}
 use Rattle.agreement.specs.Stars.{Case, case, test, right, digits, bound, kept_to, healths, views}
 
 -- ---- setups and sessions

@@ -17,7 +17,6 @@ use Rattle.words.proofs.ArrayLaws.{array_at}
 use Rattle.words.proofs.CountLaws.{all-at}
 use Rattle.words.proofs.LowestLaws.{lowest-le}
 use Rattle.words.proofs.TableLaws.{table_at, updated-at, updated-length}
-use Rattle.words.specs.Verdict.{accepted}
 use Rattle.setup.specs.Setup.{setup_of}
 use Rattle.setup.specs.Check.{setup_verdict}
 use Rattle.setup.specs.declared.Setup.{Setup}

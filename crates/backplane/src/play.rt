@@ -22,7 +22,7 @@ use words::bits::{full_of, pick};
 use words::word::KIND;
 
 // What the steps of a round give: the states, and the health vectors answered.
-#[derive(Drop)]
+#[derive(Clone, Copy)]
 struct Steps {
     states: [State; 16],
     health: [u32; 16],

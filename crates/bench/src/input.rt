@@ -10,7 +10,7 @@ use crate::play;
 use crate::written::Written;
 
 // Room for what is read, and how many bytes of it were read.
-#[derive(Drop)]
+#[derive(Clone, Copy)]
 pub struct Input {
     bytes: [u8; 65537],
     got: usize,

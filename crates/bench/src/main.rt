@@ -1,6 +1,8 @@
 // The bench: plays a run script from standard input, and writes the lines of every round to standard output.
 //
 // The output is written in parts. Every part is proved to be the next part of the whole before it is written, and none is left out.
+#![tactic(auto)]
+
 mod input;
 mod written;
 

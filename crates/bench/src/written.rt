@@ -5,7 +5,7 @@ ghost use Rattle.script.specs.Words.{most_rounds};
 ghost use Rattle.backplane.specs.Output.{part_of};
 
 // How many parts are written, and whether standard output took them whole.
-#[derive(Drop)]
+#[derive(Clone, Copy)]
 pub struct Written {
     parts: u32,
     whole: bool,

@@ -17,7 +17,7 @@ use Rattle.presence.specs.Opening.{open_of}
 use Rattle.presence.specs.Step.{step_of}
 use Rattle.presence.specs.Change.{change_of}
 use Rattle.presence.specs.Image.{image_of, state_of, room_for, room_after}
-use Rattle.calls.specs.Calls.{Called, answer, refused_call, wrote, open_call, step_call, change_call, save_call}
+use Rattle.calls.specs.Calls.{Called, refused_call, wrote, open_call, step_call, change_call, save_call}
 use Rattle.presence.specs.declared.State.{State}
 use Rattle.presence.specs.declared.Changed.{Changed}
 

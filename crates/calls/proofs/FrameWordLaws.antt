@@ -1,7 +1,7 @@
 -- Two setups in words: whether all but P, R and the criticalities is the same, by their heads and by what stands above the criticalities.
-use mathlib.Core.Path.{◌≡◌, refl, ap, ap₂, ◌∙◌, sym}
+use mathlib.Core.Path.{◌≡◌, refl, ap, ◌∙◌, sym}
 use mathlib.Core.Bool.{Bool, true, false, ◌||◌, true≢false}
-use mathlib.Core.Logic.{◌⊎◌, inl, inr, ⊎_elim}
+use mathlib.Core.Logic.{⊎_elim}
 use mathlib.Core.List.{List}
 use Prim.Native.Nat.{ℕ, ◌+◌, ◌*◌, ◌/◌, ◌^◌, ◌<◌, ◌≤◌}
 use native.Mathlib.Omega.{arith}
@@ -11,7 +11,7 @@ use borrow.Author.Tests.{eqb-true, eq-eqb}
 use Rattle.words.specs.Word.{word_at, number_unit}
 use Rattle.words.specs.Bits.{bit, pack}
 use Rattle.words.specs.Count.{all}
-use Rattle.words.proofs.Truth.{which, iff-eq, or_cases, or-false-l, or-false-r}
+use Rattle.words.proofs.Truth.{iff-eq, or_cases, or-false-l, or-false-r}
 use Rattle.words.proofs.BitLaws.{bit-pack, pack-ext}
 use Rattle.words.proofs.ArrayLaws.{array_at}
 use Rattle.words.proofs.CountLaws.{all-at, all-intro}
@@ -21,7 +21,7 @@ use Rattle.setup.specs.Check.{check_setup}
 use Rattle.setup.specs.declared.Setup.{Setup}
 use Rattle.setup.proofs.WordFields.{head-made}
 use Rattle.setup.proofs.BoundLaws.{read-fades}
-use Rattle.setup.proofs.SetupCheckLaws.{HeadFits, WordsFit, BytesFit, setup-pass}
+use Rattle.setup.proofs.SetupCheckLaws.{WordsFit, BytesFit, setup-pass}
 use Rattle.changes.specs.Frame.{same_frame}
 use Rattle.changes.proofs.NewMeaning.{upper-place, upper-mark, upper-same, number_is}
 use Rattle.changes.proofs.PendingLaws.{frame_same, same-frame}

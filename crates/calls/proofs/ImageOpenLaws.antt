@@ -21,7 +21,6 @@ use Rattle.words.proofs.RunLaws.{put-run}
 use Rattle.words.proofs.VerdictLaws.{between-of}
 use lib.Ieee.{of_int, to_bits}
 use Rattle.doubles.specs.Double.{double, high_word, low_word}
-use Rattle.doubles.specs.Array.{zeros}
 use Rattle.doubles.proofs.DoubleArrayLaws.{zeros-at}
 use Rattle.setup.specs.Layout.{front_words, setup_words, setup_length}
 use Rattle.setup.specs.Limits.{fades}

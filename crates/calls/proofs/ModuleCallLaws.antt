@@ -1,13 +1,12 @@
 -- What a call from C answers and leaves in its output, put together from the answers of its parts.
 use mathlib.Core.Path.{◌≡◌, refl, ap, ap₂, ◌∙◌, sym, subst}
 use mathlib.Core.Bool.{Bool, true, false, cond, not, ◌||◌}
-use mathlib.Core.List.{List, ◌++◌, append-nil}
+use mathlib.Core.List.{List}
 use Prim.Native.Nat.{ℕ, ◌+◌, ◌-◌, ◌*◌, ◌^◌, ◌≤◌, ◌<◌}
 use native.Mathlib.Omega.{arith}
 use lib.Dec.{eqb, ltb}
-use lib.ListN.{length, get_or, take, drop}
+use lib.ListN.{length, get_or}
 use lib.Pow.{pow_mono}
-use lib.Seq.{take-length, drop-length}
 use borrow.Author.Tests.{eq-eqb, ne_eqb, eqb-true, eqb-false, not-true, not-false, lt-ltb, le-ltb}
 use Rattle.words.specs.Word.{word_at}
 use Rattle.words.specs.Bits.{bit, pack}
@@ -358,12 +357,9 @@ module _ (image out : List ℕ) (z : (check_image image).number ≡ 0) where
 
   -- saving copies the bytes
   pub copy-wrote : {v : Verdict} {r : Answer} {b : List ℕ} → v ≡ check_image image → r ≡ answer 0 0 0 → ((i : ℕ) → get_or image i 0 < 256)
-      → length out ≡ length image → b ≡ take (length image) image ++ drop (length image) out → called r b ≡ save_call image out
+      → length out ≡ length image → b ≡ image → called r b ≡ save_call image out
   copy-wrote {v} {r} {b} e q small l w =
-      let c : b ≡ image =
-      w ∙ ap₂ (λ (x y : List ℕ). x ++ y) (take-length image) (ap (λ (k : ℕ). drop k out) (sym l) ∙ drop-length out) ∙ append-nil image
-      in
-      save-wrote image out e q (ap (λ (x : Verdict). x.number) e ∙ z) (same-room l) (c ∙ sym (written_read image z small))
+      save-wrote image out e q (ap (λ (x : Verdict). x.number) e ∙ z) (same-room l) (w ∙ sym (written_read image z small))
 
 -- ---- reading one word
 

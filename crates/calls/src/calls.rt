@@ -205,7 +205,7 @@ pub extern "C" fn presence_save(image: &[u8], out: &mut [u8]) -> Answer
     if out.len() != image.len() {
         return refuse(9, 0);
     }
-    bytes::copy(image, out);
+    out.copy_from_slice(image);
     refuse(0, 0)
 }
 

@@ -1,8 +1,8 @@
 -- Which change may follow: numbers 23 and 24, both with index 0. (document 02, E10; 23 covers head bit 5, E11)
-use Rattle.std.specs.Prelude.{ℕ, Bool, not, ◌&&◌, List, [], ◌∷◌, get_or, eqb}
+use Rattle.std.specs.Prelude.{ℕ, Bool, not, ◌&&◌, [], ◌∷◌, get_or, eqb}
 use Rattle.std.specs.Bool.{beq}
 use Rattle.words.specs.Count.{all}
-use Rattle.words.specs.Verdict.{between, Test, single, first_refusal}
+use Rattle.words.specs.Verdict.{between, single, first_refusal}
 use Rattle.words.specs.declared.Verdict.{Verdict}
 use Rattle.setup.specs.Limits.{fades}
 use Rattle.setup.specs.declared.Setup.{Setup}

@@ -1,6 +1,8 @@
 // New limits without a stop: a change that is still to come, what it does when it takes effect, and its words in a saved state.
 //
 // This file has what a pending change holds. Entries and bits of module j + 1 stand at j; those from n on are 0.
+#![tactic(auto)]
+
 mod adjust;
 pub mod change;
 pub mod frame;
@@ -12,7 +14,7 @@ use accounts::Counters;
 use setup::Setup;
 
 // A change that is still to come: the rounds left, and the new P, R and criticalities; all 0 where none is pending.
-#[derive(Drop)]
+#[derive(Clone, Copy)]
 pub struct Pending {
     pub left: u32,
     pub p: u32,
@@ -21,7 +23,7 @@ pub struct Pending {
 }
 
 // What rule 8 counts with and what it counts.
-#[derive(Drop)]
+#[derive(Clone, Copy)]
 pub struct Books {
     pub setup: Setup,
     pub counters: Counters,

@@ -1,4 +1,6 @@
 // Doubles in lent bytes: two words each, high half first.
+#![tactic(auto)]
+
 pub mod array;
 
 ghost use Rattle.std.specs.Prelude.{◌≡◌, true, false, not, ◌+◌, ◌*◌, ◌≤◌, ◌<◌, ◌^◌, length};

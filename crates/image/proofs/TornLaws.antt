@@ -5,7 +5,7 @@ use Rattle.words.specs.declared.Verdict.{Verdict}
 use Rattle.setup.specs.Layout.{head_at, front_words}
 use Rattle.setup.specs.Setup.{partitionable_in}
 use Rattle.changes.proofs.SectionTests.{new-most}
-use Rattle.views.specs.Section.{views_count, view_tests}
+use Rattle.views.specs.Section.{view_tests}
 use Rattle.image.specs.Layout.{left_at, views_at, image_length}
 use Rattle.image.proofs.SectionLaws.{tests-made}
 

@@ -6,12 +6,12 @@ use Rattle.changes.specs.Words.{new_count}
 use Rattle.views.specs.Section.{views_count}
 
 -- after the setup's words: own number and view
-abbrev pub field_own : ℕ → ℕ → ℕ
-field_own front n = setup_words front n
+abbrev pub own_at : ℕ → ℕ → ℕ
+own_at front n = setup_words front n
 
 -- the rows of the previous read
 abbrev pub rows_at : ℕ → ℕ → ℕ
-rows_at front n = field_own front n + 1
+rows_at front n = own_at front n + 1
 
 -- the latest syndrome
 abbrev pub latest_at : ℕ → ℕ → ℕ

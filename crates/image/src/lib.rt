@@ -1,7 +1,8 @@
 // The words of a saved state: read, checked and written, with no state that holds them. Entries and bits of module j + 1 stand at j.
+#![tactic(auto)]
 
 // The words of an image that stand alone, and whether they are right.
-#[derive(Drop)]
+#[derive(Clone, Copy)]
 pub struct WordsPart {
     pub good: bool,
     pub own: usize,
@@ -11,14 +12,14 @@ pub struct WordsPart {
 }
 
 // Who is heard in the previous read of an image, and whether its words are right.
-#[derive(Drop)]
+#[derive(Clone, Copy)]
 pub struct RowsPart {
     pub good: bool,
     pub heard: u32,
 }
 
 // What the counters of a module are tested by: the limits P, R and Q, its criticality, its bit of the view and its penalty.
-#[derive(Drop)]
+#[derive(Clone, Copy)]
 pub struct Basis {
     pub p: u32,
     pub r: u32,
@@ -30,7 +31,7 @@ pub struct Basis {
 
 // What a step needs of an image besides the lent arrays, and whether its words are right: whether reads are skewed, the limits, the own number, the
 // view, who was heard in the previous read, the two latest syndromes, and the rounds left until a pending change takes effect.
-#[derive(Drop)]
+#[derive(Clone, Copy)]
 pub struct ImagePart {
     pub good: bool,
     pub skew: bool,

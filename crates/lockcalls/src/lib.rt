@@ -1,8 +1,10 @@
 // A scan lock as nine words, and what C calls: an image is read, told an event and written. (document 02, E2)
+#![tactic(auto)]
+
 use scanlock::Locks;
 
 // What reading a scan lock answers; where it is refused the locks are blank.
-#[derive(Drop)]
+#[derive(Clone, Copy)]
 pub struct LocksRead {
     pub number: u32,
     pub index: u32,
@@ -11,7 +13,7 @@ pub struct LocksRead {
 
 // What a call from C answers: joystick is 1 if the joystick is live after the call, and 0 where it is not or the locks could not be read.
 #[repr(C)]
-#[derive(Drop)]
+#[derive(Clone, Copy)]
 pub struct LockAnswer {
     pub number: u32,
     pub index: u32,

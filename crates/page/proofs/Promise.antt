@@ -14,8 +14,7 @@ use Rattle.words.specs.Count.{any}
 use Rattle.words.proofs.Truth.{which, cond-true, cond-false, or_r}
 use Rattle.words.proofs.WordLaws.{read-put, read-put-other}
 use Rattle.words.specs.Verdict.{is_accepted}
-use Rattle.setup.specs.Layout.{front_words}
-use Rattle.setup.specs.Setup.{size_in, fades_in, setup_of}
+use Rattle.setup.specs.Setup.{setup_of}
 use Rattle.setup.specs.declared.Limits.{Limits}
 use Rattle.setup.specs.declared.Limits.TheVariants.{Counts}
 use Rattle.accounts.specs.Round.{account_at, counters_of}
@@ -26,12 +25,9 @@ use Rattle.rules.proofs.Causes.{of-read, hears, above as no-module}
 use Rattle.changes.specs.Books.{turned}
 use Rattle.changes.specs.declared.Books.{Books}
 use Rattle.changes.proofs.TurnLaws.{turned-size, turned-setup-fits}
-use Rattle.image.specs.Layout.{own_at}
-use Rattle.image.specs.Words.{view_in}
 use Rattle.image.specs.Check.{check_image}
 use Rattle.image.proofs.CounterLaws.{within-kept}
 use Rattle.image.proofs.BooksLaws.{turned-accounts}
-use Rattle.presence.specs.Valid.{Valid}
 use Rattle.presence.specs.Opening.{open_of}
 use Rattle.presence.specs.Step.{books_of, found_view, accepted_step, step_of}
 use Rattle.presence.specs.Change.{with_pending, change_of}
@@ -39,13 +35,13 @@ use Rattle.presence.specs.Shown.{shown_view}
 use Rattle.presence.proofs.RoundTrip.{round_trip}
 use Rattle.changes.specs.declared.Pending.{Pending}
 use Rattle.setup.proofs.SetupRoundTrip.{read-shaped}
-use Rattle.presence.specs.Image.{image_of, state_of}
+use Rattle.presence.specs.Image.{state_of}
 use Rattle.calls.specs.Calls.{open_call, step_call}
 use Rattle.presence.specs.declared.State.{State}
 use Rattle.presence.specs.declared.Stepped.{Stepped}
 use Rattle.presence.proofs.ValidLaws.{valid-fits}
-use Rattle.presence.proofs.StateChangeLaws.{change-taken, change-valid}
-use Rattle.presence.proofs.StateStepLaws.{step-accepted, step-valid, open-valid}
+use Rattle.presence.proofs.StateChangeLaws.{change-taken}
+use Rattle.presence.proofs.StateStepLaws.{step-accepted}
 use Rattle.presence.proofs.ImageState.{load-valid}
 use Rattle.calls.proofs.CallAnswers.{open-writes, open-passed, step-writes, step-passed, change-writes, change-passed, save-writes, save-passed}
 use Rattle.page.specs.Flags.{cleared}

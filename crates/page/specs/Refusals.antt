@@ -1,7 +1,7 @@
 -- Which calls with a page are refused, by which number, and that every other one is accepted; and what a refused call of any kind leaves of a
 -- buffer that it was lent: the bytes that were there. (demand 1; document 02, E1, "Checks") As calls/specs/Refusals.antt says it
 -- of the calls without a page. Proved in proofs/PageRefusals.antt.
-use Rattle.std.specs.Prelude.{ℕ, ◌-◌, ◌*◌, ◌^◌, ◌≡◌, ◌≢◌, cond, ◌&&◌, List, [], ◌∷◌, length, eqb, ltb}
+use Rattle.std.specs.Prelude.{ℕ, ◌-◌, ◌^◌, ◌≡◌, ◌≢◌, cond, ◌&&◌, List, [], ◌∷◌, ltb}
 use Rattle.words.specs.Bits.{full}
 use Rattle.words.specs.Verdict.{is_accepted, between, single, and_then, first_refusal}
 use Rattle.setup.specs.Setup.{setup_of}

@@ -1,6 +1,5 @@
 -- A change that was accepted counts down step by step, and takes effect in the step that its lead says.
-use mathlib.Core.Path.{◌≡◌, refl, ap, ◌∙◌, sym, subst}
-use mathlib.Core.Bool.{true}
+use mathlib.Core.Path.{◌≡◌, ap, ◌∙◌, sym, subst}
 use Prim.Native.Nat.{ℕ, zero, suc, ◌+◌, ◌-◌, ◌<◌, ◌≤◌}
 use native.Mathlib.Omega.{arith}
 use borrow.Author.Tests.{le-leb}
@@ -9,13 +8,13 @@ use Rattle.words.proofs.Truth.{cond-true}
 use Rattle.setup.specs.RoundTrip.{ShapedSetup}
 use Rattle.setup.specs.declared.Setup.{Setup}
 use Rattle.setup.proofs.SetupLaws.{verdict-fits}
-use Rattle.changes.specs.Pending.{nothing, pending_of, renewed, counted_down}
+use Rattle.changes.specs.Pending.{pending_of, renewed, counted_down}
 use Rattle.changes.specs.Books.{turned, counted, books_after}
 use Rattle.changes.specs.declared.Books.{Books}
 use Rattle.changes.specs.declared.Pending.{Pending}
 use Rattle.changes.proofs.TurnLaws.{turned-changed, turned-unchanged, turned_left, applied}
 use Rattle.presence.specs.Step.{books_of, after_round, accepted_step, step_of}
-use Rattle.presence.specs.Change.{with_pending, change_of}
+use Rattle.presence.specs.Change.{change_of}
 use Rattle.presence.specs.RoundTrip.{Shaped}
 use Rattle.presence.specs.Applied.{Reads, stepped_by, Applied}
 use Rattle.presence.specs.declared.State.{State}

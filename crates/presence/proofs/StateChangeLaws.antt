@@ -18,7 +18,7 @@ use Rattle.presence.specs.Valid.{state_verdict, Valid}
 use Rattle.presence.specs.Change.{new_verdict, change_verdict, with_pending, change_of}
 use Rattle.presence.specs.declared.State.{State}
 use Rattle.presence.specs.declared.Changed.{Changed}
-use Rattle.presence.proofs.ValidLaws.{StateFits, valid-fits, fits-valid, fits-verdict, change-fits}
+use Rattle.presence.proofs.ValidLaws.{StateFits, valid-fits, fits-valid, change-fits}
 
 pub change-refused : (st : State) (new : Setup) (lead : ℕ) → (change_of st new lead).number ≢ 0 → (change_of st new lead).state ≡ st
 unfolding change_of

@@ -2,6 +2,8 @@
 //
 // This file has what a module holds and what its opening and its step answer. Entries and bits of module j + 1 stand at j;
 // those from n on are 0.
+#![tactic(auto)]
+
 mod change;
 pub mod load;
 mod open;
@@ -18,7 +20,7 @@ use views::Views;
 
 // A module's state: its setup, its own number, its counters, its previous read, the last two syndromes that it computed, the change of limits that is
 // pending, and, where the setup is partitionable, what it holds of views.
-#[derive(Drop)]
+#[derive(Clone, Copy)]
 pub struct State {
     setup: Setup,
     own: usize,
@@ -31,7 +33,7 @@ pub struct State {
 }
 
 // What an opening answers.
-#[derive(Drop)]
+#[derive(Clone, Copy)]
 pub struct Opened {
     pub number: u32,
     pub index: u32,
@@ -39,7 +41,7 @@ pub struct Opened {
 }
 
 // What a change answers; where it is refused the state is as it was.
-#[derive(Drop)]
+#[derive(Clone, Copy)]
 pub struct Changed {
     pub number: u32,
     pub index: u32,
@@ -48,7 +50,7 @@ pub struct Changed {
 
 // What a step answers: the word and the second word, which holds the local view, are those handed out for the bus, the second 0 where the setup is not
 // partitionable; the causes are the codes of this read, as it came (0 to 3).
-#[derive(Drop)]
+#[derive(Clone, Copy)]
 pub struct Stepped {
     pub number: u32,
     pub index: u32,

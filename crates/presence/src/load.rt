@@ -24,7 +24,7 @@ use views::section::load_views;
 use words::word::word_at;
 
 // Whether all words of an image are right, and then its state.
-#[derive(Drop)]
+#[derive(Clone, Copy)]
 struct Loaded {
     good: bool,
     state: State,

@@ -2,6 +2,8 @@
 // `accounts`.
 //
 // This file has what the rules hand to one another. Entries and bits of module j + 1 stand at j; those from n on are 0.
+#![tactic(auto)]
+
 mod accuse;
 pub mod align;
 pub mod hearing;
@@ -10,7 +12,7 @@ pub mod lag;
 mod splice;
 
 // What reading a bus word answers: it is heard, with its row, or it is not, and why, the first cause that applies.
-#[derive(Drop)]
+#[derive(Clone, Copy)]
 pub enum Reception {
     Heard(u32),
     ControllerLoss,
@@ -19,21 +21,21 @@ pub enum Reception {
 }
 
 // What became of one module's bus word: whether it is heard, and its row, 0 if it is not.
-#[derive(Drop)]
+#[derive(Clone, Copy)]
 pub struct Entry {
     pub heard: bool,
     pub row: u32,
 }
 
 // What a read holds: who is heard, and the rows, 0 where a module is not heard.
-#[derive(Drop)]
+#[derive(Clone, Copy)]
 pub struct Reading {
     pub heard: u32,
     pub rows: [u32; 16],
 }
 
 // What a module makes of the aligned rows: for each module the number at which its row is wrong, or 0, in `accusations`.
-#[derive(Drop)]
+#[derive(Clone, Copy)]
 pub struct Judgement {
     pub health: u32,
     pub accusations: [u32; 16],
@@ -41,7 +43,7 @@ pub struct Judgement {
 }
 
 // What a module makes of a read, where the rows are lent: who is heard in it, the health vector, and the syndrome.
-#[derive(Drop)]
+#[derive(Clone, Copy)]
 pub struct Judged {
     pub heard: u32,
     pub health: u32,

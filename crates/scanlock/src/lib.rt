@@ -3,6 +3,8 @@
 //
 // It relies on one thing that the presence library states, the view after an accepted step (after_step.rt). A module is 1..N, an axis 1..8;
 // the entry of axis a stands at a - 1.
+#![tactic(auto)]
+
 mod after_step;
 mod events;
 mod fits;
@@ -15,7 +17,7 @@ pub use fits::{axis_fits, view_fits};
 
 // What the scan lock is told: the view after a step; begin, end, start of a move and abort, by module and axis; the axis's reports
 // that its move is finished or that it has stopped.
-#[derive(Drop)]
+#[derive(Clone, Copy)]
 pub enum Event {
     View(u32),
     Begin(u32, u32),
@@ -27,7 +29,7 @@ pub enum Event {
 }
 
 // One axis: the module that holds it (0 for none) and how deep, whether a move is unfinished, and whether it is stopping.
-#[derive(Drop)]
+#[derive(Clone, Copy)]
 pub struct Axis {
     pub holder: u32,
     pub depth: u32,
@@ -36,14 +38,14 @@ pub struct Axis {
 }
 
 // What an axis answers to a begin, an end or a start: 0 and the axis after it, or 20 or 21 and the axis as it was.
-#[derive(Drop)]
+#[derive(Clone, Copy)]
 struct AxisAnswer {
     number: u32,
     axis: Axis,
 }
 
 // All that is held from event to event: how many modules there are, the view handed last, and the axes.
-#[derive(Drop)]
+#[derive(Clone, Copy)]
 pub struct Locks {
     pub n: u32,
     pub view: u32,
@@ -51,7 +53,7 @@ pub struct Locks {
 }
 
 // What an opening or an event answers: 0 or the number by which it is refused, and the locks after it.
-#[derive(Drop)]
+#[derive(Clone, Copy)]
 pub struct EventAnswer {
     pub number: u32,
     pub locks: Locks,

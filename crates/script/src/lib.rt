@@ -1,4 +1,6 @@
 // Run scripts: their check, and the events and rounds that they tell.
+#![tactic(auto)]
+
 pub mod check;
 mod event;
 mod layout;
@@ -12,7 +14,7 @@ pub use layout::MOST_ROUNDS;
 pub use layout::cast_at;
 
 // How far a run script has been checked: how many told words are due, whether an event waits for a play, and the rounds so far.
-#[derive(Drop)]
+#[derive(Clone, Copy)]
 pub struct Scan {
     pub due: u32,
     pub pending: bool,
@@ -22,7 +24,7 @@ pub struct Scan {
 // What becomes of the words of one round. The entry of receiver i + 1 and sender j + 1 stands at 16 * i + j: its fate is 0 where the word
 // arrives as it was sent, and else the kind of its event: 7 where it is lost, 8 where the told word arrives in its place. Where the setup is
 // partitionable a view word goes with it: the told view word arrives in place of that; elsewhere `views` is 0.
-#[derive(Drop)]
+#[derive(Clone, Copy)]
 pub struct Events {
     pub fate: [u32; 256],
     pub told: [u32; 256],
@@ -31,7 +33,7 @@ pub struct Events {
 
 // The place of a round in a run script: the word to read next, the rounds left of the play, whether the script is over, and the events of
 // this round.
-#[derive(Drop)]
+#[derive(Clone, Copy)]
 pub struct Cursor {
     pub at: usize,
     pub left: u32,

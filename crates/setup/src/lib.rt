@@ -1,14 +1,15 @@
 // A setup: N, by which limits account is kept, and for each module its send mark, read place and criticality.
+#![tactic(auto)]
 
 // How account is kept: by counts, with the penalty limit P and the reward limit R, or by fading scores, with their factor and their limit.
-#[derive(Drop)]
+#[derive(Clone, Copy)]
 pub enum Limits {
     Counts(u32, u32),
     Fading(f64, f64),
 }
 
 // The entries of module j + 1 stand at j; bit j of `marks` is its send mark. Entries from n on are 0.
-#[derive(Drop)]
+#[derive(Clone, Copy)]
 pub struct Setup {
     pub n: usize,
     // The return limit Q.
@@ -22,7 +23,7 @@ pub struct Setup {
 }
 
 // What reading a setup answers; where it is refused the setup is blank, all zeros.
-#[derive(Drop)]
+#[derive(Clone, Copy)]
 pub struct SetupRead {
     pub number: u32,
     pub index: u32,
@@ -30,14 +31,14 @@ pub struct SetupRead {
 }
 
 // What the words of a setup hold, and whether those after the head are right.
-#[derive(Drop)]
+#[derive(Clone, Copy)]
 pub struct SetupPart {
     pub good: bool,
     pub setup: Setup,
 }
 
 // What the words of the modules say together: whether they are right, and, where they are, whether some read place is not n.
-#[derive(Drop)]
+#[derive(Clone, Copy)]
 pub struct ModulesPart {
     pub good: bool,
     pub skew: bool,

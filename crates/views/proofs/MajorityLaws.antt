@@ -11,7 +11,7 @@ use lib.Dec.{eqb, ltb}
 use lib.Pow.{pow_pos}
 use borrow.Author.Tests.{eqb-true, ne_eqb, ltb-true, lt-ltb, le-ltb}
 use Rattle.words.specs.Bits.{bit, pack}
-use Rattle.words.specs.Count.{count, any, all}
+use Rattle.words.specs.Count.{count, any}
 use Rattle.words.proofs.Truth.{which, and-true, or_cases, or_l, or_r, clash, beq-refl, cond-true, cond-false}
 use Rattle.words.proofs.BitLaws.{bit-pack, bit-ext, bit_high, bit-mod, pack-lt}
 use Rattle.words.proofs.CountLaws.{any-witness, any_none, count-mono, count-ext, count-le, count-split, all-at, all-intro}

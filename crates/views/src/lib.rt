@@ -2,6 +2,8 @@
 // state.
 //
 // This file has what a module holds of views. Entries and bits of module j + 1 stand at j; those from n on are 0.
+#![tactic(auto)]
+
 mod adopt;
 pub mod after;
 pub mod lent;
@@ -11,7 +13,7 @@ pub mod word;
 
 // The view words of the last read, kind and all, 0 where one is missing; the local view before the latest; the adopted view; and whether the module
 // has taken itself out. All 0 where the setup is not partitionable.
-#[derive(Drop)]
+#[derive(Clone, Copy)]
 pub struct Views {
     pub words: [u32; 16],
     pub earlier: u32,
@@ -20,7 +22,7 @@ pub struct Views {
 }
 
 // What view words decide: whether every module has a value that more than half of all n carry, and the view of these values.
-#[derive(Drop)]
+#[derive(Clone, Copy)]
 pub struct Adoption {
     pub decided: bool,
     pub view: u32,

@@ -7,7 +7,7 @@ use words::bits::{bit_at, flag, pick};
 use words::mask::without;
 
 // How many rows are present, and in four lanes how many vote 1 on each module.
-#[derive(Drop)]
+#[derive(Clone, Copy)]
 pub struct Tally {
     pub present: u32,
     pub ones: [u32; 4],

@@ -1,5 +1,5 @@
 -- Runs that follow other runs: how many words they have, where they stand, and that they are written in their turn.
-use Rattle.std.proofs.Common.{◌≡◌, ℕ, ◌+◌, ◌<◌, List, [], ◌∷◌, ◌++◌, sym, refl, ap, ◌∙◌, subst, arith}
+use Rattle.std.proofs.Common.{◌≡◌, ℕ, ◌+◌, List, [], ◌∷◌, ◌++◌, ap, ◌∙◌, subst, arith}
 use Rattle.words.specs.Runs.{Run, total, put_run, put_runs}
 use Rattle.words.proofs.RunLaws.{Follows}
 

@@ -1,0 +1,13 @@
+-- After x turns the first x entries are the words that arrive.
+use Prim.Native.Nat.{◌-◌, ◌≤◌}
+use mathlib.Core.Path.{◌≡◌}
+use lib.ListN.{replicate}
+use Rattle.words.specs.Table.{updated}
+use Rattle.bus.specs.Bus.{arriving}
+use Rattle.bus.proofs.arrivals.arrived_words.Given as goal
+
+abbrev pub invariant-loop-x : goal.invariant-loop-x
+invariant-loop-x l = (l.x ≤ 256) × (l.words ≡ updated l.x (arriving l.fate l.told l.sent) (replicate 256 0))
+
+abbrev pub decreases-loop-x : goal.decreases-loop-x
+decreases-loop-x l = 256 - l.x

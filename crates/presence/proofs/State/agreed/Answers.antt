@@ -1,0 +1,19 @@
+-- None, or those that the view words decide.
+use borrow.Author.Tests.{not-true, not-false}
+use Rattle.presence.proofs.ValidLaws.{valid-fits}
+use Rattle.presence.proofs.StateRoundLaws.{views-none, views-made}
+use Rattle.presence.proofs.State.agreed.Goals as goal
+
+pub returns-then-not-setup : goal.returns-then-not-setup
+returns-then-not-setup c = views-none _ _ c.no_views.ensures (not-true _ c.if-not-setup.true)
+
+pub is_skewed-requires : goal.is_skewed-requires
+is_skewed-requires c = (valid-fits _ c.requires).setup.most
+
+pub views_after-requires : goal.views_after-requires
+views_after-requires c = (valid-fits _ c.requires).setup.most
+
+pub returns : goal.returns
+returns c =
+    views-made _ _ c.is_skewed.ensures c.place.ensures c.pick-split.ensures c.views_after.ensures
+    (not-false _ c.if-not-setup.false)

@@ -1,0 +1,6 @@
+-- Eight free axes and a full view.
+use Rattle.scanlock.proofs.LockEventLaws.{fresh-locks-made}
+use Rattle.scanlock.proofs.Locks.fresh.Goals as goal
+
+pub returns : goal.returns
+returns c = fresh-locks-made _ c.free-one.ensures c.full_of.ensures

@@ -1,0 +1,20 @@
+use Rattle.std.proofs.Common.{arith}
+use Rattle.text.specs.Text.{numeral}
+use Rattle.text.proofs.WroteLaws.{wrote_none, wrote_then}
+use Rattle.text.proofs.NumberLaws.{numeral-one, numeral-more}
+use Rattle.text.proofs.number.+put_number.Goals as goal
+
+pub returns-then-places-eq0 : goal.returns-then-places-eq0
+unfolding numeral
+returns-then-places-eq0 t c = (rw c.if-places-eq0.true (wrote_none _ _ (omega arith)), omega arith)
+
+pub returns-then-v-lt10 : goal.returns-then-v-lt10
+returns-then-v-lt10 t c =
+    let w = c.put_byte.ensures in
+    (rw (numeral-one c.args.places c.args.v (omega arith) c.if-v-lt10.true) w, omega (arith, w.next))
+
+pub returns : goal.returns
+returns t c =
+    let w = c.put_number-last.ensures in
+    let v = c.put_byte-2.ensures in
+    (rw (numeral-more c.args.places c.args.v (omega arith) (omega arith)) (wrote_then w.0 v), omega (arith, w.1, v.next))

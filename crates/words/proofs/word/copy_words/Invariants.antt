@@ -1,0 +1,13 @@
+-- After j turns the first j words are written, and the rest is as it was.
+use Rattle.std.proofs.Common.{◌≡◌, ◌-◌, ◌≤◌, length}
+use Rattle.words.specs.Word.{word_at}
+use Rattle.words.specs.Runs.{put_run}
+use Rattle.words.proofs.word.copy_words.Given as goal
+
+abbrev pub invariant-loop-j : goal.invariant-loop-j
+invariant-loop-j l =
+    (l.j ≤ l.k) × (length l.out ≡ length l.initial.out) × (l.out ≡ put_run l.initial.out 0 l.j (word_at l.s))
+
+abbrev pub decreases-loop-j : goal.decreases-loop-j
+decreases-loop-j l =
+    l.k - l.j
