@@ -1,5 +1,5 @@
 // The calls from C: a state is its saved image, read from one slice and written to the output. A refused call writes nothing.
-ghost use Rattle.std.specs.Prelude.{◌≡◌};
+ghost use Rattle.std.specs.Prelude.{◌≡◌, length};
 ghost use Rattle.words.specs.Word.{word_at};
 ghost use Rattle.setup.specs.Setup.{size_in, front_in};
 ghost use Rattle.image.specs.Check.{check_image};
@@ -38,8 +38,7 @@ fn refuse(number: u32, index: u32) -> Answer
 }
 
 // Numbers 1 to 6 and 22 of a setup.
-#[unsafe(no_mangle)]
-pub extern "C" fn presence_check_setup(bytes: &[u8]) -> Answer
+pub fn presence_check_setup(bytes: &[u8]) -> Answer
     ensures { result ≡ check_call bytes.now }
 {
     let v = setup::check::check(bytes);
@@ -48,8 +47,7 @@ pub extern "C" fn presence_check_setup(bytes: &[u8]) -> Answer
 
 // Opens module `own` of a setup, and writes its image: 1 to 6 and 22, 7, 9. There is no state between, whose arrays were copied by calls of memcpy.
 // The words of the setup are copied: those of an accepted setup are in their one form.
-#[unsafe(no_mangle)]
-pub extern "C" fn presence_open(bytes: &[u8], own: u32, out: &mut [u8]) -> Answer
+pub fn presence_open(bytes: &[u8], own: u32, out: &mut [u8]) -> Answer
     ensures { called result out.new ≡ open_call bytes.now own out.old }
 {
     let found = setup::check::check(bytes);
@@ -89,13 +87,7 @@ fn refuse_image(image: &[u8]) -> Answer
 }
 
 // One step, from image to image: 1 to 8 and 22, 9 for the read or the output, which has the length of the image after the step, 10.
-#[unsafe(no_mangle)]
-pub extern "C" fn presence_step(
-    image: &[u8],
-    read: &[u8],
-    controller: u32,
-    out: &mut [u8],
-) -> Answer
+pub fn presence_step(image: &[u8], read: &[u8], controller: u32, out: &mut [u8]) -> Answer
     ensures { called result out.new ≡ step_call image.now read.now controller out.old }
 {
     let n = image_size(image);
@@ -166,8 +158,7 @@ pub extern "C" fn presence_step(
 
 // Has a setup with new P, R and criticalities take the old one's place, `lead` rounds ahead, and writes the image with that change pending: 1 to 8 and
 // 22 of the image, 1 to 6 and 22 of the new setup, 23, 24, 9.
-#[unsafe(no_mangle)]
-pub extern "C" fn presence_change(image: &[u8], bytes: &[u8], lead: u32, out: &mut [u8]) -> Answer
+pub fn presence_change(image: &[u8], bytes: &[u8], lead: u32, out: &mut [u8]) -> Answer
     ensures { called result out.new ≡ change_call image.now bytes.now lead out.old }
 {
     let held = check_image(image);
@@ -193,9 +184,18 @@ pub extern "C" fn presence_change(image: &[u8], bytes: &[u8], lead: u32, out: &m
     refuse(0, 0)
 }
 
+// Copies a slice onto one of its length, byte by byte: std's copy calls memmove, and the library calls nothing that it does not have.
+fn copy(from: &[u8], to: &mut [u8])
+    requires { length from.now ≡ length to.old }
+    ensures { to.new ≡ from.now }
+{
+    for j in 0..from.len() {
+        to[j] = from[j];
+    }
+}
+
 // Tests an image and writes it again, in its one form: 1 to 8 and 22, 9.
-#[unsafe(no_mangle)]
-pub extern "C" fn presence_save(image: &[u8], out: &mut [u8]) -> Answer
+pub fn presence_save(image: &[u8], out: &mut [u8]) -> Answer
     ensures { called result out.new ≡ save_call image.now out.old }
 {
     let v = check_image(image);
@@ -205,7 +205,7 @@ pub extern "C" fn presence_save(image: &[u8], out: &mut [u8]) -> Answer
     if out.len() != image.len() {
         return refuse(9, 0);
     }
-    out.copy_from_slice(image);
+    copy(image, out);
     refuse(0, 0)
 }
 
@@ -243,8 +243,7 @@ fn refuse_word(number: u32, place: u32) -> WordAnswer
 }
 
 // The word to put on the bus, from an image: 1 to 8 and 22.
-#[unsafe(no_mangle)]
-pub extern "C" fn presence_outgoing(image: &[u8]) -> WordAnswer
+pub fn presence_outgoing(image: &[u8]) -> WordAnswer
     ensures { result ≡ outgoing_call image.now }
 {
     let v = check_image(image);
@@ -274,8 +273,7 @@ fn view_word_in(image: &[u8]) -> u32
 }
 
 // The second word to put on the bus, from an image, 0 where its setup is not partitionable: 1 to 8 and 22.
-#[unsafe(no_mangle)]
-pub extern "C" fn presence_outgoing_view(image: &[u8]) -> WordAnswer
+pub fn presence_outgoing_view(image: &[u8]) -> WordAnswer
     ensures { result ≡ outgoing_view_call image.now }
 {
     let found = check_image(image);
@@ -302,8 +300,7 @@ fn refuse_cause(number: u32) -> CauseAnswer
 }
 
 // Reads one word of n modules, whose controller bit is 0 or 1: 2, 10.
-#[unsafe(no_mangle)]
-pub extern "C" fn presence_read_cause(n: u32, controller: u32, word: u32) -> CauseAnswer
+pub fn presence_read_cause(n: u32, controller: u32, word: u32) -> CauseAnswer
     ensures { result ≡ cause_call n controller word }
 {
     if ((n as usize) < LEAST_MODULES) | (MOST_MODULES < n as usize) {

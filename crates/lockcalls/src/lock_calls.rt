@@ -30,8 +30,7 @@ fn call(image: &[u8], event: Event, out: &mut [u8]) -> LockAnswer
 }
 
 // The scan lock of a backplane of n modules: 2 for another n than 2..16, 9.
-#[unsafe(no_mangle)]
-pub extern "C" fn scanlock_open(n: u32, out: &mut [u8]) -> LockAnswer
+pub fn scanlock_open(n: u32, out: &mut [u8]) -> LockAnswer
     ensures { lock_called result out.new ≡ lock_open_call n out.old }
 {
     let o = Locks::open(n);
@@ -43,64 +42,56 @@ pub extern "C" fn scanlock_open(n: u32, out: &mut [u8]) -> LockAnswer
 }
 
 // The view after an accepted step.
-#[unsafe(no_mangle)]
-pub extern "C" fn scanlock_view(image: &[u8], view: u32, out: &mut [u8]) -> LockAnswer
+pub fn scanlock_view(image: &[u8], view: u32, out: &mut [u8]) -> LockAnswer
     ensures { lock_called result out.new ≡ event_call image.now (View view) out.old }
 {
     call(image, Event::View(view), out)
 }
 
 // A module begins a lock.
-#[unsafe(no_mangle)]
-pub extern "C" fn scanlock_begin(image: &[u8], by: u32, axis: u32, out: &mut [u8]) -> LockAnswer
+pub fn scanlock_begin(image: &[u8], by: u32, axis: u32, out: &mut [u8]) -> LockAnswer
     ensures { lock_called result out.new ≡ event_call image.now (Begin by axis) out.old }
 {
     call(image, Event::Begin(by, axis), out)
 }
 
 // A module ends its innermost lock.
-#[unsafe(no_mangle)]
-pub extern "C" fn scanlock_end(image: &[u8], by: u32, axis: u32, out: &mut [u8]) -> LockAnswer
+pub fn scanlock_end(image: &[u8], by: u32, axis: u32, out: &mut [u8]) -> LockAnswer
     ensures { lock_called result out.new ≡ event_call image.now (End by axis) out.old }
 {
     call(image, Event::End(by, axis), out)
 }
 
 // The holder starts a move.
-#[unsafe(no_mangle)]
-pub extern "C" fn scanlock_start(image: &[u8], by: u32, axis: u32, out: &mut [u8]) -> LockAnswer
+pub fn scanlock_start(image: &[u8], by: u32, axis: u32, out: &mut [u8]) -> LockAnswer
     ensures { lock_called result out.new ≡ event_call image.now (Start by axis) out.old }
 {
     call(image, Event::Start(by, axis), out)
 }
 
 // A present module aborts the move.
-#[unsafe(no_mangle)]
-pub extern "C" fn scanlock_abort(image: &[u8], by: u32, axis: u32, out: &mut [u8]) -> LockAnswer
+pub fn scanlock_abort(image: &[u8], by: u32, axis: u32, out: &mut [u8]) -> LockAnswer
     ensures { lock_called result out.new ≡ event_call image.now (Abort by axis) out.old }
 {
     call(image, Event::Abort(by, axis), out)
 }
 
 // The axis reports its move finished.
-#[unsafe(no_mangle)]
-pub extern "C" fn scanlock_finished(image: &[u8], axis: u32, out: &mut [u8]) -> LockAnswer
+pub fn scanlock_finished(image: &[u8], axis: u32, out: &mut [u8]) -> LockAnswer
     ensures { lock_called result out.new ≡ event_call image.now (Finished axis) out.old }
 {
     call(image, Event::Finished(axis), out)
 }
 
 // The axis reports that it has stopped.
-#[unsafe(no_mangle)]
-pub extern "C" fn scanlock_stopped(image: &[u8], axis: u32, out: &mut [u8]) -> LockAnswer
+pub fn scanlock_stopped(image: &[u8], axis: u32, out: &mut [u8]) -> LockAnswer
     ensures { lock_called result out.new ≡ event_call image.now (Stopped axis) out.old }
 {
     call(image, Event::Stopped(axis), out)
 }
 
 // Whether the joystick is live: 1, 2, 3, 8.
-#[unsafe(no_mangle)]
-pub extern "C" fn scanlock_joystick(image: &[u8]) -> LockAnswer
+pub fn scanlock_joystick(image: &[u8]) -> LockAnswer
     ensures { result ≡ joystick_call image.now }
 {
     let v = check_lock(image);

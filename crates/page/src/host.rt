@@ -39,8 +39,7 @@ fn starts_word(offset: u32) -> bool
 }
 
 // The word at a byte offset: 9, 17.
-#[unsafe(no_mangle)]
-pub extern "C" fn presence_page_read(page: &[u8], offset: u32) -> WordAnswer
+pub fn presence_page_read(page: &[u8], offset: u32) -> WordAnswer
     ensures { result ≡ read_call page.now offset }
 {
     if page.len() != 64 {
@@ -53,8 +52,7 @@ pub extern "C" fn presence_page_read(page: &[u8], offset: u32) -> WordAnswer
 }
 
 // Writes a word, and tells the interrupt after it: 9, 17, 18.
-#[unsafe(no_mangle)]
-pub extern "C" fn presence_page_write(page: &mut [u8], offset: u32, value: u32) -> WordAnswer
+pub fn presence_page_write(page: &mut [u8], offset: u32, value: u32) -> WordAnswer
     ensures { written result page.new ≡ write_call page.old offset value }
 {
     if page.len() != 64 {
@@ -71,8 +69,7 @@ pub extern "C" fn presence_page_write(page: &mut [u8], offset: u32, value: u32) 
 }
 
 // Whether the interrupt is on: 9.
-#[unsafe(no_mangle)]
-pub extern "C" fn presence_page_interrupt(page: &[u8]) -> WordAnswer
+pub fn presence_page_interrupt(page: &[u8]) -> WordAnswer
     ensures { result ≡ interrupt_call page.now }
 {
     if page.len() != 64 {

@@ -1,8 +1,8 @@
 -- The vote table: its rule, for all entries together, and what an entry decides.
 use Prim.Native.Nat.{ℕ, ◌+◌, ◌-◌, ◌*◌, ◌/◌, ◌%◌, ◌≤◌, ◌<◌}
-use mathlib.Core.Path.{◌≡◌, refl, ap, ap₂, ◌∙◌}
+use mathlib.Core.Path.{◌≡◌, refl, ap, ap₂, sym, subst, ◌∙◌}
 use mathlib.Core.Logic.{◌⊎◌, inl, inr, ⊎_elim, ◌↔◌}
-use mathlib.Core.Bool.{Bool, true, false, cond}
+use mathlib.Core.Bool.{Bool, true, false, cond, ◌&&◌, ◌||◌}
 use mathlib.Core.List.{List}
 use native.Mathlib.Omega.{arith}
 use lib.ListN.{get_or, length}
@@ -40,6 +40,18 @@ said-decision votes ones own h = rw (le-leb ones votes h) (go (eqb votes 0) (leb
     go true more own = refl
     go false true own = refl
     go false false own = refl
+
+-- the same without a choice, as the code has it
+pub said-by-tests : (entry : ℕ) (own : Bool) → ((eqb entry empty && own) || eqb entry good) ≡ said entry own
+said-by-tests entry own = go (which (eqb entry empty))
+  where
+    here : (own : Bool) → ((eqb empty empty && own) || eqb empty good) ≡ said empty own
+    here true = refl
+    here false = refl
+
+    go : (eqb entry empty ≡ true) ⊎ (eqb entry empty ≡ false) → ((eqb entry empty && own) || eqb entry good) ≡ said entry own
+    go (inl e) = let at : entry ≡ empty = eqb-true entry empty e in subst (λ (x : ℕ). ((eqb x empty && own) || eqb x good) ≡ said x own) (sym at) (here own)
+    go (inr e) = rw e refl
 
 pub decided : {t : List ℕ} (votes ones : ℕ) (own : Bool) → t ≡ vote_table → votes ≤ 15 → ones ≤ votes
     → said (get_or t (votes * 16 + ones) 0) own ≡ decision votes ones own

@@ -25,14 +25,11 @@ pub const VOTES: [u8; 256] = *b"\
     000000011111111-\
     0000000011111111";
 
-// The decision on counted votes, looked up.
+// The decision on counted votes, looked up. No branch, so that a step takes as many instructions where nobody votes.
 pub fn decide(table: &[u8], votes: u32, ones: u32, own: bool) -> bool
     requires { (table.now ≡ vote_table) × (votes ≤ 15) × (ones ≤ votes) }
     ensures { result ≡ decision votes ones own }
 {
     let entry = table[(votes * 16 + ones) as usize];
-    if entry == b'?' {
-        return own;
-    }
-    entry == b'1'
+    ((entry == b'?') & own) | (entry == b'1')
 }

@@ -25,4 +25,4 @@ returns c =
     let a = c.args in
     let e = c.check_image-v.ensures in
     copy-wrote _ a.out.now (ap (λ (v : Verdict). v.number) (sym e) ∙ c.if-v-ne0.false) e c.refuse-2.ensures
-    (λ i. omega (arith, c.shared_slice_known-1.given i)) c.if-out-image.false c.copy_from_slice.ensures.after
+    (λ i. omega (arith, c.shared_slice_known-1.given i)) c.if-out-image.false c.copy.ensures
