@@ -4,7 +4,7 @@ ghost use Rattle.words.specs.Word.{word_at, number_unit};
 ghost use Rattle.words.specs.Array.{array};
 ghost use Rattle.words.specs.Verdict.{all_right};
 ghost use Rattle.words.specs.Runs.{put_run};
-ghost use Rattle.doubles.specs.Double.{double_in};
+ghost use Rattle.doubles.specs.Double.{double_in, of_words};
 ghost use Rattle.setup.specs.Layout.{head_at, score_limit_at, front_words};
 ghost use Rattle.setup.specs.Setup.{return_limit_in};
 ghost use Rattle.setup.specs.Limits.{most_return_limit};
@@ -30,6 +30,16 @@ fn score_fits(limit: f64, present: bool, score: f64) -> bool
     ensures { result ≡ score_fits limit present score }
 {
     is_non_negative(score) & (present == (score < limit))
+}
+
+// The same of a score in two words, the high half first. A pattern below that of infinity is that of a number from 0 up, so the high half alone says it.
+fn words_fit(limit: f64, present: bool, high: u32, low: u32) -> bool
+    ensures { result ≡ score_fits limit present (of_words high low) }
+{
+    if high < 0x7ff00000 {
+        return present == (of_words(high, low) < limit);
+    }
+    false
 }
 
 // Whether word i of the scores is right: a high half where its score is, a low half always.
@@ -73,7 +83,7 @@ pub fn load_scores(
         let y = word_at(s, i + 2 * j + 1);
         let z = gap(15, j, word_at(s, l + j));
         let present = bit_at(view, j);
-        let a = score_fits(limit, present, of_words(x, y));
+        let a = words_fit(limit, present, x, y);
         let b = return_fits(q, present, z);
         good = good & (a & b);
         high[j] = x;

@@ -42,7 +42,7 @@ loop-j-preserved c =
     let present = c.bit_at-present.ensures in (
       omega (arith, h),
       all-step _ _ l.invariant.1
-          (ap₂ ◌&&◌ (score-by w (front_words true) n l.j r.0 r.1 present i (c.of_words.ensures ∙ ap₂ of_words x y) c.score_fits-a.ensures)
+          (ap₂ ◌&&◌ (score-by w (front_words true) n l.j r.0 r.1 present i (ap₂ of_words x y) c.words_fit-a.ensures)
           (return-by w (front_words true) n l.j (omega arith) r.3 r.2 r.1 present at z (omega arith) c.gap-z.ensures c.return_fits-b.ensures)),
       array-step _ _ l.invariant.2 (x ∙ ap (λ (a : ℕ). w (a + 2 * l.j)) i),
       array-step _ _ l.invariant.3 (y ∙ ap (λ (a : ℕ). w (a + 2 * l.j + 1)) i),
