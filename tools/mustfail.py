@@ -1,4 +1,5 @@
-"""The edits that the prover has to refuse (crates/*/must-fail/*.edit), and what it said of them (target/must-fail/CRATE/EDIT/.log).
+"""The edits that the prover has to refuse (crates/*/must-fail/*.edit), and what it said of them
+(target/must-fail/CRATE/EDIT.log, which tools/tryedits writes).
 
 An edit is a comment in the first line, which says for each slip what must be so and is not, and replacements:
 
@@ -54,11 +55,15 @@ def is_alike(edit):
 Error = collections.namedtuple("Error", "file name")
 
 
+# what the prover says of a declaration that it did not check, since another that it rests on was refused
+RESTS = re.compile(r"`[^`]+` was not admitted|\d+ declarations? that depends? on `")
+
+
 def errors(log):
     """Each thing that the prover refused for itself: file below the crate, and name if the error names one. What it refused only since another
     that it rests on was not admitted is left out."""
     found = re.findall(r"(?m)^\S*/((?:proofs|specs)/[^\s:]+\.antt):\d+:\d+: error: (?:`([^`]+)`: )?(.*)$", log)
-    return [Error(file, name) for file, name, text in found if not re.match(r"`[^`]+` was not admitted", text)]
+    return [Error(file, name) for file, name, text in found if not RESTS.match(text)]
 
 
 def listed(log):
@@ -66,22 +71,24 @@ def listed(log):
     return dict(re.findall(r"(?m)^fn \w+::(\S+): (.*)$", log))
 
 
+# the files of a function's proof; a function of a cycle has them in a folder with a + before its name
+PROOF_FILES = ("Answers.antt", "Invariants.antt", "Proof.antt")
+
+
 def function_refused(log, name):
     """Whether the prover refused a function for itself, and not only since it calls another that is not proved.
 
-    A function that calls one that is not proved is listed as `not proved; it calls ..`, wrong or not. If it is wrong, its own proof has an error
-    besides. One whose proof the prover makes alone has no proof file; if it is wrong, the list names what it could not close."""
+    A function that calls one that is not proved is listed as `not proved; it calls ..`, wrong or not. If it is wrong, its own files have an error
+    besides. One whose goals the prover closes alone has no such file, or none for that goal; if it is wrong, the list says which goal `search` did
+    not prove. Where it did not try, since it waits for the proof of what is called, the list says `no proof: it calls ..` alone."""
     said = listed(log).get(name, "proved")
     if said == "proved":
         return False
-    alone = re.sub(r"^no proof: expected `[^`]+` in [^;]*", "", said)
-    alone = re.sub(r"^not proved", "", alone)
-    alone = re.sub(r"; it calls `[^`]+`.*$", "", alone)
-    if alone or "; it calls `" not in said:
+    if "did not prove" in said or "it calls `" not in said:
         return True
     *folder, own = name.split("::")
-    proofs = {"/".join(["proofs", *folder, place, "Proof.antt"]) for place in (own, "+" + own)}
-    return any(error.file in proofs for error in errors(log))
+    files = {"/".join(["proofs", *folder, place, file]) for place in (own, "+" + own) for file in PROOF_FILES}
+    return any(error.file in files for error in errors(log))
 
 
 def law_refused(log, law):

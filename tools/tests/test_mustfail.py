@@ -9,33 +9,37 @@ import unittest
 from common import TOOLS
 
 import mustfail
+import trials
 
 loader = importlib.machinery.SourceFileLoader("tryslips", os.path.join(TOOLS, "tryslips"))
 tryslips = importlib.util.module_from_spec(importlib.util.spec_from_loader("tryslips", loader))
 loader.exec_module(tryslips)
 
 # `low` and `made` are wrong; `high` calls `low`, `over` calls `made`, and neither is wrong; `both` is wrong and calls `low`, as `told` does,
-# whose proof the prover makes itself
+# whose goals the prover closes itself; `waits` calls `low`, and its goals were not tried; `looped` has a wrong invariant
 LOG = """\
-/w/proofs/part/low/Proof.antt:14:13: error: `returns`: `search`: no proof of `Post` was found
+./proofs/part/low/Answers.antt:14:13: error: `returns`: `search`: no proof of `Post` was found
   was found. Every way was tried.
-/w/proofs/part/low/Proof.antt:17:61: error: `low-spec`: `returns` was not admitted (it has holes), so this cannot be checked
-/w/proofs/part/high/Proof.antt:18:16: error: `high-spec`: `close` was not admitted (it has holes), so this cannot be checked
-/w/proofs/Card/both/Proof.antt:9:3: error: `loop-again`: `omega`: the goal does not follow from what it read
-/w/proofs/Card/both/Proof.antt:30:5: error: `both-spec`: `loop-again` was not admitted (it has holes), so this cannot be checked
-/w/proofs/PartLaws.antt:7:5: error: `cut-law`: computed as far as they go, the two types differ only where one has `2`
-/w/proofs/PartLaws.antt:9:5: error: `user-law`: `cut-law` was not admitted (it has holes), so this cannot be checked
-/w/proofs/part/+again/Proof.antt:14:13: error: `returns`: `search`: no proof of `Post` was found
-/w/proofs/alone/Proof.antt:14:13: error: `returns`: `search`: no proof of `Post` was found
-note: /w/src/part.rt:23:1: it is not proved that what the function ensures holds when it returns (`returns`)
+./proofs/part/high/Answers.antt:18:16: error: 1 declaration that depends on `cut-law`, which was not admitted, was not checked: returns
+./proofs/Card/both/Answers.antt:9:3: error: `loop-again`: `omega`: the goal does not follow from what it read
+./proofs/part/looped/Invariants.antt:9:3: error: `invariant-loop-j`: as printed, the two types differ
+./proofs/PartLaws.antt:7:5: error: `cut-law`: computed as far as they go, the two types differ only where one has `2`
+./proofs/PartLaws.antt:9:5: error: `user-law`: `cut-law` was not admitted (it has holes), so this cannot be checked
+./proofs/PartLaws.antt:12:5: error: 2 declarations that depend on `user-law`, which was rejected, were not checked: more-law, other-law
+./proofs/part/+again/Answers.antt:14:13: error: `returns`: `search`: no proof of `Post` was found
+./proofs/alone/Proof.antt:14:13: error: `returns`: `search`: no proof of `Post` was found
+note: src/part.rt:23:1: it is not proved that what the function ensures holds when it returns (`returns`)
 fn some::part::right: proved
 fn some::part::low: not proved
 fn some::part::high: not proved; it calls `some::part::low`, which is not proved
 fn some::Card::both: not proved; it calls `some::part::low`, which is not proved
+fn some::part::looped: not proved; it calls `some::part::low` and `some::part::made`, which are not proved
 fn some::part::again: not proved; it calls `some::part::low`, which is not proved
-fn some::part::made: no proof: expected `made-spec` in /w/proofs/part/made/Proof.antt; `search` does not close `returns`
-fn some::part::told: no proof: expected `told-spec` in /w/proofs/part/told/Proof.antt; `search` does not close `returns`; it calls `some::part::low`, which is not proved
-fn some::part::over: no proof: expected `over-spec` in /w/proofs/part/over/Proof.antt; it calls `some::part::made`, which is not proved
+fn some::part::made: no proof: expected answers in ./proofs/part/made/Answers.antt; `search` did not prove `returns`
+fn some::part::told: no proof: expected answers in ./proofs/part/told/Answers.antt; `search` did not prove `returns`; it calls `some::part::low`, which is not proved
+note: `search` has not tried the goals of `some::part::waits`, which wait for a callee's proof: some may be open after it
+fn some::part::waits: no proof: it calls `some::part::low`, which is not proved
+fn some::part::over: not proved; it calls `some::part::made`, which is not proved
 fn some::alone: not proved; it calls `some::part::low`, which is not proved
 logic=not-proved
 """
@@ -68,11 +72,13 @@ class Functions(unittest.TestCase):
     def test_one_that_only_calls_a_wrong_one_is_not(self):
         self.assertFalse(self.refused("part::high"))
         self.assertFalse(self.refused("part::over"))
+        self.assertFalse(self.refused("part::waits"))
 
     def test_a_wrong_one_that_calls_a_wrong_one_is(self):
         self.assertTrue(self.refused("Card::both"))
         self.assertTrue(self.refused("part::told"))
         self.assertTrue(self.refused("part::again"))
+        self.assertTrue(self.refused("part::looped"))
         self.assertTrue(self.refused("alone"))
 
     def test_one_that_is_proved_or_not_there_is_not(self):
@@ -85,6 +91,7 @@ class Functions(unittest.TestCase):
 
     def test_without_its_own_error_a_caller_is_not(self):
         self.assertFalse(mustfail.function_refused(LOG.replace("error: `loop-again`: `omega`", "error: `loop-again`: `cut-law` was not admitted"), "Card::both"))
+        self.assertFalse(mustfail.function_refused(LOG.replace("error: `loop-again`: `omega`", "error: 1 declaration that depends on `cut-law`, which"), "Card::both"))
 
 
 class Laws(unittest.TestCase):
@@ -132,12 +139,12 @@ class Alone(unittest.TestCase):
                 os.mkdir(os.path.dirname(path))
                 with open(path, "w", encoding="utf-8") as file:
                     file.write(before)
-                tryslips.replaced(EDIT, folder, slip.places)
+                trials.replaced(EDIT, folder, slip.places)
                 with open(path, encoding="utf-8") as file:
                     self.assertEqual(file.read(), wanted)
 
     def test_what_refuses_is_each_law_and_function_by_itself(self):
-        self.assertEqual(tryslips.refusing(LOG), ["cut-law", "part::low", "Card::both", "part::again", "part::made", "part::told", "alone"])
+        self.assertEqual(tryslips.refusing(LOG), ["cut-law", "part::low", "Card::both", "part::looped", "part::again", "part::made", "part::told", "alone"])
 
 
 if __name__ == "__main__":
