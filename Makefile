@@ -1,17 +1,17 @@
 # make run      builds the bench and plays examples/sheet.hex, document 01's bench sheet
-# make test     the gate: proves everything from nothing, tries every wrong program that must be refused, then runs the harness
+# make test     the gate: proves everything, tries every wrong program that must be refused, then runs the harness
 # make harness  the harness alone: Rust implementations of the documents and a C program against the proved library and the bench
+# make edits    tries every wrong program and keeps all that the prover says of it, by which each slip is refused for itself; the gate does it too
 # make tools-test   the tests of the tools for run scripts and what the bench prints, alone; harness runs them too
 # make soak     the harness on a hundred million calls, a million histories of the scan lock, a hundred thousand run scripts and twenty thousand
 #               renumbered racks
 # make measure  instructions of a step beside plain C, stack of every call, code size, and a step's time beside the Rust implementation
 # make time     time of the bench beside the Rust player: 100,000 rounds of 16 modules
-.PHONY: run test harness harness-model harness-calls harness-scripts harness-tools harness-c tools-test soak measure time library bench rust clean
+.PHONY: run test harness harness-model harness-calls harness-scripts harness-edits harness-tools harness-c edits tools-test soak measure time library bench rust clean
 
 LIB := target/staticlib
-# the crates that export calls, the dearest first, and those of the repository that they rest on
+# the crates whose calls are exported, each by a thin crate of its own, NAME_c
 EXPORTS := calls lockcalls page
-BELOW = $(sort $(filter $(notdir $(wildcard crates/*)),$(foreach crate,$(EXPORTS),$(shell sed -n 's/^$(crate)://p' crates.txt))))
 BENCH := target/bin/bench
 RUST := target/harness/release
 SEED ?= 1
@@ -27,23 +27,26 @@ test:
 	.ci/run
 
 # the proved library for C, $(LIB)/libgirmaut.a: the objects of every crate that exports calls; the linker takes those that are called.
-# rt proves such a crate once more for its object, so two are done at a time; first what they rest on, which rt skips where it is unchanged.
+# rt lib proves what such a crate rests on where it has not done so; what rt ci proved counts for rt ci alone.
 library:
-	rt check $(BELOW)
-	printf '%s\n' $(EXPORTS) | xargs -n 1 -P 2 harness/staticlib
+	for crate in $(EXPORTS); do harness/staticlib $$crate || exit 1; done
 	rm -f $(LIB)/libgirmaut.a
 	(echo create $(LIB)/libgirmaut.a; for crate in $(EXPORTS); do echo addlib $(LIB)/lib$$crate.a; done; echo save; echo end) | ar -M
 
-# the proved bench, $(BENCH); rt skips what is unchanged
+# the proved bench, $(BENCH); rt skips what is unchanged. In the gate it is the one that rt ci has just proved, built and run
 bench:
-	rt check bench
+ifndef GIRMAUT_GATE
+	cd crates/bench && rt run </dev/null >/dev/null
+endif
+	mkdir -p $(dir $(BENCH))
+	cp crates/bench/out/bench $(BENCH)
 
 rust: library
 	$(CARGO) build $(CARGO_FLAGS)
 
 # two parts at a time; each prints what it has to say when it is done
 harness: rust bench
-	$(MAKE) --no-print-directory -j2 -O harness-c harness-tools harness-calls harness-model harness-scripts
+	$(MAKE) --no-print-directory -j2 -O harness-tools harness-c harness-calls harness-model harness-scripts
 
 # with the flags of the build, so that nothing is built twice
 harness-model:
@@ -63,11 +66,20 @@ harness-scripts:
 	$(RUST)/scripts 1000 $(SEED) $(BENCH)
 	$(RUST)/renumber 500 $(SEED) $(BENCH)
 
-harness-tools:
+# all that the prover says with each edit, which the tests of the tools read; without the gate they read what is there
+harness-edits:
+ifdef GIRMAUT_GATE
+	tools/tryedits
+endif
+
+harness-tools: harness-edits
 	$(TOOLS_TEST)
 
 harness-c:
 	$(C) c-all
+
+edits:
+	tools/tryedits
 
 tools-test: bench
 	$(TOOLS_TEST)

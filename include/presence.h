@@ -25,7 +25,7 @@
  *   presence_page_write      the host's write of flags or enable
  *   presence_page_interrupt  whether the interrupt to the host is on
  *
- * All are in libgirmaut.a (make library); libcalls.a (rt staticlib calls)
+ * All are in libgirmaut.a (make library); libcalls.a (harness/staticlib calls)
  * has the first eight alone.
  *
  * A module's state is its image, a block of bytes that the caller keeps.

@@ -215,7 +215,7 @@ def text_bytes(path):
 
 
 # the object that holds an implementation's calls
-OBJECTS = {"plain": "plain.o", "presence": "calls.o"}
+OBJECTS = {"plain": "plain.o", "presence": "calls_c.o"}
 
 
 def print_code_sizes(both, archive):

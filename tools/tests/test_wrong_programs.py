@@ -16,12 +16,13 @@ from collections import Counter, namedtuple
 from common import ROOT
 
 import mustfail
+from trials import LOGS, log_of
 
 CRATES = os.path.join(ROOT, "crates")
-LOGS = os.path.join(ROOT, "target", "must-fail")
 # crates whose functions the table lists; nothing is built on bench, and agreement has no code
-LISTED = ("words", "doubles", "setup", "vote", "rules", "accounts", "changes", "views", "image", "presence", "calls", "page", "script", "text", "bus", "backplane", "scanlock", "lockcalls")
-# set by the gate, which has tried every edit before it runs these tests
+LISTED = ("words", "doubles", "setup", "vote", "rules", "accounts", "changes", "views", "image", "presence", "calls", "page", "script", "text", "bus", "backplane", "scanlock", "lockcalls",
+          "calls_c", "page_c", "lockcalls_c")
+# set by the gate, which has tried every edit (tools/tryedits) before it runs these tests
 IN_GATE = "GIRMAUT_GATE" in os.environ
 
 
@@ -58,13 +59,20 @@ def reachable(crate):
     passed on by `pub use`, and public ones of public structs."""
     files = sources(crate)
     open_files = ["lib", *re.findall(r"^pub mod (\w+)", files["lib"], re.M)]
-    passed_on = re.findall(r"^pub use (\w+)::(\w+);", files["lib"], re.M)
+    passed_on = [tuple(path.split("::")) for path in imports(files["lib"], "pub use ") if path.count("::") == 1]
     open_structs = re.findall(r"^pub (?:struct|enum) (\w+)", "\n".join(files.values()), re.M)
     for module, source in files.items():
         for f in functions(source):
             open_here = f.struct in open_structs if f.struct else module in open_files or (module, f.name) in passed_on
             if f.exported or f.public and open_here:
                 yield f"{f.struct or module}::{f.name}".removeprefix("lib::"), f
+
+
+def imports(source, word="use "):
+    """The paths that the imports of a file bring in, those in braces each by itself."""
+    for path in re.findall(rf"^{word}([^;]*);", source, re.M):
+        front, braces, names = "".join(path.split()).partition("{")
+        yield from (front + name for name in names.rstrip("}").split(",") if name) if braces else (front,)
 
 
 def called_from_another_crate(crate, name, crates=None):
@@ -74,7 +82,7 @@ def called_from_another_crate(crate, name, crates=None):
     method = rf"(?:\b{owner}::|\.){function}\("
     for other in crates or os.listdir(CRATES):
         for source in sources(other).values() if other != crate else ():
-            if re.search(free, source) or owner[:1].isupper() and re.search(rf"\b{crate}::", source) and re.search(method, source):
+            if re.search(free, source) or any(re.fullmatch(free, path) for path in imports(source)) or owner[:1].isupper() and re.search(rf"\b{crate}::", source) and re.search(method, source):
                 return True
     return False
 
@@ -122,13 +130,6 @@ def name_of(crate, module, struct, name):
     declared = re.search(rf"^(pub )?(struct|enum) {struct}\b", text(CRATES, crate, "src", module + ".rt"), re.M)
     inside = declared and module not in ("lib", "main")
     return f"{module}::{struct}::{name}" if inside else f"{struct}::{name}"
-
-
-def log_of(crate, edit):
-    """What the prover said with an edit; None if it has not been tried since it was written."""
-    log = os.path.join(LOGS, crate, edit, ".log")
-    written = os.path.getmtime(os.path.join(CRATES, crate, "must-fail", edit + ".edit"))
-    return text(log) if os.path.exists(log) and os.path.getmtime(log) >= written else None
 
 
 def laws(crate):
@@ -185,7 +186,7 @@ class WrongPrograms(unittest.TestCase):
                 self.assertEqual(len(named), 2)
                 self.assertLessEqual(named, set(edits(crate)))
 
-    @unittest.skipUnless(IN_GATE or os.path.isdir(LOGS), "no edit has been tried: rt must-fail does")
+    @unittest.skipUnless(IN_GATE or os.path.isdir(LOGS), "no edit has been tried: tools/tryedits does")
     def test_with_each_edit_its_function_is_not_proved(self):
         for (crate, name), named in self.table.items():
             for edit in named:
@@ -201,7 +202,7 @@ class WrongPrograms(unittest.TestCase):
                 with self.subTest(f"{crate} {edit}"):
                     self.assertLessEqual({"specs", "src"}, {file.split("/")[0] for slip in mustfail.slips(content) for file, _ in slip.places})
 
-    @unittest.skipUnless(IN_GATE or os.path.isdir(LOGS), "no edit has been tried: rt must-fail does")
+    @unittest.skipUnless(IN_GATE or os.path.isdir(LOGS), "no edit has been tried: tools/tryedits does")
     def test_with_a_slip_in_the_proofs_too_every_function_is_proved(self):
         for crate, edit, content in every_edit():
             log = self.tried(crate, edit) if "\nfile: proofs/" in content else None
@@ -235,7 +236,7 @@ class WrongPrograms(unittest.TestCase):
                 found = Counter(who for inside, law in slips(crate, content) for who in (*inside, law) if who)
                 self.assertEqual([who for who, times in found.items() if times > 1], [], "two slips, of which one may hide the other; or write `also:`")
 
-    @unittest.skipUnless(IN_GATE or os.path.isdir(LOGS), "no edit has been tried: rt must-fail does")
+    @unittest.skipUnless(IN_GATE or os.path.isdir(LOGS), "no edit has been tried: tools/tryedits does")
     def test_each_slip_is_refused_for_itself(self):
         for crate, edit, content in every_edit():
             log = self.tried(crate, edit)
