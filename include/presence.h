@@ -33,14 +33,15 @@
  * follow from its arguments alone.  The functions use no heap, no static
  * variables and no C library calls.  With counts and with fading (see SETUP),
  * with head bit 5 and without, an accepted presence_step takes 1,112 bytes of
- * stack (measured, for N = 2, 4, 8 and 16) and a refused one 1,272,
+ * stack (measured with an older kit, N = 2, 4, 8, 16) and a refused one 1,272,
  * presence_page_step 1,352 and 1,512, presence_page_open 408, presence_open
  * 312, presence_change 296, presence_save 216; no other call takes more than
  * 200.
  *
  * Instructions of an accepted presence_step and presence_page_step (page), the
- * most that were counted in quiet and loud rounds and in rounds in which
- * modules outside the view count or return, with every l at N and with others.
+ * most that were counted (with an older kit) in quiet and loud rounds and in
+ * rounds in which modules outside the view count or return, with every l at N
+ * and with others.
  * They do not grow steadily with N: with counts 3 modules take more than 4, 5
  * to 7 more than 8, 11 more than 12, 13 to 15 more than 16; with fading 6 and 7
  * more than 8, 11 more than 12, 14 and 15 more than 16.
