@@ -1,18 +1,37 @@
-"""The edits that the prover has to refuse (crates/*/must-fail/*.edit), and what it said of them (target/must-fail/CRATE/EDIT/.log).
+"""The edits that the prover has to refuse, and what it said of them (target/must-fail/CRATE/EDIT/.log).
+
+They stand in two folders. Those of crates/*/must-fail/ `rt` tries itself, each by a check of its whole crate: the two for each function that outsiders
+can call, and one at least of every crate. The further ones, of crates/*/must-fail/further/, tools/tryedits tries, on top of what is proved.
 
 An edit is a comment in the first line, which says for each slip what must be so and is not, and replacements:
 
     file: PATH      holds for what follows, below src/, specs/ or proofs/ of the crate
     law: NAME       the law that the slip that follows makes false, and that has to refuse it: LAW, or FILE.LAW where two files have one of that name, or MODULE::FUNCTION;
-                    every slip that is in no function names one, in a definition or, as in a table, in the code
-    also: same slip the replacement that follows belongs to the slip before it
+                    every slip that is in no function names one, in a definition or, as in a table, in the code. Where two slips are for one law, each names the
+                    field of the law's proof that it makes false, LAW/FIELD; where two are in one function, the answer in its proof, MODULE::FUNCTION/ANSWER
+    also: same slip the replacement that follows belongs to the slip before it; a slip in a definition and in the code, with the proofs between them or not,
+                    is in both alike, and its law has to refuse it
     old: TEXT       stands once in the file
     new: TEXT
 
 `rt` reads file:, old: and new:, and passes over every other line.
 """
 import collections
+import os
 import re
+
+from pagetools import ROOT, read
+
+def files(crate):
+    """The edits of a crate, those of both folders: where each stands, by its name."""
+    folder = os.path.join(ROOT, "crates", crate, "must-fail")
+    found = {}
+    for part in (folder, os.path.join(folder, "further")):
+        for name in sorted(os.listdir(part)) if os.path.isdir(part) else ():
+            if name.endswith(".edit"):
+                found[name.removesuffix(".edit")] = os.path.join(part, name)
+    return dict(sorted(found.items()))
+
 
 Slip = collections.namedtuple("Slip", "file law places")
 
@@ -46,19 +65,33 @@ def reason(edit):
     return found[1].strip()
 
 
-def is_alike(edit):
-    """Whether an edit makes one slip in definition and code alike, or in the proofs too: then it is a law or a case that has to refuse it."""
-    return reason(edit).endswith("though definition and code have it alike") or "\nfile: proofs/" in edit
+def parts(slip):
+    """The folders of the crate that a slip changes."""
+    return {file.split("/")[0] for file, _ in slip.places}
 
 
-Error = collections.namedtuple("Error", "file name")
+def is_alike(slip):
+    """Whether a slip is in definition and code alike: then the contracts have it too, and it is a law or a case that has to refuse it."""
+    return {"specs", "src"} <= parts(slip)
+
+
+Error = collections.namedtuple("Error", "file line column name")
 
 
 def errors(log):
-    """Each thing that the prover refused for itself: file below the crate, and name if the error names one. What it refused only since another
-    that it rests on was not admitted is left out."""
-    found = re.findall(r"(?m)^\S*/((?:proofs|specs)/[^\s:]+\.antt):\d+:\d+: error: (?:`([^`]+)`: )?(.*)$", log)
-    return [Error(file, name) for file, name, text in found if not re.match(r"`[^`]+` was not admitted", text)]
+    """Each thing that the prover refused for itself: file below the crate, line and column, and name if the error names one. What it refused only
+    since another that it rests on was not admitted is left out."""
+    found = re.findall(r"(?m)^\S*/((?:proofs|specs)/[^\s:]+\.antt):(\d+):(\d+): error: (?:`([^`]+)`: )?(.*)$", log)
+    return [Error(file, int(line), int(column), name) for file, line, column, name, text in found if not re.match(r"`[^`]+` was not admitted", text)]
+
+
+def field_at(proof, line, column):
+    """The field of a record in whose value a place of a proof stands, or None: the prover goes through the fields one by one, and refuses each that
+    is wrong."""
+    lines = proof.splitlines()[:line]
+    begin = max(k for k, text in enumerate(lines) if text[:1].strip() or k == 0)
+    found = re.findall(r"(?m)(?:^ +|[{;] )([^\s={};]+) = ", "\n".join([*lines[begin:-1], lines[-1][:column - 1]]))
+    return found[-1] if found else None
 
 
 def listed(log):
@@ -66,27 +99,40 @@ def listed(log):
     return dict(re.findall(r"(?m)^fn \w+::(\S+): (.*)$", log))
 
 
-def function_refused(log, name):
-    """Whether the prover refused a function for itself, and not only since it calls another that is not proved.
+def answers(log, name):
+    """The answers in the proof of a function that the prover refused for themselves."""
+    *folder, own = name.split("::")
+    proofs = {"/".join(["proofs", *folder, place, "Proof.antt"]) for place in (own, "+" + own)}
+    return {error.name for error in errors(log) if error.file in proofs}
 
-    A function that calls one that is not proved is listed as `not proved; it calls ..`, wrong or not. If it is wrong, its own proof has an error
-    besides. One whose proof the prover makes alone has no proof file; if it is wrong, the list names what it could not close."""
+
+def function_refused(log, name):
+    """Whether the prover refused a function for itself, and not only since it calls another that is not proved, or its proof cites a law that is not.
+
+    A function that calls one that is not proved is listed as `not proved; it calls ..`, wrong or not, and one whose proof cites a law that was not
+    admitted as `not proved`. If it is wrong, an answer in its own proof is refused besides. One whose proof the prover makes alone has no proof file;
+    if it is wrong, the list names what it could not close."""
     said = listed(log).get(name, "proved")
     if said == "proved":
         return False
     alone = re.sub(r"^no proof: expected `[^`]+` in [^;]*", "", said)
     alone = re.sub(r"^not proved", "", alone)
     alone = re.sub(r"; it calls `[^`]+`.*$", "", alone)
-    if alone or "; it calls `" not in said:
-        return True
-    *folder, own = name.split("::")
-    proofs = {"/".join(["proofs", *folder, place, "Proof.antt"]) for place in (own, "+" + own)}
-    return any(error.file in proofs for error in errors(log))
+    return bool(alone) or bool(answers(log, name))
 
 
-def law_refused(log, law):
-    """Whether the prover refused a law, a theorem or a case for itself; FILE.LAW names its file, and MODULE::FUNCTION stands for a function."""
+def field_of(error, proofs):
+    """The field of a law's proof that an error is in, or None."""
+    return field_at(read(os.path.join(proofs, os.path.basename(error.file))), error.line, error.column)
+
+
+def law_refused(log, law, proofs):
+    """Whether the prover refused a law, a theorem or a case for itself, or the field of it that is named; FILE.LAW names its file, and
+    MODULE::FUNCTION stands for a function, or for one answer in its proof. `proofs` is the folder of the proofs as they are without the edit: an edit
+    leaves every line where it was."""
+    law, _, part = law.partition("/")
     if "::" in law:
-        return function_refused(log, law)
+        return part in answers(log, law) if part else function_refused(log, law)
     file, _, name = law.rpartition(".")
-    return any(error.name == name and re.fullmatch(r"\w+/%s\.antt" % (file or r"[^/]+"), error.file) for error in errors(log))
+    found = [error for error in errors(log) if error.name == name and re.fullmatch(r"\w+/%s\.antt" % (file or r"[^/]+"), error.file)]
+    return any(not part or part == field_of(error, proofs) for error in found)

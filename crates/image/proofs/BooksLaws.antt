@@ -1,5 +1,10 @@
 -- A change that takes effect leaves accounts within the new limits.
-use Rattle.std.proofs.Common.{◌≡◌, ℕ, ◌<◌, Bool, true, false, ◌⊎◌, get_or, sym, refl, ap, ◌∙◌, subst, inl, inr, ⊎_elim, arith}
+use mathlib.Core.Path.{◌≡◌, ap, ◌∙◌, subst, sym, refl}
+use mathlib.Core.Bool.{Bool, true, false}
+use mathlib.Core.Logic.{◌⊎◌, inl, inr, ⊎_elim}
+use Prim.Native.Nat.{ℕ, ◌<◌}
+use native.Mathlib.Omega.{arith}
+use lib.ListN.{get_or}
 use Rattle.words.specs.Bits.{bit}
 use Rattle.words.proofs.Truth.{clash}
 use Rattle.words.proofs.ArrayLaws.{clear_from, array-clear, array-length}

@@ -1,6 +1,6 @@
--- The check of a saved state: numbers 1 to 8 and 22 in their order, each with the index of its word. (document 01, "Answers and their order";
+-- The check of a saved state: numbers 1 to 5, 7, 8 and 22 in their order, each with the index of its word. (document 01, "Answers and their order";
 -- document 02, E9, E10 and E11)
-use Rattle.std.specs.Prelude.{ℕ, ◌+◌, Bool, cond, ◌&&◌, List, ◌∷◌, ◌++◌, length, ◌==◌}
+use Rattle.std.specs.Prelude.{ℕ, ◌+◌, Bool, cond, ◌&&◌, List, ◌∷◌, ◌++◌, length, eqb}
 use Rattle.words.specs.Word.{word_at}
 use Rattle.words.specs.Verdict.{is_accepted, Test, single, and_then, first_refusal}
 use Rattle.words.specs.declared.Verdict.{Verdict}
@@ -46,11 +46,11 @@ image_length_in s = image_length (front_in (word_at s)) (size_in (word_at s head
 
 -- N by the head where numbers 1 to 3 accept, else 0
 unfoldable pub image_size : List ℕ → ℕ
-image_size s = cond (is_accepted (check_head s (length s == image_length_in s))) (size_in (word_at s head_at)) 0
+image_size s = cond (is_accepted (check_head s (eqb (length s) (image_length_in s)))) (size_in (word_at s head_at)) 0
 
--- numbers 1 to 8 and 22
+-- numbers 1 to 5, 7, 8 and 22
 unfoldable pub check_image : List ℕ → Verdict
-check_image s = and_then (check_head s (length s == image_length_in s)) (first_refusal (image_tests s (size_in (word_at s head_at))))
+check_image s = and_then (check_head s (eqb (length s) (image_length_in s))) (first_refusal (image_tests s (size_in (word_at s head_at))))
 
 -- The tests of the words that stand alone, as one pass joins them.
 abbrev pub words_right : (ℕ → ℕ) → ℕ → ℕ → Bool
@@ -60,4 +60,4 @@ words_right w front n =
 -- The test of word j of a section with one word a module, by its kind and place; only the search through such a section names it.
 unfoldable pub word_test : (ℕ → ℕ) → ℕ → ℕ → ℕ → ℕ → ℕ → Bool
 word_test w front n kind at j =
-    cond (kind == 11) (row_test w front n j) (counter_of kind j (w (at + j)) && fits_by kind (basis_in w front n j) (counter_in (w (at + j))))
+    cond (eqb kind 11) (row_test w front n j) (counter_of kind j (w (at + j)) && fits_by kind (basis_in w front n j) (counter_in (w (at + j))))

@@ -1,6 +1,6 @@
 -- A section of counters: a word for each module, with its number and one counter. What is one of every such section: its words, their test, what is
 -- read, what is written, and which counters have room. (document 01, "What runs", kinds 13 and 14; document 02, E6, kind 15)
-use Rattle.std.specs.Prelude.{ℕ, ◌+◌, ◌-◌, ◌*◌, ◌/◌, ◌%◌, ◌^◌, Bool, ◌&&◌, List, [], ◌∷◌, ◌==◌, slice_index}
+use Rattle.std.specs.Prelude.{ℕ, ◌+◌, ◌*◌, ◌-◌, ◌/◌, ◌%◌, ◌^◌, Bool, ◌&&◌, List, [], ◌∷◌, get_or, eqb}
 use Rattle.words.specs.Word.{word_at, kind_unit, number_unit}
 use Rattle.words.specs.Bits.{bit}
 use Rattle.words.specs.Array.{array, bounded}
@@ -23,7 +23,7 @@ counter_in w = w % number_unit
 
 -- a word of this kind, of module j + 1
 abbrev pub counter_of : ℕ → ℕ → ℕ → Bool
-counter_of kind j w = w / number_unit == kind * 2 ^ 5 + (j + 1)
+counter_of kind j w = eqb (w / number_unit) (kind * 2 ^ 5 + (j + 1))
 
 -- the kind of the words, their place in an image of n modules with so many words before theirs, the counters that they hold, and which counters are right, on the basis of what
 -- other words say of the module
@@ -69,7 +69,7 @@ values_in s front n x = array n (λ j. counter_in (word_at s (x.at front n + j))
 
 -- written
 abbrev pub section_run : ℕ → Counters → CounterSection → Run
-section_run n c x = record { count = n; word = λ j. counter_word x.kind j (slice_index (x.values c) j) }
+section_run n c x = record { count = n; word = λ j. counter_word x.kind j (get_or (x.values c) j 0) }
 
 -- every counter has room in its word, and the entries from n on are 0
 abbrev pub section_roomy : ℕ → Counters → CounterSection → Bool

@@ -1,8 +1,8 @@
 -- The accounts of the modules: their sections in their order, by counts or by scores, what all of them are read as and written as. (document 01,
 -- "What runs", kinds 13 and 14; the return counts stand in Returns.antt, the scores in Scores.antt)
-use Rattle.std.specs.Prelude.{◌≡◌, ℕ, ◌+◌, Bool, true, false, cond, not, ◌&&◌, ◌||◌, List, [], ◌∷◌, map, length, replicate, ◌==◌, nat_le, nat_lt}
+use Rattle.std.specs.Prelude.{ℕ, ◌+◌, ◌≡◌, Bool, true, false, cond, not, ◌&&◌, ◌||◌, length, replicate, eqb, leb, ltb}
 use Rattle.std.specs.Bool.{beq}
-use mathlib.Core.List.{foldr}
+use mathlib.Core.List.{List, [], ◌∷◌, map, foldr}
 use Rattle.words.specs.Word.{word_at}
 use Rattle.words.specs.Verdict.{Test}
 use Rattle.words.specs.Runs.{Run}
@@ -19,7 +19,7 @@ use Rattle.image.specs.declared.Basis.{Basis}
 
 -- a penalty, in 20..0 of its word: at most P + criticality; in the view exactly where it is not over P
 abbrev pub penalty_fits : ℕ → ℕ → Bool → ℕ → Bool
-penalty_fits p criticality present penalty = nat_le penalty (p + criticality) && beq present (nat_le penalty p)
+penalty_fits p criticality present penalty = leb penalty (p + criticality) && beq present (leb penalty p)
 
 -- kind 13
 abbrev pub penalties : CounterSection
@@ -28,7 +28,7 @@ penalties =
 
 -- a reward, in 22..0 of its word: below R, and 0 where the penalty is 0
 abbrev pub reward_fits : ℕ → ℕ → ℕ → Bool
-reward_fits r penalty reward = nat_lt reward r && (reward == 0 || not (penalty == 0))
+reward_fits r penalty reward = ltb reward r && (eqb reward 0 || not (eqb penalty 0))
 
 -- kind 14
 abbrev pub rewards : CounterSection
@@ -82,4 +82,4 @@ counters_roomy false n c = foldr (λ x roomy. section_roomy n c x && roomy) (cle
 
 -- whether a counter fits in the section of a kind; only the search through a section names it
 abbrev pub fits_by : ℕ → Basis → ℕ → Bool
-fits_by kind b v = foldr (λ x other. cond (kind == x.kind) (x.fits b v) other) false counter_sections
+fits_by kind b v = foldr (λ x other. cond (eqb kind x.kind) (x.fits b v) other) false counter_sections

@@ -2,8 +2,9 @@
 -- contract rests on it.
 -- What a step needs of a saved state, as its words hold it. Its accounts are lent as three arrays: penalties, rewards and return counts, or, where the
 -- setup fades, the high halves of the scores, their low halves, and return counts.
-use Rattle.std.specs.Prelude.{◌≡◌, ℕ, ◌+◌, ◌*◌, ◌/◌, ◌%◌, ◌<◌, Bool, true, false, cond, not, List, [], ◌∷◌, replicate, ◌==◌, slice_index}
+use Rattle.std.specs.Prelude.{ℕ, ◌+◌, ◌*◌, ◌/◌, ◌%◌, ◌<◌, ◌≡◌, Bool, true, false, cond, not, List, [], ◌∷◌, get_or, replicate, eqb}
 use Rattle.words.specs.Word.{word_at, number_unit}
+use Rattle.words.specs.Bits.{bit}
 use Rattle.words.specs.Array.{array}
 use Rattle.words.specs.Count.{any}
 use Rattle.words.specs.Runs.{Run}
@@ -44,32 +45,33 @@ lent_counters true n view x y z = record {
   view = view;
   penalty = replicate 16 0;
   reward = replicate 16 0;
-  score = doubles n (λ j. of_words (slice_index x j) (slice_index y j));
+  score = doubles n (λ j. of_words (get_or x j 0) (get_or y j 0));
   returns = z;
 }
 lent_counters false n view x y z = record { view = view; penalty = x; reward = y; score = zeros; returns = z }
 
 -- the counters among them have room in their words
 abbrev pub CountersSmall : Bool → ℕ → List ℕ → List ℕ → List ℕ → Type 0
-CountersSmall true n x y z = (j : ℕ) → j < n → slice_index z j < number_unit
+CountersSmall true n x y z = (j : ℕ) → j < n → get_or z j 0 < number_unit
 CountersSmall false n x y z =
-    ((j : ℕ) → j < n → slice_index x j < number_unit) × ((j : ℕ) → j < n → slice_index y j < number_unit) × ((j : ℕ) → j < n → slice_index z j < number_unit)
+    ((j : ℕ) → j < n → get_or x j 0 < number_unit) × ((j : ℕ) → j < n → get_or y j 0 < number_unit) × ((j : ℕ) → j < n → get_or z j 0 < number_unit)
 
 -- the words that the three arrays are written as
 abbrev pub lent_runs : Bool → ℕ → List ℕ → List ℕ → List ℕ → List Run
 lent_runs true n x y z =
-    record { count = n + n; word = λ i. cond (i % 2 == 0) (slice_index x (i / 2)) (slice_index y (i / 2)) }
-    ∷ record { count = n; word = λ j. counter_word 15 j (slice_index z j) }
+    record { count = n + n; word = λ i. cond (eqb (i % 2) 0) (get_or x (i / 2) 0) (get_or y (i / 2) 0) }
+    ∷ record { count = n; word = λ j. counter_word 15 j (get_or z j 0) }
     ∷ []
 lent_runs false n x y z =
-    record { count = n; word = λ j. counter_word 13 j (slice_index x j) }
-    ∷ record { count = n; word = λ j. counter_word 14 j (slice_index y j) }
-    ∷ record { count = n; word = λ j. counter_word 15 j (slice_index z j) }
+    record { count = n; word = λ j. counter_word 13 j (get_or x j 0) }
+    ∷ record { count = n; word = λ j. counter_word 14 j (get_or y j 0) }
+    ∷ record { count = n; word = λ j. counter_word 15 j (get_or z j 0) }
     ∷ []
 
 -- part and arrays are those of the words of s: k holds the criticalities, l the rows, and x, y and z the accounts
 pub record PartOf (s : List ℕ) (fades : Bool) (n : ℕ) (part : ImagePart) (k l x y z : List ℕ) : Type 0 where
-  pub skew : part.skew ≡ any n (λ j. not (place_in (word_at s (front_words fades + j)) == n))
+  pub skew : part.skew ≡ any n (λ j. not (eqb (place_in (word_at s (front_words fades + j))) n))
+  pub marked : part.marked ≡ any n (λ j. bit (word_at s (front_words fades + j)) 22)
   pub q : part.q ≡ return_limit_in (word_at s head_at)
   pub limits : part.limits ≡ limits_in fades (word_at s)
   pub own : part.own ≡ own_in (word_at s (own_at (front_words fades) n))

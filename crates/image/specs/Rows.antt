@@ -1,5 +1,5 @@
 -- The rows of the previous read: the words, their test, what is read and what is written. (document 01, "What runs", kind 11)
-use Rattle.std.specs.Prelude.{ℕ, ◌+◌, ◌-◌, ◌*◌, ◌/◌, ◌%◌, ◌^◌, Bool, cond, ◌&&◌, List, ◌==◌, nat_lt, slice_index}
+use Rattle.std.specs.Prelude.{ℕ, ◌+◌, ◌-◌, ◌*◌, ◌/◌, ◌%◌, ◌^◌, Bool, cond, ◌&&◌, List, get_or, eqb, ltb}
 use Rattle.words.specs.Word.{word_at, kind_unit, number_unit}
 use Rattle.words.specs.Bits.{b2n, bit, pack}
 use Rattle.words.specs.Array.{array, bounded}
@@ -27,11 +27,11 @@ row_in w = w % heard_unit
 
 -- no bit at N or above, and no row where the module was not heard
 unfoldable pub row_fits : ℕ → Bool → ℕ → Bool
-row_fits n heard row = nat_lt row (cond heard (2 ^ n) 1)
+row_fits n heard row = ltb row (cond heard (2 ^ n) 1)
 
 -- kind 11, the number j + 1, a row that fits, else number 8
 unfoldable pub row_ok : ℕ → ℕ → ℕ → Bool
-row_ok n j w = w / number_unit == 11 * 2 ^ 5 + (j + 1) && row_fits n (heard_in w) (row_in w)
+row_ok n j w = eqb (w / number_unit) (11 * 2 ^ 5 + (j + 1)) && row_fits n (heard_in w) (row_in w)
 
 -- ---- the section, in an image of n modules with `front` words before theirs, whose words are w, or whose bytes are s
 
@@ -49,8 +49,8 @@ reading_in s front n =
 
 -- written
 abbrev pub row_run : ℕ → Reading → Run
-row_run n r = record { count = n; word = λ j. row_word j (bit r.heard j) (slice_index r.rows j) }
+row_run n r = record { count = n; word = λ j. row_word j (bit r.heard j) (get_or r.rows j 0) }
 
 -- the read has room in its words, and its entries from n on are 0
 unfoldable pub rows_roomy : ℕ → Reading → Bool
-rows_roomy n r = nat_lt r.heard (2 ^ n) && bounded n (vector_unit - 1) r.rows
+rows_roomy n r = ltb r.heard (2 ^ n) && bounded n (vector_unit - 1) r.rows

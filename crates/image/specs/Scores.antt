@@ -1,5 +1,5 @@
 -- The scores of the modules, two plain words each, the high half first, in the place of penalties and rewards. (document 02, E9)
-use Rattle.std.specs.Prelude.{ℕ, ◌+◌, ◌*◌, ◌/◌, ◌%◌, Bool, true, cond, ◌&&◌, List, ◌==◌, Float}
+use Rattle.std.specs.Prelude.{ℕ, ◌+◌, ◌*◌, ◌/◌, ◌%◌, Bool, true, cond, ◌&&◌, List, eqb, Float}
 use Rattle.std.specs.Bool.{beq}
 use Rattle.std.specs.Float.Ieee.{lt}
 use Rattle.words.specs.Word.{word_at}
@@ -20,7 +20,7 @@ score_fits limit present score = non_negative score && beq present (lt score lim
 
 -- of two words a score, the word i of the section belongs to the score i / 2, and is its high half where i is even
 abbrev pub half_of : Float → ℕ → ℕ
-half_of x i = cond (i % 2 == 0) (high_word x) (low_word x)
+half_of x i = cond (eqb (i % 2) 0) (high_word x) (low_word x)
 
 -- ---- the section, in an image of n modules with `front` words before theirs, whose words are w, or whose bytes are s
 
@@ -34,7 +34,7 @@ score_test w front n j = score_fits (double_in w score_limit_at) (bit (view_in (
 
 -- a wrong score is told at its high half
 abbrev pub half_test : (ℕ → ℕ) → ℕ → ℕ → ℕ → Bool
-half_test w front n i = cond (i % 2 == 0) (score_test w front n (i / 2)) true
+half_test w front n i = cond (eqb (i % 2) 0) (score_test w front n (i / 2)) true
 
 -- number 8 at the first wrong score
 abbrev pub score_tests : (ℕ → ℕ) → ℕ → ℕ → Test

@@ -1,6 +1,6 @@
 -- The words of a saved state that stand alone: what each is made of, the fields that are read from it, and its test.
 -- (document 01, "What runs", kinds 10 and 12; "Answers and their order", numbers 7 and 8)
-use Rattle.std.specs.Prelude.{ℕ, ◌+◌, ◌*◌, ◌/◌, ◌%◌, ◌^◌, Bool, not, ◌&&◌, ◌||◌, ◌==◌, nat_lt}
+use Rattle.std.specs.Prelude.{ℕ, ◌+◌, ◌*◌, ◌/◌, ◌%◌, ◌^◌, Bool, not, ◌&&◌, ◌||◌, eqb, ltb}
 use Rattle.words.specs.Word.{field, kind_unit}
 use Rattle.words.specs.Verdict.{between}
 
@@ -26,11 +26,11 @@ spare_unit = 2 ^ 21
 
 -- an own number 1..N, else number 7; tested only where the word is of kind 10
 unfoldable pub own_number_ok : ℕ → ℕ → Bool
-own_number_ok n w = not (w / kind_unit == 10) || between 1 n (own_in w)
+own_number_ok n w = not (eqb (w / kind_unit) 10) || between 1 n (own_in w)
 
 -- kind 10, no spare bit, a view without bits at N or above, else number 8
 unfoldable pub own_ok : ℕ → ℕ → Bool
-own_ok n w = w / spare_unit == 10 * 2 ^ 7 && nat_lt (view_in w) (2 ^ n)
+own_ok n w = eqb (w / spare_unit) (10 * 2 ^ 7) && ltb (view_in w) (2 ^ n)
 
 -- kind 12: 15..0 one aligned syndrome
 abbrev pub syndrome_word : ℕ → ℕ
@@ -42,4 +42,4 @@ syndrome_in w = w % kind_unit
 
 -- kind 12, no bit at N or above, else number 8
 unfoldable pub syndrome_ok : ℕ → ℕ → Bool
-syndrome_ok n w = w / kind_unit == 12 && nat_lt (syndrome_in w) (2 ^ n)
+syndrome_ok n w = eqb (w / kind_unit) 12 && ltb (syndrome_in w) (2 ^ n)

@@ -1,5 +1,5 @@
-// The check of a saved state in lent bytes: numbers 1 to 8 and 22, each with the index of the first word that is wrong.
-ghost use Rattle.std.specs.Prelude.{◌≡◌, ◌+◌, ◌*◌, ◌^◌, ◌<◌, ◌≤◌, true, false, not, [], ◌∷◌, length, ◌==◌};
+// The check of a saved state in lent bytes: numbers 1 to 5, 7, 8 and 22, each with the index of the first word that is wrong.
+ghost use Rattle.std.specs.Prelude.{◌≡◌, true, false, not, [], ◌∷◌, ◌+◌, ◌*◌, ◌^◌, ◌≤◌, ◌<◌, length, eqb};
 ghost use Rattle.words.specs.Word.{word_at};
 ghost use Rattle.words.specs.Count.{lowest};
 ghost use Rattle.words.specs.Verdict.{and_then, outcome, single, each, first_refusal, then_tests};
@@ -189,7 +189,7 @@ pub fn check_tail(s: &[u8], fades: bool, n: usize) -> Verdict
 // Whether the length is the one that the rounds left and the head ask for.
 fn length_right(s: &[u8], front: usize, n: usize) -> bool
     requires { (front ≤ 6) × (n ≤ 16) }
-    ensures { result ≡ ((length s.now) == image_length front n (word_at s.now (left_at front n)) (partitionable_in (word_at s.now 0))) }
+    ensures { result ≡ eqb (length s.now) (image_length front n (word_at s.now (left_at front n)) (partitionable_in (word_at s.now 0))) }
 {
     let at = left_at(front, n);
     if s.len() < (at + 1) * 4 {
@@ -216,7 +216,7 @@ pub fn image_size(s: &[u8]) -> usize
     n
 }
 
-// Numbers 1 to 8 and 22.
+// Numbers 1 to 5, 7, 8 and 22.
 pub fn check_image(s: &[u8]) -> Verdict
     ensures { result ≡ check_image s.now }
 {

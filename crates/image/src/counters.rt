@@ -1,5 +1,5 @@
 // The counters of the modules of a setup that counts, kinds 13 and 14, and 15 of returns.rt: tested, read and written.
-ghost use Rattle.std.specs.Prelude.{◌≡◌, ℕ, ◌+◌, ◌*◌, ◌^◌, ◌<◌, ◌≤◌, true, false, ◌&&◌, length, slice_index};
+ghost use Rattle.std.specs.Prelude.{◌≡◌, true, false, ◌&&◌, ℕ, ◌+◌, ◌*◌, ◌^◌, ◌≤◌, ◌<◌, length, get_or};
 ghost use Rattle.words.specs.Word.{word_at, number_unit};
 ghost use Rattle.words.specs.Array.{array};
 ghost use Rattle.words.specs.Verdict.{all_right};
@@ -163,10 +163,10 @@ pub fn save_counters(
     returns: &[u32; 16],
     out: &mut [u8],
 )
-    requires { (n ≤ 16) × (before_left (front_words false) n ≤ length out.old) × ((j : ℕ) → j < n → slice_index penalty.now j < number_unit)
-        × ((j : ℕ) → j < n → slice_index reward.now j < number_unit) × ((j : ℕ) → j < n → slice_index returns.now j < number_unit) }
-    ensures { out.new ≡ put_run (put_run (put_run out.old (accounts_at (front_words false) n) n (λ j. counter_word 13 j (slice_index penalty.now j)))
-        (rewards_at (front_words false) n) n (λ j. counter_word 14 j (slice_index reward.now j))) (returns_at (front_words false) n) n (λ j. counter_word 15 j (slice_index returns.now j)) }
+    requires { (n ≤ 16) × (before_left (front_words false) n ≤ length out.old) × ((j : ℕ) → j < n → get_or penalty.now j 0 < number_unit)
+        × ((j : ℕ) → j < n → get_or reward.now j 0 < number_unit) × ((j : ℕ) → j < n → get_or returns.now j 0 < number_unit) }
+    ensures { out.new ≡ put_run (put_run (put_run out.old (accounts_at (front_words false) n) n (λ j. counter_word 13 j (get_or penalty.now j 0)))
+        (rewards_at (front_words false) n) n (λ j. counter_word 14 j (get_or reward.now j 0))) (returns_at (front_words false) n) n (λ j. counter_word 15 j (get_or returns.now j 0)) }
 {
     let i = accounts_at(3, n);
     let k = rewards_at(3, n);

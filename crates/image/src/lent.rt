@@ -1,5 +1,5 @@
 // Accounts as three lent arrays, and as a struct: penalties, rewards and return counts, or the halves of the scores and return counts.
-ghost use Rattle.std.specs.Prelude.{◌≡◌, ◌≤◌, slice_index};
+ghost use Rattle.std.specs.Prelude.{◌≡◌, ◌≤◌, get_or};
 ghost use Rattle.words.specs.Array.{array};
 ghost use Rattle.doubles.specs.Double.{of_words, high_word, low_word};
 ghost use Rattle.doubles.specs.Array.{entry, doubles};
@@ -35,7 +35,7 @@ fn low_words(n: usize, score: [f64; 16]) -> [u32; 16]
 // The scores of such halves.
 fn joined(n: usize, high: [u32; 16], low: [u32; 16]) -> [f64; 16]
     requires { n ≤ 16 }
-    ensures { result ≡ doubles n (λ j. of_words (slice_index high j) (slice_index low j)) }
+    ensures { result ≡ doubles n (λ j. of_words (get_or high j 0) (get_or low j 0)) }
 {
     let mut score = [0.0; 16];
     for j in 0..n {

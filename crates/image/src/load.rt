@@ -1,5 +1,5 @@
 // Reading an image in one pass: what a step needs of it, and whether all its words are right.
-ghost use Rattle.std.specs.Prelude.{◌≡◌, ◌+◌, ◌≤◌, true, false, length};
+ghost use Rattle.std.specs.Prelude.{◌≡◌, true, false, ◌+◌, ◌≤◌, length};
 ghost use Rattle.words.specs.Word.{word_at};
 ghost use Rattle.words.specs.Array.{array};
 ghost use Rattle.words.specs.Verdict.{all_right};
@@ -66,6 +66,7 @@ fn no_part() -> ImagePart
     ImagePart {
         good: false,
         skew: false,
+        marked: false,
         q: 0,
         limits: Limits::Counts(0, 0),
         own: 0,
@@ -124,6 +125,7 @@ pub fn load_image(
     ImagePart {
         good: modules.good & (alone.good & (read.good & (right & ((change.number == 0) & views)))),
         skew: modules.skew,
+        marked: modules.marked,
         q,
         limits,
         own: alone.own,

@@ -1,5 +1,5 @@
 // The rows of the previous read, kind 11: tested, read and written.
-ghost use Rattle.std.specs.Prelude.{◌≡◌, ℕ, ◌+◌, ◌*◌, ◌^◌, ◌<◌, ◌≤◌, length, slice_index};
+ghost use Rattle.std.specs.Prelude.{◌≡◌, ℕ, ◌+◌, ◌*◌, ◌^◌, ◌≤◌, ◌<◌, length, get_or};
 ghost use Rattle.words.specs.Word.{word_at};
 ghost use Rattle.words.specs.Bits.{bit};
 ghost use Rattle.words.specs.Array.{array};
@@ -64,8 +64,8 @@ fn row_word(j: usize, heard: bool, row: u32) -> u32
 
 // Writes the rows of the previous read.
 pub fn save_rows(n: usize, heard: u32, rows: &[u32; 16], out: &mut [u8], at: usize)
-    requires { (n ≤ 16) × ((j : ℕ) → j < n → slice_index rows.now j < 2 ^ 16) × (at < 2 ^ 16) × ((at + n) * 4 ≤ length out.old) }
-    ensures { out.new ≡ put_run out.old at n (λ j. row_word j (bit heard j) (slice_index rows.now j)) }
+    requires { (n ≤ 16) × ((j : ℕ) → j < n → get_or rows.now j 0 < 2 ^ 16) × (at < 2 ^ 16) × ((at + n) * 4 ≤ length out.old) }
+    ensures { out.new ≡ put_run out.old at n (λ j. row_word j (bit heard j) (get_or rows.now j 0)) }
 {
     for j in 0..n {
         let w = row_word(j, bit_at(heard, j), rows[j]);

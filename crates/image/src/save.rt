@@ -1,5 +1,5 @@
 // Writing the sections of a saved state from lent arrays.
-ghost use Rattle.std.specs.Prelude.{◌≡◌, ℕ, ◌<◌, ◌≤◌, [], ◌∷◌, length, slice_index};
+ghost use Rattle.std.specs.Prelude.{◌≡◌, [], ◌∷◌, ℕ, ◌≤◌, ◌<◌, length, get_or};
 ghost use Rattle.words.specs.Word.{number_unit};
 ghost use Rattle.words.specs.Runs.{one, put_runs};
 ghost use Rattle.setup.specs.Layout.{front_words};
@@ -47,7 +47,7 @@ pub fn save_sections(
     out: &mut [u8],
 )
     requires n_bound { (n ≤ 16) × (before_left (front_words fades) n ≤ length out.old) × (own ≤ 16) × (view < vector_unit) × (latest < vector_unit) × (earlier < vector_unit) }
-    requires by_index { (j : ℕ) → j < n → slice_index rows.now j < vector_unit }
+    requires by_index { (j : ℕ) → j < n → get_or rows.now j 0 < vector_unit }
     ensures { out.new ≡ put_runs out.old (own_at (front_words fades) n)
         (one (own_word own view) ∷ row_run n (record { heard = heard; rows = rows.now }) ∷ one (syndrome_word latest) ∷ one (syndrome_word earlier) ∷ []) }
 {

@@ -1,10 +1,10 @@
 // The scores of the modules of a setup that fades, two plain words each, and their return counts: tested, read and written.
-ghost use Rattle.std.specs.Prelude.{◌≡◌, ℕ, ◌+◌, ◌*◌, ◌/◌, ◌%◌, ◌<◌, ◌≤◌, true, length, if◌then◌else◌, nat_eq, slice_index};
+ghost use Rattle.std.specs.Prelude.{◌≡◌, true, cond, ℕ, ◌+◌, ◌*◌, ◌/◌, ◌%◌, ◌≤◌, ◌<◌, length, get_or, eqb};
 ghost use Rattle.words.specs.Word.{word_at, number_unit};
 ghost use Rattle.words.specs.Array.{array};
 ghost use Rattle.words.specs.Verdict.{all_right};
 ghost use Rattle.words.specs.Runs.{put_run};
-ghost use Rattle.doubles.specs.Double.{double_in};
+ghost use Rattle.doubles.specs.Double.{of_words, double_in};
 ghost use Rattle.setup.specs.Layout.{head_at, score_limit_at, front_words};
 ghost use Rattle.setup.specs.Setup.{return_limit_in};
 ghost use Rattle.setup.specs.Limits.{most_return_limit};
@@ -20,16 +20,21 @@ use crate::counters::counter_word;
 use crate::layout::{accounts_at, returns_at};
 use crate::read::view_in;
 use crate::returns::return_fits;
-use doubles::{double_at, is_non_negative, of_words};
+use doubles::{double_at, of_words};
 use setup::layout::SCORE_LIMIT_AT;
-use words::bits::bit_at;
+use words::bits::{bit_at, pick};
 use words::word::{gap, put_word, word_at};
 
-// A number from 0 up, below the limit exactly where the module is in the view.
-fn score_fits(limit: f64, present: bool, score: f64) -> bool
-    ensures { result ≡ score_fits limit present score }
+// The high half of a double from which on it is infinite, no number, or negative.
+const INFINITE: u32 = 0x7ff00000;
+
+// The double of two words is a number from 0 up, below the limit exactly where the module is in the view. The high half tells the first, and where it
+// does not, no double is made of it: so no word needs a test of its own for what is no number, and four modules are taken at a time.
+fn score_fits(limit: f64, present: bool, high: u32, low: u32) -> bool
+    ensures { result ≡ score_fits limit present (of_words high low) }
 {
-    is_non_negative(score) & (present == (score < limit))
+    let number = high < INFINITE;
+    number & (present == (of_words(pick(number, high, 0), low) < limit))
 }
 
 // Whether word i of the scores is right: a high half where its score is, a low half always.
@@ -41,8 +46,13 @@ pub fn half_right(s: &[u8], n: usize, i: usize) -> bool
         return true;
     }
     let present = bit_at(view_in(s, 6, n), i / 2);
-    let score = double_at(s, accounts_at(6, n) + 2 * (i / 2));
-    score_fits(double_at(s, SCORE_LIMIT_AT), present, score)
+    let at = accounts_at(6, n) + 2 * (i / 2);
+    score_fits(
+        double_at(s, SCORE_LIMIT_AT),
+        present,
+        word_at(s, at),
+        word_at(s, at + 1),
+    )
 }
 
 // The halves of the scores and the return counts in lent arrays, and whether their words are right, by what the words before them hold; where a word
@@ -73,7 +83,7 @@ pub fn load_scores(
         let y = word_at(s, i + 2 * j + 1);
         let z = gap(15, j, word_at(s, l + j));
         let present = bit_at(view, j);
-        let a = score_fits(limit, present, of_words(x, y));
+        let a = score_fits(limit, present, x, y);
         let b = return_fits(q, present, z);
         good = good & (a & b);
         high[j] = x;
@@ -85,10 +95,10 @@ pub fn load_scores(
 
 // Writes the scores and the return counts, module by module.
 pub fn save_scores(n: usize, high: &[u32; 16], low: &[u32; 16], returns: &[u32; 16], out: &mut [u8])
-    requires { (n ≤ 16) × (before_left (front_words true) n ≤ length out.old) × ((j : ℕ) → j < n → slice_index returns.now j < number_unit) }
+    requires { (n ≤ 16) × (before_left (front_words true) n ≤ length out.old) × ((j : ℕ) → j < n → get_or returns.now j 0 < number_unit) }
     ensures { out.new ≡ put_run (put_run out.old (accounts_at (front_words true) n) (n + n)
-        (λ i. (if nat_eq (i % 2) 0 then slice_index high.now (i / 2) else slice_index low.now (i / 2))))
-        (returns_at (front_words true) n) n (λ j. counter_word 15 j (slice_index returns.now j)) }
+        (λ i. cond (eqb (i % 2) 0) (get_or high.now (i / 2) 0) (get_or low.now (i / 2) 0)))
+        (returns_at (front_words true) n) n (λ j. counter_word 15 j (get_or returns.now j 0)) }
 {
     let i = accounts_at(6, n);
     let l = returns_at(6, n);

@@ -21,7 +21,7 @@ use setup::check::size_at;
 use words::bits::{bit_at, with_bit};
 use words::word::{KIND, NUMBER, word_at};
 
-// Opens module `own` of a setup, and writes its image and its page: 1 to 6 and 22, 7, 9 for the output or the page.
+// Opens module `own` of a setup, and writes its image and its page: 1 to 5 and 22, 7, 9 for the output or the page.
 #[unsafe(no_mangle)]
 pub extern "C" fn presence_page_open(
     bytes: &[u8],
@@ -89,7 +89,7 @@ fn found_view(image: &[u8], front: usize, n: usize) -> u32
     view_in(image, front, n)
 }
 
-// One step, from image to image, with the page beside it: 1 to 8 and 22, 9 for the read, the output or the page, 10.
+// One step, from image to image, with the page beside it: 1 to 5, 7, 8 and 22, 9 for the read, the output or the page, 10.
 #[unsafe(no_mangle)]
 pub extern "C" fn presence_page_step(
     image: &[u8],

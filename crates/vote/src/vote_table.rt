@@ -25,7 +25,7 @@ pub const VOTES: [u8; 256] = *b"\
     000000011111111-\
     0000000011111111";
 
-// The decision on counted votes, looked up.
+// The decision on counted votes, looked up. Of the characters `0` and `1` the second is odd, which takes fewer instructions than a comparison.
 pub fn decide(table: &[u8], votes: u32, ones: u32, own: bool) -> bool
     requires { (table.now ≡ vote_table) × (votes ≤ 15) × (ones ≤ votes) }
     ensures { result ≡ decision votes ones own }
@@ -34,5 +34,5 @@ pub fn decide(table: &[u8], votes: u32, ones: u32, own: bool) -> bool
     if entry == b'?' {
         return own;
     }
-    entry == b'1'
+    entry % 2 == 1
 }

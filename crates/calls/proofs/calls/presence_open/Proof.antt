@@ -48,14 +48,14 @@ filled-requires c κs =
     let few = (fits _ (ap (λ (x : Verdict). x.number) (sym c.before.before.before.before.before.before.before.before.before.before.before.check.ensures) ∙ c.before.before.before.before.before.before.before.before.before.if1.false)).front.most in
     omega (arith, c.before.before.before.before.before.before.before.before.size-at.ensures)
 
-copy-words-requires : tie.Need-copy-words-requires
-copy-words-requires c κs =
+copy-setup-requires : tie.Need-copy-setup-requires
+copy-setup-requires c κs =
     let b = fits _ (ap (λ (x : Verdict). x.number) (sym c.before.before.before.before.before.before.before.before.before.before.before.before.before.before.check.ensures) ∙ c.before.before.before.before.before.before.before.before.before.before.before.before.if1.false) in
     let n = c.before.before.before.before.before.before.before.before.before.before.before.size-at.ensures in
     let e = c.before.setup-words.ensures in
     let l = c.before.before.before.before.if3.false ∙ c.before.before.before.before.before.image-length.ensures in
     let f = c.before.before.before.before.before.before.before.before.before.front-words.ensures.0 ∙ ap front_words c.before.before.before.before.before.before.before.before.before.before.fades-at.ensures in
-    (omega (arith, b.size), omega arith)
+    (omega arith, omega (arith, b.size), omega arith)
 
 save-sections-requires : tie.Need-save-sections-requires
 save-sections-requires c κs =
@@ -64,14 +64,14 @@ save-sections-requires c κs =
     let inside = is-between 1 c.before.before.before.before.before.before.before.before.before.before.before.before.before.before.before.before.size-at.result c.before.before.before.before.before.before.before.before.before.before.before.before.before.before.before.before.before.before.before.before.before.before.args.own c.before.before.before.before.before.before.before.before.before.before.before.before.before.if2.false in
     let v = c.before.before.before.before.before.before.before.before.full-of.ensures in
     let small = full-small _ few v in
-    let l = c.before.before.before.before.copy-words.auto.1.1.0 ∙ c.before.before.before.before.before.before.before.before.before.if3.false ∙ c.before.before.before.before.before.before.before.before.before.before.image-length.ensures ∙ ap (λ (x : ℕ). image_length x c.before.before.before.before.before.before.before.before.before.before.before.before.before.before.before.before.size-at.result 0 c.before.before.before.before.before.before.before.before.before.before.before.bit_at.result) c.before.before.before.before.before.before.before.before.before.before.before.before.before.before.front-words.ensures.0 in
+    let l = c.before.before.before.before.copy-setup.auto.1.1.1.0 ∙ c.before.before.before.before.before.before.before.before.before.if3.false ∙ c.before.before.before.before.before.before.before.before.before.before.image-length.ensures ∙ ap (λ (x : ℕ). image_length x c.before.before.before.before.before.before.before.before.before.before.before.before.before.before.before.before.size-at.result 0 c.before.before.before.before.before.before.before.before.before.before.before.bit_at.result) c.before.before.before.before.before.before.before.before.before.before.before.before.before.before.front-words.ensures.0 in
     ((few, omega (arith, l), omega (arith, inside.1), small, small, small), rows-small _ few v c.before.before.before.before.before.before.before.filled.ensures)
 
 save-accounts-requires : tie.Need-save-accounts-requires
 save-accounts-requires c κs =
     let b = fits _ (ap (λ (x : Verdict). x.number) (sym c.before.before.before.before.before.before.before.before.before.before.before.before.before.before.before.before.before.before.before.before.before.before.before.before.before.before.check.ensures) ∙ c.before.before.before.before.before.before.before.before.before.before.before.before.before.before.before.before.before.before.before.before.before.before.before.before.if1.false) in
     let few : c.before.before.before.before.before.before.before.before.before.before.before.before.before.before.before.before.before.before.before.before.before.before.before.size-at.result ≤ 16 = omega (arith, b.front.most, c.before.before.before.before.before.before.before.before.before.before.before.before.before.before.before.before.before.before.before.before.before.before.before.size-at.ensures) in
-    let l = c.before.before.before.before.before.before.save-sections.auto.1.1.1.1.1.1.1.1.0 ∙ c.before.before.before.before.before.before.before.before.before.before.before.copy-words.auto.1.1.0 ∙ c.before.before.before.before.before.before.before.before.before.before.before.before.before.before.before.before.if3.false ∙ c.before.before.before.before.before.before.before.before.before.before.before.before.before.before.before.before.before.image-length.ensures ∙ ap (λ (x : ℕ). image_length x c.before.before.before.before.before.before.before.before.before.before.before.before.before.before.before.before.before.before.before.before.before.before.before.size-at.result 0 c.before.before.before.before.before.before.before.before.before.before.before.before.before.before.before.before.before.before.bit_at.result) c.before.before.before.before.before.before.before.before.before.before.before.before.before.before.before.before.before.before.before.before.before.front-words.ensures.0 in
+    let l = c.before.before.before.before.before.before.save-sections.auto.1.1.1.1.1.1.1.1.0 ∙ c.before.before.before.before.before.before.before.before.before.before.before.copy-setup.auto.1.1.1.0 ∙ c.before.before.before.before.before.before.before.before.before.before.before.before.before.before.before.before.if3.false ∙ c.before.before.before.before.before.before.before.before.before.before.before.before.before.before.before.before.before.image-length.ensures ∙ ap (λ (x : ℕ). image_length x c.before.before.before.before.before.before.before.before.before.before.before.before.before.before.before.before.before.before.before.before.before.before.before.size-at.result 0 c.before.before.before.before.before.before.before.before.before.before.before.before.before.before.before.before.before.before.bit_at.result) c.before.before.before.before.before.before.before.before.before.before.before.before.before.before.before.before.before.before.before.before.before.front-words.ensures.0 in
     (few, omega (arith, l), zeros-small c.before.before.before.before.before.before.before.before.before.before.before.before.before.before.before.before.before.before.before.before.before.before.fades-at.result _ few)
 
 left-at-requires : tie.Need-left-at-requires
@@ -91,7 +91,7 @@ views-at-requires c κs =
 save-full-requires : tie.Need-save-full-requires
 save-full-requires c κs =
     let few = (fits _ (ap (λ (x : Verdict). x.number) (sym c.before.before.before.before.before.before.before.before.before.before.before.before.before.before.before.before.before.before.before.before.before.before.before.before.before.before.before.before.before.before.before.before.before.before.before.before.before.check.ensures) ∙ c.before.before.before.before.before.before.before.before.before.before.before.before.before.before.before.before.before.before.before.before.before.before.before.before.before.before.before.before.before.before.before.before.before.before.before.if1.false)).front.most in
-    let l = c.before.before.before.before.before.put_word.auto.0 ∙ c.before.before.before.before.before.before.before.before.before.before.save-accounts.auto.1.1.1.1.1.0 ∙ c.before.before.before.before.before.before.before.before.before.before.before.before.before.before.before.before.before.save-sections.auto.1.1.1.1.1.1.1.1.0 ∙ c.before.before.before.before.before.before.before.before.before.before.before.before.before.before.before.before.before.before.before.before.before.before.copy-words.auto.1.1.0 ∙ c.before.before.before.before.before.before.before.before.before.before.before.before.before.before.before.before.before.before.before.before.before.before.before.before.before.before.before.if3.false ∙ c.before.before.before.before.before.before.before.before.before.before.before.before.before.before.before.before.before.before.before.before.before.before.before.before.before.before.before.before.image-length.ensures ∙ ap (image_length c.before.before.before.before.before.before.before.before.before.before.before.before.before.before.before.before.before.before.before.before.before.before.before.before.before.before.before.before.before.before.before.before.front-words.result c.before.before.before.before.before.before.before.before.before.before.before.before.before.before.before.before.before.before.before.before.before.before.before.before.before.before.before.before.before.before.before.before.before.before.size-at.result 0) c.before.before.if4.true in
+    let l = c.before.before.before.before.before.put_word.auto.0 ∙ c.before.before.before.before.before.before.before.before.before.before.save-accounts.auto.1.1.1.1.1.0 ∙ c.before.before.before.before.before.before.before.before.before.before.before.before.before.before.before.before.before.save-sections.auto.1.1.1.1.1.1.1.1.0 ∙ c.before.before.before.before.before.before.before.before.before.before.before.before.before.before.before.before.before.before.before.before.before.before.copy-setup.auto.1.1.1.0 ∙ c.before.before.before.before.before.before.before.before.before.before.before.before.before.before.before.before.before.before.before.before.before.before.before.before.before.before.before.if3.false ∙ c.before.before.before.before.before.before.before.before.before.before.before.before.before.before.before.before.before.before.before.before.before.before.before.before.before.before.before.before.image-length.ensures ∙ ap (image_length c.before.before.before.before.before.before.before.before.before.before.before.before.before.before.before.before.before.before.before.before.before.before.before.before.before.before.before.before.before.before.before.before.front-words.result c.before.before.before.before.before.before.before.before.before.before.before.before.before.before.before.before.before.before.before.before.before.before.before.before.before.before.before.before.before.before.before.before.before.before.size-at.result 0) c.before.before.if4.true in
     let a = c.views-at.ensures in
     let f = c.before.before.before.before.before.before.before.before.before.before.before.before.before.before.before.before.before.before.before.before.before.before.before.before.before.before.before.before.before.before.before.before.front-words.ensures.2 in
     let n = c.before.before.before.before.before.before.before.before.before.before.before.before.before.before.before.before.before.before.before.before.before.before.before.before.before.before.before.before.before.before.before.before.before.before.size-at.ensures in
@@ -107,7 +107,7 @@ returns-4 c =
     in
     let p = parted-by _ c.before.before.before.before.before.before.before.before.before.before.before.before.before.before.before.before.before.before.before.before.before.before.before.before.before.before.before.before.before.before.before.before.before.before.word_at.ensures c.before.before.before.before.before.before.before.before.before.before.before.before.before.before.before.before.before.before.before.before.before.before.before.before.before.before.before.before.before.before.before.before.before.bit_at.ensures in
     open_made _ (ap (λ (x : Verdict). x.number) (sym c.before.before.before.before.before.before.before.before.before.before.before.before.before.before.before.before.before.before.before.before.before.before.before.before.before.before.before.before.before.before.before.before.before.before.before.before.before.before.before.before.before.check.ensures) ∙ c.before.before.before.before.before.before.before.before.before.before.before.before.before.before.before.before.before.before.before.before.before.before.before.before.before.before.before.before.before.before.before.before.before.before.before.before.before.before.before.if1.false) s.args.own s.args.out.now c.before.before.before.before.before.before.before.before.before.before.before.before.before.before.before.before.before.before.before.before.before.before.before.before.before.before.before.before.before.before.before.before.before.before.before.before.before.before.size-at.ensures c.before.before.before.before.before.before.before.before.before.before.before.before.before.before.before.before.before.before.before.before.before.before.before.before.before.before.before.before.before.before.before.before.before.before.before.if2.false c.before.before.before.before.before.before.before.before.before.before.before.before.before.before.before.before.before.before.before.before.before.before.before.before.before.before.before.before.before.before.before.before.before.before.before.before.before.fades-at.ensures c.before.before.before.before.before.before.before.before.before.before.before.before.before.before.before.before.before.before.before.before.before.before.before.before.before.before.before.before.before.before.before.before.before.before.before.before.front-words.ensures.0 p
-    (λ i. omega (arith, c.before.before.before.before.before.before.before.before.before.before.before.before.before.before.before.before.before.before.before.before.before.before.before.before.before.before.before.before.before.before.before.before.before.before.before.before.before.before.before.before.before.before.before.shared-slice-known.given i)) l c.before.before.before.before.before.before.before.before.before.before.before.before.before.before.before.before.before.before.before.before.before.before.before.before.before.before.before.before.before.before.full-of.ensures c.before.before.before.before.before.before.before.before.before.before.before.before.before.before.before.before.before.before.before.before.before.before.before.before.before.before.before.before.before.filled.ensures c.before.before.before.before.before.before.before.before.before.before.before.before.before.before.before.before.before.before.before.before.before.before.before.before.before.before.before.before.setup-words.ensures c.before.before.before.before.before.before.before.before.before.before.before.before.before.before.before.before.before.before.before.before.before.before.before.before.before.before.copy-words.ensures both c.before.before.before.before.before.before.before.before.before.before.left_at.ensures c.before.before.before.before.before.before.before.before.before.put_word.ensures (full_put _ (ap (λ (x : Verdict). x.number) (sym c.before.before.before.before.before.before.before.before.before.before.before.before.before.before.before.before.before.before.before.before.before.before.before.before.before.before.before.before.before.before.before.before.before.before.before.before.before.before.before.before.before.check.ensures) ∙ c.before.before.before.before.before.before.before.before.before.before.before.before.before.before.before.before.before.before.before.before.before.before.before.before.before.before.before.before.before.before.before.before.before.before.before.before.before.before.before.if1.false) s.args.own s.args.out.now c.before.before.before.before.before.before.before.before.before.before.before.before.before.before.before.before.before.before.before.before.before.before.before.before.before.before.before.before.before.before.before.before.before.before.before.before.before.before.size-at.ensures c.before.before.before.before.before.before.before.before.before.before.before.before.before.before.before.before.before.before.before.before.before.before.before.before.before.before.before.before.before.before.before.before.before.before.before.if2.false c.before.before.before.before.before.before.before.before.before.before.before.before.before.before.before.before.before.before.before.before.before.before.before.before.before.before.before.before.before.before.before.before.before.before.before.before.before.fades-at.ensures c.before.before.before.before.before.before.before.before.before.before.before.before.before.before.before.before.before.before.before.before.before.before.before.before.before.before.before.before.before.before.before.before.before.before.before.before.front-words.ensures.0 p _ c.before.before.before.before.before.before.if4.true c.before.before.before.before.before.before.before.before.before.before.before.before.before.before.before.before.before.before.before.before.before.before.before.before.before.before.before.before.before.before.full-of.ensures c.before.before.before.before.views-at.ensures c.before.before.before.save-full.ensures) c.refuse4.ensures
+    (λ i. omega (arith, c.before.before.before.before.before.before.before.before.before.before.before.before.before.before.before.before.before.before.before.before.before.before.before.before.before.before.before.before.before.before.before.before.before.before.before.before.before.before.before.before.before.before.before.shared-slice-known.given i)) l c.before.before.before.before.before.before.before.before.before.before.before.before.before.before.before.before.before.before.before.before.before.before.before.before.before.before.before.before.before.before.full-of.ensures c.before.before.before.before.before.before.before.before.before.before.before.before.before.before.before.before.before.before.before.before.before.before.before.before.before.before.before.before.before.filled.ensures c.before.before.before.before.before.before.before.before.before.before.before.before.before.before.before.before.before.before.before.before.before.before.before.before.before.before.before.before.setup-words.ensures c.before.before.before.before.before.before.before.before.before.before.before.before.before.before.before.before.before.before.before.before.before.before.before.before.before.before.copy-setup.ensures both c.before.before.before.before.before.before.before.before.before.before.left_at.ensures c.before.before.before.before.before.before.before.before.before.put_word.ensures (full_put _ (ap (λ (x : Verdict). x.number) (sym c.before.before.before.before.before.before.before.before.before.before.before.before.before.before.before.before.before.before.before.before.before.before.before.before.before.before.before.before.before.before.before.before.before.before.before.before.before.before.before.before.before.check.ensures) ∙ c.before.before.before.before.before.before.before.before.before.before.before.before.before.before.before.before.before.before.before.before.before.before.before.before.before.before.before.before.before.before.before.before.before.before.before.before.before.before.before.if1.false) s.args.own s.args.out.now c.before.before.before.before.before.before.before.before.before.before.before.before.before.before.before.before.before.before.before.before.before.before.before.before.before.before.before.before.before.before.before.before.before.before.before.before.before.before.size-at.ensures c.before.before.before.before.before.before.before.before.before.before.before.before.before.before.before.before.before.before.before.before.before.before.before.before.before.before.before.before.before.before.before.before.before.before.before.if2.false c.before.before.before.before.before.before.before.before.before.before.before.before.before.before.before.before.before.before.before.before.before.before.before.before.before.before.before.before.before.before.before.before.before.before.before.before.before.fades-at.ensures c.before.before.before.before.before.before.before.before.before.before.before.before.before.before.before.before.before.before.before.before.before.before.before.before.before.before.before.before.before.before.before.before.before.before.before.before.front-words.ensures.0 p _ c.before.before.before.before.before.before.if4.true c.before.before.before.before.before.before.before.before.before.before.before.before.before.before.before.before.before.before.before.before.before.before.before.before.before.before.before.before.before.before.full-of.ensures c.before.before.before.before.views-at.ensures c.before.before.before.save-full.ensures) c.refuse4.ensures
 
 returns-5 : tie.Need-returns-5
 returns-5 c =
@@ -119,7 +119,7 @@ returns-5 c =
     in
     let p = parted-by _ c.before.before.before.before.before.before.before.before.before.before.before.before.before.before.before.before.before.before.before.before.before.before.before.before.before.before.before.before.before.word_at.ensures c.before.before.before.before.before.before.before.before.before.before.before.before.before.before.before.before.before.before.before.before.before.before.before.before.before.before.before.before.bit_at.ensures in
     open_made _ (ap (λ (x : Verdict). x.number) (sym c.before.before.before.before.before.before.before.before.before.before.before.before.before.before.before.before.before.before.before.before.before.before.before.before.before.before.before.before.before.before.before.before.before.before.before.before.check.ensures) ∙ c.before.before.before.before.before.before.before.before.before.before.before.before.before.before.before.before.before.before.before.before.before.before.before.before.before.before.before.before.before.before.before.before.before.before.if1.false) s.args.own s.args.out.now c.before.before.before.before.before.before.before.before.before.before.before.before.before.before.before.before.before.before.before.before.before.before.before.before.before.before.before.before.before.before.before.before.before.size-at.ensures c.before.before.before.before.before.before.before.before.before.before.before.before.before.before.before.before.before.before.before.before.before.before.before.before.before.before.before.before.before.before.if2.false c.before.before.before.before.before.before.before.before.before.before.before.before.before.before.before.before.before.before.before.before.before.before.before.before.before.before.before.before.before.before.before.before.fades-at.ensures c.before.before.before.before.before.before.before.before.before.before.before.before.before.before.before.before.before.before.before.before.before.before.before.before.before.before.before.before.before.before.before.front-words.ensures.0 p
-    (λ i. omega (arith, c.before.before.before.before.before.before.before.before.before.before.before.before.before.before.before.before.before.before.before.before.before.before.before.before.before.before.before.before.before.before.before.before.before.before.before.before.before.before.shared-slice-known.given i)) l c.before.before.before.before.before.before.before.before.before.before.before.before.before.before.before.before.before.before.before.before.before.before.before.before.before.full-of.ensures c.before.before.before.before.before.before.before.before.before.before.before.before.before.before.before.before.before.before.before.before.before.before.before.before.filled.ensures c.before.before.before.before.before.before.before.before.before.before.before.before.before.before.before.before.before.before.before.before.before.before.before.setup-words.ensures c.before.before.before.before.before.before.before.before.before.before.before.before.before.before.before.before.before.before.before.before.before.copy-words.ensures both c.before.before.before.before.before.left_at.ensures c.before.before.before.before.put_word.ensures (none-put _ (ap (λ (x : Verdict). x.number) (sym c.before.before.before.before.before.before.before.before.before.before.before.before.before.before.before.before.before.before.before.before.before.before.before.before.before.before.before.before.before.before.before.before.before.before.before.before.check.ensures) ∙ c.before.before.before.before.before.before.before.before.before.before.before.before.before.before.before.before.before.before.before.before.before.before.before.before.before.before.before.before.before.before.before.before.before.before.if1.false) s.args.own s.args.out.now c.before.before.before.before.before.before.before.before.before.before.before.before.before.before.before.before.before.before.before.before.before.before.before.before.before.before.before.before.before.before.before.before.before.size-at.ensures c.before.before.before.before.before.before.before.before.before.before.before.before.before.before.before.before.before.before.before.before.before.before.before.before.before.before.before.before.before.before.if2.false c.before.before.before.before.before.before.before.before.before.before.before.before.before.before.before.before.before.before.before.before.before.before.before.before.before.before.before.before.before.before.before.before.fades-at.ensures c.before.before.before.before.before.before.before.before.before.before.before.before.before.before.before.before.before.before.before.before.before.before.before.before.before.before.before.before.before.before.before.front-words.ensures.0 p _ c.before.if4.false) c.refuse5.ensures
+    (λ i. omega (arith, c.before.before.before.before.before.before.before.before.before.before.before.before.before.before.before.before.before.before.before.before.before.before.before.before.before.before.before.before.before.before.before.before.before.before.before.before.before.before.shared-slice-known.given i)) l c.before.before.before.before.before.before.before.before.before.before.before.before.before.before.before.before.before.before.before.before.before.before.before.before.before.full-of.ensures c.before.before.before.before.before.before.before.before.before.before.before.before.before.before.before.before.before.before.before.before.before.before.before.before.filled.ensures c.before.before.before.before.before.before.before.before.before.before.before.before.before.before.before.before.before.before.before.before.before.before.before.setup-words.ensures c.before.before.before.before.before.before.before.before.before.before.before.before.before.before.before.before.before.before.before.before.before.copy-setup.ensures both c.before.before.before.before.before.left_at.ensures c.before.before.before.before.put_word.ensures (none-put _ (ap (λ (x : Verdict). x.number) (sym c.before.before.before.before.before.before.before.before.before.before.before.before.before.before.before.before.before.before.before.before.before.before.before.before.before.before.before.before.before.before.before.before.before.before.before.before.check.ensures) ∙ c.before.before.before.before.before.before.before.before.before.before.before.before.before.before.before.before.before.before.before.before.before.before.before.before.before.before.before.before.before.before.before.before.before.before.if1.false) s.args.own s.args.out.now c.before.before.before.before.before.before.before.before.before.before.before.before.before.before.before.before.before.before.before.before.before.before.before.before.before.before.before.before.before.before.before.before.before.size-at.ensures c.before.before.before.before.before.before.before.before.before.before.before.before.before.before.before.before.before.before.before.before.before.before.before.before.before.before.before.before.before.before.if2.false c.before.before.before.before.before.before.before.before.before.before.before.before.before.before.before.before.before.before.before.before.before.before.before.before.before.before.before.before.before.before.before.before.fades-at.ensures c.before.before.before.before.before.before.before.before.before.before.before.before.before.before.before.before.before.before.before.before.before.before.before.before.before.before.before.before.before.before.before.front-words.ensures.0 p _ c.before.if4.false) c.refuse5.ensures
 
 pub presence-open-spec : {M : Type 1} → statement M
 presence-open-spec =
@@ -141,7 +141,7 @@ presence-open-spec =
     (λ c κs. search rules)
     filled-requires
     (λ c κs. search rules)
-    copy-words-requires
+    copy-setup-requires
     save-sections-requires
     save-accounts-requires
     left-at-requires

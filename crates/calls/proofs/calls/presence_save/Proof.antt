@@ -1,11 +1,11 @@
--- An accepted image is in its one form, so a copy of its bytes is what is written.
+-- An accepted image with an output of its length is written again.
 use native.Mathlib.Omega.{arith}
 use borrow.Author.Rules.{rules}
 use mathlib.Core.Path.{ap, ◌∙◌, sym}
 use Rattle.words.specs.declared.Verdict.{Verdict}
 use Rattle.calls.specs.declared.Answer.{Answer}
 use Rattle.calls.specs.Calls.{called}
-use Rattle.calls.proofs.ModuleCallLaws.{save-bad-image, save-no-room, copy-no-room, copy-wrote}
+use Rattle.calls.proofs.ModuleCallLaws.{save-bad-image, save-no-room, copy-no-room, saved}
 use Rattle.calls.proofs.calls.presence_save.Statement.{statement}
 use Rattle.calls.proofs.calls.presence_save.Tie as tie
 
@@ -31,8 +31,10 @@ returns-2 c =
     ap (λ (x : Answer). called x a.out.now) c.refuse2.ensures
     ∙ save-no-room _ _ e z (copy-no-room _ a.out.now (ap (λ (v : Verdict). v.number) (sym e) ∙ z) c.before.if2.true)
 
-copy-requires : tie.Need-copy-requires
-copy-requires c κs = search rules
+save-unmarked-requires : tie.Need-save-unmarked-requires
+save-unmarked-requires c κs =
+    let e = c.before.before.before.before.check-image.ensures in
+    (ap (λ (v : Verdict). v.number) (sym e) ∙ c.before.before.if1.false, c.before.if2.false)
 
 refuse-requires-3 : tie.Need-refuse-requires-3
 refuse-requires-3 c κs = search rules
@@ -42,11 +44,9 @@ same_length c = search rules
 
 returns-3 : tie.Need-returns-3
 returns-3 c =
-    let k = c.before.before.before in
-    let a = k.before.before.before.before.before.before.before.before.args in
-    let e = k.before.before.before.before.before.check-image.ensures in
-    copy-wrote _ a.out.now (ap (λ (v : Verdict). v.number) (sym e) ∙ k.before.before.before.if1.false) e c.refuse3.ensures
-    (λ i. omega (arith, k.before.before.before.before.before.before.before.shared-slice-known.given i)) k.before.before.if2.false k.copy.ensures.1
+    let a = c.before.before.before.before.before.before.before.before.before.before.before.args in
+    let e = c.before.before.before.before.before.before.before.before.check-image.ensures in
+    saved _ a.out.now (ap (λ (v : Verdict). v.number) (sym e) ∙ c.before.before.before.before.before.before.if1.false) e c.refuse3.ensures c.before.before.before.before.before.if2.false c.before.before.before.save-unmarked.ensures
 
 pub presence-save-spec : {M : Type 1} → statement M
 presence-save-spec =
@@ -57,7 +57,7 @@ presence-save-spec =
     returns
     refuse-requires-2
     returns-2
-    copy-requires
+    save-unmarked-requires
     refuse-requires-3
     same_length
     returns-3)

@@ -129,6 +129,7 @@ played-requires c κs =
         l.1 ∙ ap (λ (k : ℕ). k * 4) c.before.before.before.before.before.before.before.before.before.before.before.before.before.read-words.ensures,
         rw c.before.before.before.before.before.before.before.before.before.before.before.power.ensures at c.before.before.before.before.before.before.before.before.before.before.if4.false,
         l.0 ∙ c.before.before.before.before.before.before.before.before.before.before.before.before.before.before.image-length.ensures ∙ (λ i. image_length (c.before.before.before.before.before.before.before.before.before.before.before.before.before.before.before.before.front-words.ensures.0 i) c.before.before.before.before.before.before.before.before.before.before.before.before.before.before.before.before.before.before.before.before.before.before.before.before.before.before.before.before.before.image-size.result (c.before.before.before.before.before.before.before.before.before.before.before.before.before.before.before.left_After.ensures i) c.before.before.before.before.before.before.before.before.before.before.before.before.before.before.before.before.before.bit_at.result),
+        (r.1 (not-false _ good)).marked,
       ),
     )
 

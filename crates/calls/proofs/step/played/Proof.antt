@@ -1,7 +1,10 @@
 -- What is lent holds the state and the books; the parts are its round, and what they write is the next image.
 use native.Mathlib.Omega.{arith}
-use Prim.Native.Nat.{ℕ}
+use Prim.Native.Nat.{ℕ, ◌+◌}
 use mathlib.Core.Path.{ap, ◌∙◌, sym}
+use Rattle.words.specs.Word.{word_at}
+use Rattle.words.specs.Bits.{bit}
+use Rattle.words.specs.Count.{any}
 use Rattle.words.proofs.ArrayLaws.{array-none}
 use Rattle.setup.specs.Layout.{front_words}
 use Rattle.rules.specs.Hearing.{reading_of}
@@ -54,7 +57,7 @@ save-setup-requires c κs =
     let s = c.before.before.before.before.before.before.before.before.before.before.before.before.before.before.before in
     let a = s.requires.0 in
     let f = c.before.before.before.before.before.before.before.before.before.before.before.front-words.ensures.0 in
-    (a.0, a.1, f ∙ ap front_words a.2, a.3.left, omega (arith, s.requires.1.3, f))
+    (a.0, a.1, f ∙ ap front_words a.2, a.3.left, omega (arith, s.requires.1.3, f), s.requires.1.4 ∙ ap (λ (x : ℕ). any s.args.n (λ j. bit (word_at s.args.image.now (x + j)) 22)) (sym f))
 
 save-sections-requires : tie.Need-save-sections-requires
 save-sections-requires c κs =
@@ -64,7 +67,7 @@ save-sections-requires c κs =
     let t = c.before.before.before.before.before.before.kept.ensures in
     let g = judged-held _ a.0 _ _ a.3 a.1 a.2 c.before.before.before.before.before.before.before.before.before.before.before.before.before.before.before.before.front-words.ensures.0 c.before.before.before.before.before.before.before.before.before.before.before.before.before.before.IsPlace-in.ensures c.before.before.before.before.before.before.before.before.before.before.before.before.before.pick.ensures in
     let m = small-next _ a.0 _ _ a.3 a.1 a.2 a.4 (r.2 ∙ ap (λ (j : Judgement). j.health) g) (r.3 ∙ ap (λ (j : Judgement). j.syndrome) g) r.0 r.1 t.0 t.1 t.2 t.3 in
-    let l = c.before.before.before.before.save-setup.auto.1.1.1.1.0 ∙ s.requires.1.3 in
+    let l = c.before.before.before.before.save-setup.auto.1.1.1.1.1.0 ∙ s.requires.1.3 in
     ((small_size _ a.0 a.3 a.1 a.2, omega (arith, l), m.0.0, m.0.1, m.0.2, m.0.3), m.1.0)
 
 save-accounts-requires : tie.Need-save-accounts-requires
@@ -75,7 +78,7 @@ save-accounts-requires c κs =
     let t = c.before.before.before.before.before.before.before.before.before.before.before.before.before.kept.ensures in
     let g = judged-held _ a.0 _ _ a.3 a.1 a.2 c.before.before.before.before.before.before.before.before.before.before.before.before.before.before.before.before.before.before.before.before.before.before.before.front-words.ensures.0 c.before.before.before.before.before.before.before.before.before.before.before.before.before.before.before.before.before.before.before.before.before.IsPlace-in.ensures c.before.before.before.before.before.before.before.before.before.before.before.before.before.before.before.before.before.before.before.before.pick.ensures in
     let m = small-next _ a.0 _ _ a.3 a.1 a.2 a.4 (r.2 ∙ ap (λ (j : Judgement). j.health) g) (r.3 ∙ ap (λ (j : Judgement). j.syndrome) g) r.0 r.1 t.0 t.1 t.2 t.3 in
-    let l = c.before.before.before.before.before.before.save-sections.auto.1.1.1.1.1.1.1.1.0 ∙ c.before.before.before.before.before.before.before.before.before.before.before.save-setup.auto.1.1.1.1.0 ∙ s.requires.1.3 in
+    let l = c.before.before.before.before.before.before.save-sections.auto.1.1.1.1.1.1.1.1.0 ∙ c.before.before.before.before.before.before.before.before.before.before.before.save-setup.auto.1.1.1.1.1.0 ∙ s.requires.1.3 in
     (small_size _ a.0 a.3 a.1 a.2, omega (arith, l), m.1.1)
 
 save-pending-requires : tie.Need-save-pending-requires
@@ -83,14 +86,14 @@ save-pending-requires c κs =
     let s = c.before.before.before.before.before.before.before.before.before.before.before.before.before.before.before.before.before.before.before.before.before.before.before.before.before.before.before.before.before.before.before in
     let a = s.requires.0 in
     let f = c.before.before.before.before.before.before.before.before.before.before.before.before.before.before.before.before.before.before.before.before.before.before.before.before.before.before.before.front-words.ensures.0 in
-    let l = c.before.before.before.save-accounts.auto.1.1.1.1.1.0 ∙ c.before.before.before.before.before.before.before.before.before.before.save-sections.auto.1.1.1.1.1.1.1.1.0 ∙ c.before.before.before.before.before.before.before.before.before.before.before.before.before.before.before.save-setup.auto.1.1.1.1.0 ∙ s.requires.1.3 in
+    let l = c.before.before.before.save-accounts.auto.1.1.1.1.1.0 ∙ c.before.before.before.before.before.before.before.before.before.before.save-sections.auto.1.1.1.1.1.1.1.1.0 ∙ c.before.before.before.before.before.before.before.before.before.before.before.before.before.before.before.save-setup.auto.1.1.1.1.1.0 ∙ s.requires.1.3 in
     (a.0, a.1, f ∙ ap front_words a.2, a.3.left, omega (arith, l, f))
 
 save-views-requires : tie.Need-save-views-requires
 save-views-requires c κs =
     let s = c.before.before.before.before.before.before.before.before.before.before.before.before.before.before.before.before.before.before.before.before.before.before.before.before.before.before.before.before.before.before.before.before.before.before.before.before.before in
     let a = s.requires.0 in
-    let l = c.before.before.before.before.before.save-pending.auto.1.1.1.1.0 ∙ c.before.before.before.before.before.before.before.before.before.save-accounts.auto.1.1.1.1.1.0 ∙ c.before.before.before.before.before.before.before.before.before.before.before.before.before.before.before.before.save-sections.auto.1.1.1.1.1.1.1.1.0 ∙ c.before.before.before.before.before.before.before.before.before.before.before.before.before.before.before.before.before.before.before.before.before.save-setup.auto.1.1.1.1.0 in
+    let l = c.before.before.before.before.before.save-pending.auto.1.1.1.1.0 ∙ c.before.before.before.before.before.before.before.before.before.save-accounts.auto.1.1.1.1.1.0 ∙ c.before.before.before.before.before.before.before.before.before.before.before.before.before.before.before.before.save-sections.auto.1.1.1.1.1.1.1.1.0 ∙ c.before.before.before.before.before.before.before.before.before.before.before.before.before.before.before.before.before.before.before.before.before.save-setup.auto.1.1.1.1.1.0 in
     views-asked _ a.0 s.args.read.now s.args.controller a.3 a.1 a.2 c.before.before.before.before.before.before.before.before.before.before.before.before.before.before.before.before.before.before.before.before.before.before.before.before.before.before.before.before.before.before.before.before.before.front-words.ensures.0 s.requires.1.0 c.before.before.if1.true s.requires.1.1 s.requires.1.3 l
 
 returns : tie.Need-returns

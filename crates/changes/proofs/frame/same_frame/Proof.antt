@@ -15,9 +15,9 @@ same-places-requires c κs = search rules
 
 returns : tie.Need-returns
 returns c =
-    let a = c.before.before.before.before.before.before.before.before.before.before.before.before.before.args in
-    frame-by a.setup a.new c.before.before.before.before.before.before.before.before.before.before.fades.ensures
-    c.before.before.before.before.before.before.before.before.before.fades2.ensures c.same-places.ensures
+    let a = c.before.before.before.before.before.before.before.before.before.before.before.args in
+    frame-by a.setup a.new c.before.before.before.before.before.before.before.before.fades.ensures
+    c.before.before.before.before.before.before.before.fades2.ensures c.same-places.ensures
 
 pub same-frame-spec : {M : Type 1} → statement M
 same-frame-spec = tie.close (tie.spec fades-requires fades-requires-2 same-places-requires returns)

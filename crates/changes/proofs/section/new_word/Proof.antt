@@ -39,25 +39,21 @@ mul-criticality c = search rules
 element-copy-out-criticality : tie.Need-element-copy-out-criticality
 element-copy-out-criticality c = search rules
 
-bit-at-requires : tie.Need-bit-at-requires
-bit-at-requires c κs = search rules
-
 module-word-requires : tie.Need-module-word-requires
 module-word-requires c κs =
-    let s = c.before.before.before.before.before in
+    let s = c.before.before.before.before in
     let i = s.args.i in
     let (n, m, _, _) = s.requires.0 in
-    let a = c.before.before.before.before.if1.false in
-    let b = c.before.before.before.if2.false in
+    let a = c.before.before.before.if1.false in
+    let b = c.before.before.if2.false in
     let l : i - 2 < s.args.t1.n = omega arith in
     let (x, y) = s.requires.1 (i - 2) l in
     (omega arith, x, y)
 
 returns-3 : tie.Need-returns-3
 returns-3 c =
-    let a = c.before.before.before.before.before.before.args in
-    later-word a.t1 a.t2 a.i c.before.before.before.before.before.if1.false c.before.before.before.before.if2.false
-    c.before.bit_at.ensures c.module-word.ensures
+    let a = c.before.before.before.before.before.args in
+    later-word a.t1 a.t2 a.i c.before.before.before.before.if1.false c.before.before.before.if2.false c.module-word.ensures
 
 pub new-word-spec : {M : Type 1} → statement M
 new-word-spec =
@@ -74,6 +70,5 @@ new-word-spec =
     element-copy-out-place
     mul-criticality
     element-copy-out-criticality
-    bit-at-requires
     module-word-requires
     returns-3)

@@ -1,12 +1,17 @@
 -- Numbers 1 and 2, then the length, then the setup, then the rest: where one refuses, its answer is the whole answer.
-use Rattle.std.proofs.Common.{◌≡◌, ℕ, ◌≤◌, Bool, List, sym, ◌∙◌, arith, rules, eqb-true}
-use borrow.Author.Tests.{not-true, not-false}
+use native.Mathlib.Omega.{arith}
+use mathlib.Core.Path.{◌≡◌, ◌∙◌, sym}
+use mathlib.Core.Bool.{Bool}
+use mathlib.Core.List.{List}
+use borrow.Author.Tests.{eqb-true, not-true, not-false}
 use Rattle.words.specs.Word.{word_at}
+use Prim.Native.Nat.{ℕ, ◌≤◌}
 use Rattle.setup.specs.Layout.{front_words, setup_length}
 use Rattle.setup.specs.Setup.{partitionable_in}
 use Rattle.setup.proofs.SetupAnswerLaws.{head-fits}
 use Rattle.image.specs.Layout.{left_at, image_length}
 use Rattle.image.proofs.ImageAnswers.{stays-head, stays-length, stays-words, ends-tail}
+use borrow.Author.Rules.{rules}
 use Rattle.image.proofs.check.check_image.Statement.{statement}
 use Rattle.image.proofs.check.check_image.Tie as tie
 

@@ -1,8 +1,9 @@
 -- The number is tested first, then the rest of the word.
-use Rattle.std.proofs.Common.{refl, ap, ◌∙◌, rules}
+use mathlib.Core.Path.{ap, ◌∙◌, refl}
 use Rattle.words.specs.Word.{word_at}
 use Rattle.image.specs.Words.{own_number_ok, own_ok}
 use Rattle.image.proofs.SectionLaws.{own-refused, own-passes, own-fails}
+use borrow.Author.Rules.{rules}
 use Rattle.image.proofs.check.check_own.Statement.{statement}
 use Rattle.image.proofs.check.check_own.Tie as tie
 

@@ -1,12 +1,17 @@
 -- The sections in their turn.
 use Rattle.image.proofs.SectionLaws.{tail-joined}
 use Rattle.image.proofs.TornLaws.{length_found}
-use Rattle.std.proofs.Common.{◌≡◌, ℕ, ◌+◌, ◌*◌, ◌≤◌, Bool, List, refl, arith, rules}
+use mathlib.Core.Path.{◌≡◌, refl}
+use mathlib.Core.Bool.{Bool}
+use mathlib.Core.List.{List}
 use Rattle.setup.specs.Layout.{front_words}
 use Rattle.setup.specs.Setup.{partitionable_in}
+use Prim.Native.Nat.{ℕ, ◌+◌, ◌*◌, ◌≤◌}
+use native.Mathlib.Omega.{arith}
 use Rattle.image.specs.Layout.{left_at, before_left, image_length}
 use Rattle.words.specs.Word.{word_at}
 use Rattle.changes.specs.Words.{new_count}
+use borrow.Author.Rules.{rules}
 use Rattle.image.proofs.check.check_tail.Statement.{statement}
 use Rattle.image.proofs.check.check_tail.Tie as tie
 

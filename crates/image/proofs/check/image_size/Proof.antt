@@ -1,11 +1,17 @@
 -- Each test in its turn: where all are passed, head and length are right.
-use Rattle.std.proofs.Common.{ℕ, ◌/◌, eqb, length, sym, ap, ◌∙◌, true≢false, arith, rules, eq-eqb, eqb-true}
-use borrow.Author.Tests.{not-true, not-false}
+use native.Mathlib.Omega.{arith}
+use mathlib.Core.Path.{sym, ◌∙◌, ap}
+use mathlib.Core.Bool.{true≢false}
+use Prim.Native.Nat.{ℕ, ◌/◌}
+use lib.Dec.{eqb}
+use lib.ListN.{length}
+use borrow.Author.Tests.{eq-eqb, eqb-true, not-true, not-false}
 use Rattle.words.specs.Word.{word_at, kind_unit}
 use Rattle.setup.specs.Layout.{front_words}
 use Rattle.setup.specs.Check.{head_ok}
 use Rattle.setup.proofs.WordFields.{head-made}
 use Rattle.image.proofs.ImageAnswers.{size_none, size-there, length-by}
+use borrow.Author.Rules.{rules}
 use Rattle.image.proofs.check.image_size.Statement.{statement}
 use Rattle.image.proofs.check.image_size.Tie as tie
 use Rattle.image.proofs.check.image_size.Reads as reads

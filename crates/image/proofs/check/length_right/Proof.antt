@@ -1,8 +1,16 @@
 -- Too short to hold the rounds left, or by them.
-use Rattle.std.proofs.Common.{◌≡◌, ℕ, ◌+◌, ◌*◌, ◌<◌, false, eqb, List, length, sym, ap, ◌∙◌, ap₂, arith, rules, ne_eqb}
+use native.Mathlib.Omega.{arith}
+use mathlib.Core.Path.{◌≡◌, sym, ap, ap₂, ◌∙◌}
+use mathlib.Core.Bool.{false}
+use mathlib.Core.List.{List}
+use Prim.Native.Nat.{ℕ, ◌+◌, ◌*◌, ◌<◌}
+use lib.Dec.{eqb}
+use lib.ListN.{length}
+use borrow.Author.Tests.{ne_eqb}
 use Rattle.words.specs.Word.{word_at}
 use Rattle.setup.specs.Setup.{partitionable_in}
 use Rattle.image.specs.Layout.{left_at, image_length}
+use borrow.Author.Rules.{rules}
 use Rattle.image.proofs.check.length_right.Statement.{statement}
 use Rattle.image.proofs.check.length_right.Tie as tie
 use Rattle.image.proofs.check.length_right.Reads as reads

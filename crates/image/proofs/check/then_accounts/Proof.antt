@@ -1,5 +1,8 @@
 -- By the form of the setup, one section after the other.
-use Rattle.std.proofs.Common.{◌≡◌, ℕ, ◌≤◌, Bool, true, false, sym, ap, ◌∙◌, arith, rules}
+use mathlib.Core.Path.{◌≡◌, ap, sym, ◌∙◌}
+use mathlib.Core.Bool.{Bool, true, false}
+use Prim.Native.Nat.{ℕ, ◌≤◌}
+use native.Mathlib.Omega.{arith}
 use Rattle.words.specs.Verdict.{each, and_then, outcome, then_tests}
 use Rattle.words.specs.declared.Verdict.{Verdict}
 use Rattle.setup.specs.Layout.{front_words}
@@ -8,6 +11,7 @@ use Rattle.image.specs.CounterSection.{counter_ok}
 use Rattle.image.specs.Scores.{score_tests}
 use Rattle.image.specs.Counters.{counter_tests}
 use Rattle.image.specs.Check.{word_test}
+use borrow.Author.Rules.{rules}
 use Rattle.image.proofs.check.then_accounts.Statement.{statement}
 use Rattle.image.proofs.check.then_accounts.Tie as tie
 

@@ -1,8 +1,9 @@
 -- The answer so far, or the tests of the pending change.
-use Rattle.std.proofs.Common.{refl, rules}
+use mathlib.Core.Path.{refl}
 use Rattle.words.specs.Word.{word_at}
 use Rattle.changes.specs.Words.{change_tests}
 use Rattle.image.proofs.SectionLaws.{tests-skipped, tests-made}
+use borrow.Author.Rules.{rules}
 use Rattle.image.proofs.check.then_change.Statement.{statement}
 use Rattle.image.proofs.check.then_change.Tie as tie
 use Rattle.image.proofs.check.then_change.Reads as reads

@@ -1,11 +1,12 @@
 -- One section after the other.
-use Rattle.std.proofs.Common.{refl, rules}
+use mathlib.Core.Path.{refl}
 use Rattle.words.specs.Word.{word_at}
 use Rattle.image.specs.CounterSection.{counter_ok}
 use Rattle.image.specs.Returns.{return_counts}
 use Rattle.image.specs.Counters.{penalties, rewards}
 use Rattle.image.specs.Check.{word_test}
 use Rattle.image.proofs.SectionLaws.{none-tested, then-tested}
+use borrow.Author.Rules.{rules}
 use Rattle.image.proofs.check.then_counters.Statement.{statement}
 use Rattle.image.proofs.check.then_counters.Tie as tie
 

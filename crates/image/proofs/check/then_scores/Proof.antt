@@ -1,9 +1,10 @@
 -- The answer so far, or what the search through the scores found.
-use Rattle.std.proofs.Common.{true, rules}
+use mathlib.Core.Bool.{true}
 use Rattle.words.specs.Word.{word_at}
 use Rattle.words.proofs.SearchLaws.{search-skipped, search-none, search-found}
 use Rattle.setup.specs.Layout.{front_words}
 use Rattle.image.specs.Scores.{score_tests}
+use borrow.Author.Rules.{rules}
 use Rattle.image.proofs.check.then_scores.Statement.{statement}
 use Rattle.image.proofs.check.then_scores.Tie as tie
 

@@ -1,9 +1,10 @@
 -- The answer so far, or what the search through the section found.
-use Rattle.std.proofs.Common.{refl, rules}
+use mathlib.Core.Path.{refl}
 use Rattle.words.specs.Word.{word_at}
 use Rattle.words.specs.Verdict.{each}
 use Rattle.words.proofs.SearchLaws.{search-skipped, search-none, search-found}
 use Rattle.image.specs.Check.{word_test}
+use borrow.Author.Rules.{rules}
 use Rattle.image.proofs.check.then_section.Statement.{statement}
 use Rattle.image.proofs.check.then_section.Tie as tie
 

@@ -1,8 +1,9 @@
 -- The answer so far, or that of the word.
-use Rattle.std.proofs.Common.{refl, ap, ◌∙◌, rules}
+use mathlib.Core.Path.{ap, ◌∙◌, refl}
 use Rattle.words.proofs.SearchLaws.{search-skipped}
 use Rattle.image.specs.Words.{syndrome_ok}
 use Rattle.image.proofs.SectionLaws.{word-passes, word-fails}
+use borrow.Author.Rules.{rules}
 use Rattle.image.proofs.check.then_syndrome.Statement.{statement}
 use Rattle.image.proofs.check.then_syndrome.Tie as tie
 

@@ -1,6 +1,7 @@
 -- By the kind.
-use Rattle.std.proofs.Common.{rules, ne_eqb}
+use borrow.Author.Tests.{ne_eqb}
 use Rattle.image.specs.Check.{word_test}
+use borrow.Author.Rules.{rules}
 use Rattle.image.proofs.check.word_right.Statement.{statement}
 use Rattle.image.proofs.check.word_right.Tie as tie
 

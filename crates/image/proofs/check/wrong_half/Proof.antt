@@ -1,5 +1,8 @@
 -- As long as the search goes on, the words before i are right; it stops at the first that is not, or at the end of the scores.
-use Rattle.std.proofs.Common.{◌≡◌, ◌+◌, ◌-◌, ◌≤◌, true, not, refl, ap, arith}
+use native.Mathlib.Omega.{arith}
+use Prim.Native.Nat.{◌+◌, ◌-◌, ◌≤◌}
+use mathlib.Core.Path.{◌≡◌, refl, ap}
+use mathlib.Core.Bool.{true, not}
 use Rattle.words.specs.Word.{word_at}
 use Rattle.words.specs.Count.{lowest}
 use Rattle.words.proofs.LowestLaws.{lowest-ends, asked-none, asked-found}

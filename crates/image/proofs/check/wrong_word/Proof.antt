@@ -1,5 +1,8 @@
 -- As long as the search goes on, the words before j are right; it stops at the first that is not, or at n.
-use Rattle.std.proofs.Common.{◌≡◌, ◌-◌, ◌≤◌, not, refl, ap, arith}
+use native.Mathlib.Omega.{arith}
+use Prim.Native.Nat.{◌-◌, ◌≤◌}
+use mathlib.Core.Path.{◌≡◌, refl, ap}
+use mathlib.Core.Bool.{not}
 use Rattle.words.specs.Word.{word_at}
 use Rattle.words.specs.Count.{lowest}
 use Rattle.words.proofs.LowestLaws.{lowest-ends, asked-none, asked-found}

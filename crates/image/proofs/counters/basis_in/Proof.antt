@@ -1,10 +1,12 @@
 -- Each from its word.
-use Rattle.std.proofs.Common.{ℕ, ap, ◌∙◌, rules}
+use mathlib.Core.Path.{ap, ◌∙◌}
+use Prim.Native.Nat.{ℕ}
 use Rattle.words.specs.Word.{word_at}
 use Rattle.words.specs.Bits.{bit}
 use Rattle.setup.specs.Setup.{return_limit_in}
 use Rattle.image.specs.CounterSection.{counter_in}
 use Rattle.image.proofs.ReadLaws.{word-by, basis-by}
+use borrow.Author.Rules.{rules}
 use Rattle.image.proofs.counters.basis_in.Statement.{statement}
 use Rattle.image.proofs.counters.basis_in.Tie as tie
 

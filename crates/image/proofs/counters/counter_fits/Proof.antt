@@ -1,5 +1,6 @@
 -- By the kind.
-use Rattle.std.proofs.Common.{rules, ne_eqb}
+use borrow.Author.Tests.{ne_eqb}
+use borrow.Author.Rules.{rules}
 use Rattle.image.proofs.counters.counter_fits.Statement.{statement}
 use Rattle.image.proofs.counters.counter_fits.Tie as tie
 

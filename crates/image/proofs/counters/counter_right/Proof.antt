@@ -1,8 +1,11 @@
 -- The kind and the number, then whether the counter fits.
-use Rattle.std.proofs.Common.{◌&&◌, ap, ◌∙◌, ap₂, arith, rules}
+use native.Mathlib.Omega.{arith}
+use mathlib.Core.Path.{ap, ap₂, ◌∙◌}
+use mathlib.Core.Bool.{◌&&◌}
 use Rattle.image.specs.CounterSection.{counter_in, counter_of}
 use Rattle.image.specs.Counters.{fits_by}
 use Rattle.image.specs.declared.Basis.{Basis}
+use borrow.Author.Rules.{rules}
 use Rattle.image.proofs.counters.counter_right.Statement.{statement}
 use Rattle.image.proofs.counters.counter_right.Tie as tie
 

@@ -1,6 +1,6 @@
 -- By the form, each section in its turn.
 use Rattle.image.specs.Counters.{counters_roomy}
-use Rattle.std.proofs.Common.{rules}
+use borrow.Author.Rules.{rules}
 use Rattle.image.proofs.counters.counters_roomy.Statement.{statement}
 use Rattle.image.proofs.counters.counters_roomy.Tie as tie
 

@@ -1,6 +1,9 @@
 -- After j turns the arrays hold how far the first j words of each section are above their first, and `good` says whether these words are right; so
 -- where all are, the arrays hold the counters.
-use Rattle.std.proofs.Common.{◌≡◌, ℕ, ◌-◌, ◌≤◌, false, sym, refl, ap, ◌∙◌, arith, rules}
+use native.Mathlib.Omega.{arith}
+use Prim.Native.Nat.{ℕ, ◌-◌, ◌≤◌}
+use mathlib.Core.Path.{◌≡◌, refl, ap, ◌∙◌, sym}
+use mathlib.Core.Bool.{false}
 use Rattle.words.specs.Word.{word_at, gap_of}
 use Rattle.words.specs.Bits.{bit}
 use Rattle.words.specs.Array.{array}
@@ -14,6 +17,7 @@ use Rattle.image.specs.Counters.{penalties, rewards}
 use Rattle.image.proofs.CounterSectionLaws.{first, later, tests_at, counters-right}
 use Rattle.image.proofs.ReadLaws.{array-read, word-by, basis-by}
 use Rattle.image.proofs.GapLaws.{gaps-test, gaps_to, count-values}
+use borrow.Author.Rules.{rules}
 use Rattle.image.proofs.counters.load_counters.Statement.{statement}
 use Rattle.image.proofs.counters.load_counters.Tie as tie
 

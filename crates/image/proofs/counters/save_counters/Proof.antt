@@ -1,8 +1,12 @@
 -- After j turns the first j words of the three sections are written, and the rest is as it was.
-use Rattle.std.proofs.Common.{◌≡◌, ◌-◌, ◌≤◌, length, get_or, refl, ◌∙◌, arith, rules}
+use native.Mathlib.Omega.{arith}
+use Prim.Native.Nat.{◌-◌, ◌≤◌}
+use mathlib.Core.Path.{◌≡◌, refl, ◌∙◌}
+use lib.ListN.{length, get_or}
 use Rattle.words.specs.Runs.{put_run}
 use Rattle.words.proofs.RunLaws.{three-step, three-end}
 use Rattle.image.specs.CounterSection.{counter_word}
+use borrow.Author.Rules.{rules}
 use Rattle.image.proofs.counters.save_counters.Statement.{statement}
 use Rattle.image.proofs.counters.save_counters.Tie as tie
 

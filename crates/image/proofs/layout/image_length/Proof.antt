@@ -1,7 +1,8 @@
 -- The words before the views, and those of the views.
-use Rattle.std.proofs.Common.{arith, rules}
+use native.Mathlib.Omega.{arith}
 use Rattle.changes.proofs.SectionTests.{new-most}
 use Rattle.views.proofs.ViewWords.{views-most}
+use borrow.Author.Rules.{rules}
 use Rattle.image.proofs.layout.image_length.Statement.{statement}
 use Rattle.image.proofs.layout.image_length.Tie as tie
 use Rattle.image.proofs.layout.image_length.Reads as reads

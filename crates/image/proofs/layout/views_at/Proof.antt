@@ -1,6 +1,7 @@
 -- After the rounds left and the new words.
-use Rattle.std.proofs.Common.{arith, rules}
+use native.Mathlib.Omega.{arith}
 use Rattle.changes.proofs.SectionTests.{new-most}
+use borrow.Author.Rules.{rules}
 use Rattle.image.proofs.layout.views_at.Statement.{statement}
 use Rattle.image.proofs.layout.views_at.Tie as tie
 use Rattle.image.proofs.layout.views_at.Reads as reads

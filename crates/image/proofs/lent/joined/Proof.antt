@@ -1,8 +1,12 @@
 -- After j turns the first j entries are the doubles of the first j pairs of halves.
-use Rattle.std.proofs.Common.{◌≡◌, ◌-◌, ◌≤◌, get_or, arith, rules}
+use native.Mathlib.Omega.{arith}
+use Prim.Native.Nat.{◌-◌, ◌≤◌}
+use mathlib.Core.Path.{◌≡◌}
+use lib.ListN.{get_or}
 use Rattle.doubles.specs.Double.{of_words}
 use Rattle.doubles.specs.Array.{doubles}
 use Rattle.doubles.proofs.DoubleArrayLaws.{doubles-start, doubles-step, doubles-end}
+use borrow.Author.Rules.{rules}
 use Rattle.image.proofs.lent.joined.Statement.{statement}
 use Rattle.image.proofs.lent.joined.Tie as tie
 

@@ -1,7 +1,7 @@
 -- By the form; a literal of zeros is the array of zeros.
 use Rattle.doubles.proofs.Rounding.{zero_bits}
 use Rattle.image.specs.Part.{lent_counters}
-use Rattle.std.proofs.Common.{rules}
+use borrow.Author.Rules.{rules}
 use Rattle.image.proofs.lent.lent_counters.Statement.{statement}
 use Rattle.image.proofs.lent.lent_counters.Tie as tie
 

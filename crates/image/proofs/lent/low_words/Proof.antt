@@ -1,9 +1,12 @@
 -- After j turns the first j entries are the low halves of the first j scores.
-use Rattle.std.proofs.Common.{◌≡◌, ◌-◌, ◌≤◌, arith, rules}
+use native.Mathlib.Omega.{arith}
+use Prim.Native.Nat.{◌-◌, ◌≤◌}
+use mathlib.Core.Path.{◌≡◌}
 use Rattle.words.specs.Array.{array}
 use Rattle.words.proofs.ArrayLaws.{array-none, array-step, array-end}
 use Rattle.doubles.specs.Double.{low_word}
 use Rattle.doubles.specs.Array.{entry}
+use borrow.Author.Rules.{rules}
 use Rattle.image.proofs.lent.low_words.Statement.{statement}
 use Rattle.image.proofs.lent.low_words.Tie as tie
 

@@ -1,5 +1,5 @@
 -- By the form.
-use Rattle.std.proofs.Common.{rules}
+use borrow.Author.Rules.{rules}
 use Rattle.image.proofs.lent.second_of.Statement.{statement}
 use Rattle.image.proofs.lent.second_of.Tie as tie
 

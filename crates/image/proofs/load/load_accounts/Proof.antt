@@ -1,10 +1,11 @@
 -- By the form of the limits: what is asked of an image with such limits is asked of it by that form.
-use Rattle.std.proofs.Common.{sym, ap, subst, rules}
+use mathlib.Core.Path.{ap, sym, subst}
 use Rattle.words.specs.Word.{word_at}
 use Rattle.setup.specs.Setup.{limits_in}
 use Rattle.image.proofs.ReadLaws.{limits-within}
 use Rattle.image.proofs.CounterLaws.{penalty_of, reward_of, score_limit_of}
 use Rattle.image.proofs.LentLaws.{Asked, Given}
+use borrow.Author.Rules.{rules}
 use Rattle.image.proofs.load.load_accounts.Statement.{statement}
 use Rattle.image.proofs.load.load_accounts.Tie as tie
 

@@ -1,5 +1,9 @@
 -- The parts give what the words hold and the tests of them; joined, the tests are those of the whole check.
-use Rattle.std.proofs.Common.{◌≡◌, ℕ, ◌+◌, ◌*◌, ◌≤◌, Bool, List, sym, refl, ap, ◌∙◌, true≢false, arith, rules}
+use native.Mathlib.Omega.{arith}
+use mathlib.Core.Path.{◌≡◌, refl, ap, ◌∙◌, sym}
+use mathlib.Core.Bool.{Bool, true≢false}
+use mathlib.Core.List.{List}
+use Prim.Native.Nat.{ℕ, ◌+◌, ◌*◌, ◌≤◌}
 use borrow.Author.Tests.{not-true, not-false}
 use Rattle.words.specs.Word.{word_at}
 use Rattle.words.proofs.Truth.{and_l, and_r}
@@ -10,6 +14,7 @@ use Rattle.image.specs.Layout.{left_at, before_left, image_length}
 use Rattle.image.proofs.ReadLaws.{limits-wrong, limits-fine, change-good, views-good}
 use Rattle.image.proofs.LentLaws.{asked_by, given_by}
 use Rattle.image.proofs.TornLaws.{length_found}
+use borrow.Author.Rules.{rules}
 use Rattle.image.proofs.load.load_image.Statement.{statement}
 use Rattle.image.proofs.load.load_image.Tie as tie
 use Rattle.image.proofs.load.load_image.Reads as reads
@@ -147,6 +152,7 @@ returns-2 c =
           let place : front.result ≡ front_words s.args.fades = front.ensures.0 in
           record {
             skew = rw place at (modules.ensures.2 (and_l modules.result.good _ t));
+            marked = rw place at modules.ensures.3;
             q = q;
             limits = limits;
             own = rw place at alone.ensures.1;

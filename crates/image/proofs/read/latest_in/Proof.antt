@@ -1,7 +1,8 @@
 -- The word at its place, and the field in it.
-use Rattle.std.proofs.Common.{ap, ◌∙◌, rules}
+use mathlib.Core.Path.{ap, ◌∙◌}
 use Rattle.words.specs.Word.{word_at}
 use Rattle.image.specs.Words.{syndrome_in}
+use borrow.Author.Rules.{rules}
 use Rattle.image.proofs.read.latest_in.Statement.{statement}
 use Rattle.image.proofs.read.latest_in.Tie as tie
 

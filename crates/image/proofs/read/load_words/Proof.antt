@@ -1,7 +1,10 @@
 -- Each word at its place, its tests and its fields.
-use Rattle.std.proofs.Common.{ℕ, ◌&&◌, ap, ◌∙◌, ap₂, rules}
+use mathlib.Core.Path.{ap, ap₂, ◌∙◌}
+use Prim.Native.Nat.{ℕ}
+use mathlib.Core.Bool.{◌&&◌}
 use Rattle.words.specs.Word.{word_at}
 use Rattle.image.specs.Words.{own_in, view_in, syndrome_in, own_number_ok, own_ok, syndrome_ok}
+use borrow.Author.Rules.{rules}
 use Rattle.image.proofs.read.load_words.Statement.{statement}
 use Rattle.image.proofs.read.load_words.Tie as tie
 

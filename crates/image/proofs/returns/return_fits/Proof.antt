@@ -1,6 +1,6 @@
 -- By one comparison.
 use Rattle.image.proofs.ReturnLaws.{return-one}
-use Rattle.std.proofs.Common.{rules}
+use borrow.Author.Rules.{rules}
 use Rattle.image.proofs.returns.return_fits.Statement.{statement}
 use Rattle.image.proofs.returns.return_fits.Tie as tie
 

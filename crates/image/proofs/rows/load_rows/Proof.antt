@@ -1,5 +1,7 @@
 -- After j turns the bits heard and the rows are those of the first j row words, and `good` says whether these are right.
-use Rattle.std.proofs.Common.{◌≡◌, ◌+◌, ◌-◌, ◌≤◌, refl, ap, ◌∙◌, arith, rules}
+use native.Mathlib.Omega.{arith}
+use Prim.Native.Nat.{◌+◌, ◌-◌, ◌≤◌}
+use mathlib.Core.Path.{◌≡◌, refl, ap, ◌∙◌}
 use Rattle.words.specs.Word.{word_at}
 use Rattle.words.specs.Bits.{pack}
 use Rattle.words.specs.Array.{array}
@@ -10,6 +12,7 @@ use Rattle.words.proofs.CountLaws.{all-step, all_end}
 use Rattle.image.specs.Layout.{rows_at}
 use Rattle.image.specs.Rows.{heard_in, row_in, reading_in, row_ok, row_test}
 use Rattle.image.proofs.ReadLaws.{word-by}
+use borrow.Author.Rules.{rules}
 use Rattle.image.proofs.rows.load_rows.Statement.{statement}
 use Rattle.image.proofs.rows.load_rows.Tie as tie
 

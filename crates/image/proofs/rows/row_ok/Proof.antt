@@ -1,6 +1,8 @@
 -- One comparison tests kind, number and row.
-use Rattle.std.proofs.Common.{arith, pow_mono, rules}
+use native.Mathlib.Omega.{arith}
+use lib.Pow.{pow_mono}
 use Rattle.image.proofs.RowLaws.{row-by-gap}
+use borrow.Author.Rules.{rules}
 use Rattle.image.proofs.rows.row_ok.Statement.{statement}
 use Rattle.image.proofs.rows.row_ok.Tie as tie
 

@@ -1,7 +1,8 @@
 -- The word at its place.
-use Rattle.std.proofs.Common.{ap, ◌∙◌, rules}
+use mathlib.Core.Path.{ap, ◌∙◌}
 use Rattle.image.specs.Rows.{row_ok}
 use Rattle.image.proofs.ReadLaws.{word-by}
+use borrow.Author.Rules.{rules}
 use Rattle.image.proofs.rows.row_right.Statement.{statement}
 use Rattle.image.proofs.rows.row_right.Tie as tie
 

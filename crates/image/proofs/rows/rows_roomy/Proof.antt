@@ -1,6 +1,6 @@
 -- The vector, then the rows.
 use Rattle.image.specs.Rows.{rows_roomy}
-use Rattle.std.proofs.Common.{rules}
+use borrow.Author.Rules.{rules}
 use Rattle.image.proofs.rows.rows_roomy.Statement.{statement}
 use Rattle.image.proofs.rows.rows_roomy.Tie as tie
 

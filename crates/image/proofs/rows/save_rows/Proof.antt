@@ -1,9 +1,13 @@
 -- After j turns the first j row words are written, and the rest is as it was.
-use Rattle.std.proofs.Common.{◌≡◌, ◌-◌, ◌≤◌, length, get_or, refl, ◌∙◌, arith, rules}
+use native.Mathlib.Omega.{arith}
+use Prim.Native.Nat.{◌-◌, ◌≤◌}
+use mathlib.Core.Path.{◌≡◌, refl, ◌∙◌}
+use lib.ListN.{length, get_or}
 use Rattle.words.specs.Runs.{put_run}
 use Rattle.words.proofs.RunLaws.{put_step, put-end}
 use Rattle.words.specs.Bits.{bit}
 use Rattle.image.specs.Rows.{row_word}
+use borrow.Author.Rules.{rules}
 use Rattle.image.proofs.rows.save_rows.Statement.{statement}
 use Rattle.image.proofs.rows.save_rows.Tie as tie
 

@@ -1,6 +1,6 @@
 -- By the form.
 use Rattle.image.proofs.SectionLaws.{small_by, scores-written, counts-written}
-use Rattle.std.proofs.Common.{rules}
+use borrow.Author.Rules.{rules}
 use Rattle.image.proofs.save.save_accounts.Statement.{statement}
 use Rattle.image.proofs.save.save_accounts.Tie as tie
 

@@ -1,6 +1,6 @@
 -- Every section at its place.
 use Rattle.image.proofs.SectionLaws.{sections-written}
-use Rattle.std.proofs.Common.{rules}
+use borrow.Author.Rules.{rules}
 use Rattle.image.proofs.save.save_sections.Statement.{statement}
 use Rattle.image.proofs.save.save_sections.Tie as tie
 

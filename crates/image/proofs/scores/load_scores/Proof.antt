@@ -1,6 +1,9 @@
 -- After j turns the arrays hold the first j high halves and low halves, and how far the first j words of the return counts are above their first, and
 -- `good` says whether these words are right; so where all are, the third array holds the return counts.
-use Rattle.std.proofs.Common.{◌≡◌, ℕ, ◌+◌, ◌-◌, ◌*◌, ◌≤◌, true, ◌&&◌, sym, refl, ap, ◌∙◌, ap₂, arith, rules}
+use native.Mathlib.Omega.{arith}
+use Prim.Native.Nat.{ℕ, ◌+◌, ◌*◌, ◌-◌, ◌≤◌}
+use mathlib.Core.Path.{◌≡◌, refl, ap, ap₂, ◌∙◌, sym}
+use mathlib.Core.Bool.{true, ◌&&◌}
 use Rattle.words.specs.Word.{word_at, gap_of}
 use Rattle.words.specs.Array.{array}
 use Rattle.words.specs.Count.{all}
@@ -13,6 +16,7 @@ use Rattle.image.specs.Returns.{return_counts}
 use Rattle.image.proofs.ReadLaws.{word-by}
 use Rattle.image.proofs.GapLaws.{return-by, gaps_to, gap-values}
 use Rattle.image.proofs.HalfLaws.{score-by, scored_at, scores-right, scored-returns}
+use borrow.Author.Rules.{rules}
 use Rattle.image.proofs.scores.load_scores.Statement.{statement}
 use Rattle.image.proofs.scores.load_scores.Tie as tie
 
@@ -72,9 +76,6 @@ gap-requires c κs = omega arith
 bit-at-requires : tie.Need-bit-at-requires invariant-loop decreases-loop
 bit-at-requires c κs = omega arith
 
-of-words-requires : tie.Need-of-words-requires invariant-loop decreases-loop
-of-words-requires c κs = search rules
-
 score-fits-requires : tie.Need-score-fits-requires invariant-loop decreases-loop
 score-fits-requires c κs = search rules
 
@@ -107,7 +108,7 @@ loop-less c = omega arith
 
 loop-again : tie.Need-loop-preserved invariant-loop decreases-loop
 loop-again c =
-    let g = c.before.before.before.before in
+    let g = c.before.before.before in
     let m = g.before.before.before.before in
     let l = m.before.loop in
     let at = m.before.before.returns-at.ensures in
@@ -120,10 +121,10 @@ loop-again c =
     let x = g.before.before.before.word_at.ensures in
     let y = g.before.before.word-at2.ensures in
     let z = g.before.word-at3.ensures in
-    let present = c.before.before.before.bit_at.ensures in (
+    let present = c.before.before.bit_at.ensures in (
       omega (arith, h),
       all-step _ _ l.invariant.1
-          (ap₂ ◌&&◌ (score-by w (front_words true) n l.j r.0 r.1 present i (c.before.before.of_words.ensures ∙ ap₂ of_words x y) c.before.score-fits.ensures)
+          (ap₂ ◌&&◌ (score-by w (front_words true) n l.j r.0 r.1 present i (ap₂ of_words x y) c.before.score-fits.ensures)
           (return-by w (front_words true) n l.j (omega arith) r.3 r.2 r.1 present at z (omega arith) g.gap.ensures c.return-fits.ensures)),
       array-step _ _ l.invariant.2 (x ∙ ap (λ (a : ℕ). w (a + 2 * l.j)) i),
       array-step _ _ l.invariant.3 (y ∙ ap (λ (a : ℕ). w (a + 2 * l.j + 1)) i),
@@ -165,7 +166,6 @@ load-scores-spec =
     word-at-requires-3
     gap-requires
     bit-at-requires
-    of-words-requires
     score-fits-requires
     return-fits-requires
     mul-high

@@ -1,9 +1,15 @@
 -- After j turns the first j pairs of halves and the first j return counts are written, and the rest is as it was.
-use Rattle.std.proofs.Common.{◌≡◌, ◌+◌, ◌-◌, ◌/◌, ◌%◌, ◌≤◌, cond, eqb, length, get_or, refl, ◌∙◌, arith, rules}
+use native.Mathlib.Omega.{arith}
+use Prim.Native.Nat.{◌+◌, ◌-◌, ◌/◌, ◌%◌, ◌≤◌}
+use mathlib.Core.Path.{◌≡◌, refl, ◌∙◌}
+use mathlib.Core.Bool.{cond}
+use lib.ListN.{length, get_or}
+use lib.Dec.{eqb}
 use Rattle.words.specs.Runs.{put_run}
 use Rattle.words.proofs.RunLaws.{pair_step, pair_end}
 use Rattle.image.specs.CounterSection.{counter_word}
 use Rattle.image.proofs.HalfLaws.{pair-high, pair-low}
+use borrow.Author.Rules.{rules}
 use Rattle.image.proofs.scores.save_scores.Statement.{statement}
 use Rattle.image.proofs.scores.save_scores.Tie as tie
 

@@ -1,5 +1,5 @@
 -- The answer so far, where it refuses or there are no views, else the tests of the views.
-use Rattle.std.proofs.Common.{sym, ap, ◌∙◌, rules}
+use mathlib.Core.Path.{ap, sym, ◌∙◌}
 use borrow.Author.Tests.{not-true, not-false}
 use Rattle.words.specs.Word.{word_at}
 use Rattle.setup.specs.Setup.{partitionable_in}
@@ -8,6 +8,7 @@ use Rattle.image.specs.Layout.{own_at, left_at, views_at}
 use Rattle.image.specs.Words.{view_in}
 use Rattle.image.proofs.SectionLaws.{tests-skipped}
 use Rattle.image.proofs.TornLaws.{views-small, views-room, views-skipped, views-tested}
+use borrow.Author.Rules.{rules}
 use Rattle.image.proofs.torn.then_views.Statement.{statement}
 use Rattle.image.proofs.torn.then_views.Tie as tie
 use Rattle.image.proofs.torn.then_views.Reads as reads

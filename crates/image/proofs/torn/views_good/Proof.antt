@@ -1,9 +1,10 @@
 -- True where there are no views, else all their tests.
-use Rattle.std.proofs.Common.{refl, rules}
+use mathlib.Core.Path.{refl}
 use borrow.Author.Tests.{not-true, not-false}
 use Rattle.words.specs.Word.{word_at}
 use Rattle.image.specs.Layout.{views_at}
 use Rattle.image.proofs.TornLaws.{views-small, views-room, none-wrong, some_right}
+use borrow.Author.Rules.{rules}
 use Rattle.image.proofs.torn.views_good.Statement.{statement}
 use Rattle.image.proofs.torn.views_good.Tie as tie
 use Rattle.image.proofs.torn.views_good.Reads as reads

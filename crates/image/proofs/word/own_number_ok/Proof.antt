@@ -1,6 +1,6 @@
 -- The kind is compared, and the own number is taken out of the word.
 use Rattle.image.specs.Words.{own_number_ok}
-use Rattle.std.proofs.Common.{rules}
+use borrow.Author.Rules.{rules}
 use Rattle.image.proofs.word.own_number_ok.Statement.{statement}
 use Rattle.image.proofs.word.own_number_ok.Tie as tie
 

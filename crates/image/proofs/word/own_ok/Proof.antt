@@ -1,6 +1,6 @@
 -- The top eleven bits are compared with kind 10, and the view with the power.
 use Rattle.image.specs.Words.{own_ok}
-use Rattle.std.proofs.Common.{rules}
+use borrow.Author.Rules.{rules}
 use Rattle.image.proofs.word.own_ok.Statement.{statement}
 use Rattle.image.proofs.word.own_ok.Tie as tie
 

@@ -1,7 +1,10 @@
 -- The second test implies the kind, so the number is tested with it.
-use Rattle.std.proofs.Common.{ℕ, ◌&&◌, ap, ◌∙◌, ap₂, rules}
+use mathlib.Core.Path.{ap, ap₂, ◌∙◌}
+use mathlib.Core.Bool.{◌&&◌}
+use Prim.Native.Nat.{ℕ}
 use Rattle.words.specs.Verdict.{between}
 use Rattle.image.proofs.SingleWords.{own-both}
+use borrow.Author.Rules.{rules}
 use Rattle.image.proofs.word.own_right.Statement.{statement}
 use Rattle.image.proofs.word.own_right.Tie as tie
 

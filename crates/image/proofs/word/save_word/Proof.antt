@@ -1,6 +1,6 @@
 -- One word is a run of one.
 use Rattle.words.proofs.RunLaws.{put_one}
-use Rattle.std.proofs.Common.{rules}
+use borrow.Author.Rules.{rules}
 use Rattle.image.proofs.word.save_word.Statement.{statement}
 use Rattle.image.proofs.word.save_word.Tie as tie
 

@@ -1,4 +1,4 @@
--- The limits, then the module words by one number and by the other, each after the answer of those before.
+-- The limits, then the module words, after the answer of those before.
 use Rattle.setup.proofs.SetupAnswerLaws.{words-by}
 use Rattle.std.proofs.Common.{rules}
 use Rattle.setup.proofs.check.check_words.Statement.{statement}
@@ -13,14 +13,11 @@ check-limits-requires c κs = search rules
 then-modules-requires : tie.Need-then-modules-requires
 then-modules-requires c κs = search rules
 
-then-modules-requires-2 : tie.Need-then-modules-requires-2
-then-modules-requires-2 c κs = search rules
-
 returns : tie.Need-returns
 returns c =
-    let l = c.before.before in
+    let l = c.before in
     let f = l.before in
-    words-by _ f.before.before.requires.2 f.front-words.ensures.0 _ l.check-limits.ensures c.before.then-modules.ensures c.then-modules2.ensures
+    words-by _ f.before.before.requires.2 f.front-words.ensures.0 _ l.check-limits.ensures c.then-modules.ensures
 
 pub check-words-spec : {M : Type 1} → statement M
 check-words-spec =
@@ -29,5 +26,4 @@ check-words-spec =
     front-words-requires
     check-limits-requires
     then-modules-requires
-    then-modules-requires-2
     returns)

@@ -20,7 +20,7 @@ returns-2 : tie.Need-returns-2
 returns-2 c =
     let g = c.before.before.before in
     let a = g.before.before.before.args in
-    search-none _ (module_tests (word_at a.s.now) a.front a.n a.number) g.if1.false c.before.before.wrong-module.ensures c.before.if2.true c.accept.ensures
+    search-none _ (module_tests (word_at a.s.now) a.front a.n) g.if1.false c.before.before.wrong-module.ensures c.before.if2.true c.accept.ensures
 
 add-refusal : tie.Need-overflow-add-refusal
 add-refusal c =
@@ -42,7 +42,7 @@ returns-3 : tie.Need-returns-3
 returns-3 c =
     let g = c.before.before.before in
     let a = g.before.before.before.args in
-    search-found _ (module_tests (word_at a.s.now) a.front a.n a.number) g.if1.false c.before.before.wrong-module.ensures c.before.if2.false refl c.refusal.ensures
+    search-found _ (module_tests (word_at a.s.now) a.front a.n) g.if1.false c.before.before.wrong-module.ensures c.before.if2.false refl c.refusal.ensures
 
 pub then-modules-spec : {M : Type 1} → statement M
 then-modules-spec =

@@ -1,11 +1,8 @@
--- The marks are below the power, and the entries of the two arrays are small: the same three tests.
+-- The entries of the two arrays are small: the same two tests.
 use Rattle.setup.specs.Check.{setup_roomy}
 use Rattle.std.proofs.Common.{rules}
 use Rattle.setup.proofs.fields.roomy.Statement.{statement}
 use Rattle.setup.proofs.fields.roomy.Tie as tie
-
-power-requires : tie.Need-power-requires
-power-requires c κs = search rules
 
 bounded-requires : tie.Need-bounded-requires
 bounded-requires c κs = search rules
@@ -18,8 +15,8 @@ bounded-requires-2 c κs = search rules
 
 returns : tie.Need-returns
 unfolding setup_roomy
-returns c = rw (c.bounded2.ensures, c.before.bounded.ensures, c.before.before.before.power.ensures)
+returns c = rw (c.bounded2.ensures, c.before.bounded.ensures)
 
 pub roomy-spec : {M : Type 1} → statement M
 roomy-spec =
-    tie.close (tie.spec power-requires bounded-requires sub-bounded bounded-requires-2 returns)
+    tie.close (tie.spec bounded-requires sub-bounded bounded-requires-2 returns)

@@ -4,12 +4,12 @@ use Rattle.setup.specs.Modules.{fields_fit}
 use Rattle.setup.proofs.modules.fields_fit.Statement.{statement}
 use Rattle.setup.proofs.modules.fields_fit.Tie as tie
 
-place-mark-fits-requires : tie.Need-place-mark-fits-requires
-place-mark-fits-requires c κs = search rules
+cast-result : tie.Need-overflow-cast-result
+cast-result c = search rules
 
 returns : tie.Need-returns
 unfolding fields_fit
-returns c = rw c.place-mark-fits.ensures
+returns c = search rules
 
 pub fields-fit-spec : {M : Type 1} → statement M
-fields-fit-spec = tie.close (tie.spec place-mark-fits-requires returns)
+fields-fit-spec = tie.close (tie.spec cast-result returns)

@@ -1,23 +1,20 @@
--- After j turns marks, places and criticalities are those of the first j module words, and `good` says whether these are right.
-use Rattle.std.proofs.Common.{◌≡◌, ◌+◌, ◌-◌, ◌≤◌, ◌&&◌, refl, ap, ◌∙◌, ap₂, arith}
+-- After j turns places and criticalities are those of the first j module words, and `good` says whether these are right.
+use Rattle.std.proofs.Common.{◌≡◌, ◌+◌, ◌-◌, ◌≤◌, refl, ap, ◌∙◌, arith}
 use Rattle.words.specs.Word.{word_at}
-use Rattle.words.specs.Bits.{pack}
 use Rattle.words.specs.Array.{array}
 use Rattle.words.specs.Count.{all}
-use Rattle.words.proofs.BitLaws.{packed_lt}
 use Rattle.words.proofs.CountLaws.{all-step, all_end}
-use Rattle.setup.specs.Check.{module_ok, mark_ok}
-use Rattle.setup.specs.Modules.{module_right}
+use Rattle.setup.specs.Check.{module_ok}
 use Rattle.setup.proofs.SetupReadLaws.{ModulesRead, modules-step, setup-by, words-good}
 use Rattle.setup.proofs.read.load_setup.Statement.{statement}
 use Rattle.setup.proofs.read.load_setup.Tie as tie
 
 abbrev invariant-loop : tie.invariant-loop
-invariant-loop s fades n head front right limits good₀ marks₀ places₀ criticality₀ j₀ good marks places criticality j =
-    (j ≤ n) × (good ≡ all j (λ k. module_right n k (word_at s (front + k)))) × ModulesRead s front j marks places criticality
+invariant-loop s fades n head front right limits good₀ places₀ criticality₀ j₀ good places criticality j =
+    (j ≤ n) × (good ≡ all j (λ k. module_ok n k (word_at s (front + k)))) × ModulesRead s front j places criticality
 
 abbrev decreases-loop : tie.decreases-loop
-decreases-loop s fades n head front right limits good₀ marks₀ places₀ criticality₀ j₀ good marks places criticality j =
+decreases-loop s fades n head front right limits good₀ places₀ criticality₀ j₀ good places criticality j =
     n - j
 
 word-at-requires : tie.Need-word-at-requires invariant-loop decreases-loop
@@ -33,8 +30,8 @@ limits-at-requires : tie.Need-limits-at-requires invariant-loop decreases-loop
 limits-at-requires c κs = omega arith
 
 loop-holds : tie.Need-loop-init invariant-loop decreases-loop
-unfolding all pack array
-loop-holds c = (omega arith, refl, (refl, refl, refl))
+unfolding all array
+loop-holds c = (omega arith, refl, (refl, refl))
 
 add-word-at : tie.Need-overflow-add-word-at invariant-loop decreases-loop
 add-word-at c = omega arith
@@ -44,15 +41,6 @@ word-at-requires-2 c κs = omega arith
 
 module-ok-requires : tie.Need-module-ok-requires invariant-loop decreases-loop
 module-ok-requires c κs = omega arith
-
-mark-ok-requires : tie.Need-mark-ok-requires invariant-loop decreases-loop
-mark-ok-requires c κs = omega arith
-
-bit-at-requires : tie.Need-bit-at-requires invariant-loop decreases-loop
-bit-at-requires c κs = omega arith
-
-with-bit-requires : tie.Need-with-bit-requires invariant-loop decreases-loop
-with-bit-requires c κs = (packed_lt _ _ c.before.before.before.before.before.loop.invariant.2.0, omega arith)
 
 field-requires : tie.Need-field-requires invariant-loop decreases-loop
 field-requires c κs = omega arith
@@ -77,20 +65,20 @@ loop-less c = omega arith
 
 loop-again : tie.Need-loop-preserved invariant-loop decreases-loop
 loop-again c =
-    let g = c.before.before.before.before in
+    let g = c.before in
     let l = g.before.before.before.loop in
     let e = g.before.word-at2.ensures in (
       omega arith,
       all-step _ _ l.invariant.1
-          (ap₂ ◌&&◌ (g.module-ok.ensures ∙ ap (module_ok _ _) e) (c.before.before.before.mark-ok.ensures ∙ ap (mark_ok _) e)),
-      modules-step _ _ _ l.invariant.2 e c.before.before.bit_at.ensures c.before.with-bit.ensures c.field.ensures,
+          (g.module-ok.ensures ∙ ap (module_ok _ _) e),
+      modules-step _ _ _ l.invariant.2 e c.field.ensures,
     )
 
 field-requires-2 : tie.Need-field-requires-2 invariant-loop decreases-loop
 field-requires-2 c κs = omega arith
 
-bit-at-requires-2 : tie.Need-bit-at-requires-2 invariant-loop decreases-loop
-bit-at-requires-2 c κs = omega arith
+bit-at-requires : tie.Need-bit-at-requires invariant-loop decreases-loop
+bit-at-requires c κs = omega arith
 
 returns : tie.Need-returns invariant-loop decreases-loop
 returns d =
@@ -102,7 +90,7 @@ returns d =
     let a = f.before.before.before in
     let e : l.j ≡ a.args.n = omega arith in (
       words-good _ a.requires.3 f.front-words.ensures.0 _ t.before.limits-right.ensures (all_end _ e i.1),
-      setup-by _ a.requires.3 f.front-words.ensures.0 e a.requires.2 f.before.word_at.ensures c.field2.ensures d.bit-at2.ensures t.limits-at.ensures i.2,
+      setup-by _ a.requires.3 f.front-words.ensures.0 e a.requires.2 f.before.word_at.ensures c.field2.ensures d.bit_at.ensures t.limits-at.ensures i.2,
     )
 
 pub load-setup-spec : {M : Type 1} → statement M
@@ -119,9 +107,6 @@ load-setup-spec =
     add-word-at
     word-at-requires-2
     module-ok-requires
-    mark-ok-requires
-    bit-at-requires
-    with-bit-requires
     field-requires
     mul-places
     array-write-places
@@ -131,5 +116,5 @@ load-setup-spec =
     loop-less
     loop-again
     field-requires-2
-    bit-at-requires-2
+    bit-at-requires
     returns)

@@ -1,7 +1,6 @@
 -- After j turns the first j module words are written, and the rest is as it was.
 use Rattle.std.proofs.Common.{◌≡◌, ◌-◌, ◌≤◌, length, get_or, refl, ap, ◌∙◌, arith, rules}
 use Rattle.words.specs.Runs.{put_run}
-use Rattle.words.specs.Bits.{bit}
 use Rattle.words.proofs.RunLaws.{put_step}
 use Rattle.setup.specs.Layout.{front_words}
 use Rattle.setup.specs.Setup.{module_word}
@@ -10,13 +9,13 @@ use Rattle.setup.proofs.write.write_modules.Statement.{statement}
 use Rattle.setup.proofs.write.write_modules.Tie as tie
 
 abbrev invariant-loop : tie.invariant-loop
-invariant-loop out₀ n front marks places criticality j₀ out j =
+invariant-loop out₀ n front places criticality j₀ out j =
     (j ≤ n)
     × (length out ≡ length out₀)
-    × (out ≡ put_run out₀ front j (λ k. module_word k (bit marks k) (get_or places k 0) (get_or criticality k 0)))
+    × (out ≡ put_run out₀ front j (λ k. module_word k (get_or places k 0) (get_or criticality k 0)))
 
 abbrev decreases-loop : tie.decreases-loop
-decreases-loop out₀ n front marks places criticality j₀ out j = n - j
+decreases-loop out₀ n front places criticality j₀ out j = n - j
 
 fades-requires : tie.Need-fades-requires invariant-loop decreases-loop
 fades-requires c κs = search rules
@@ -28,45 +27,40 @@ loop-holds : tie.Need-loop-init invariant-loop decreases-loop
 unfolding put_run
 loop-holds c = (omega arith, refl, refl)
 
-bit-at-requires : tie.Need-bit-at-requires invariant-loop decreases-loop
-bit-at-requires c κs =
-    let f = room-pass _ c.before.before.before.before.before.before.before.requires.0 in
-    omega arith
-
 mul-module-word : tie.Need-overflow-mul-module-word invariant-loop decreases-loop
 mul-module-word c =
-    let f = room-pass _ c.before.before.before.before.before.before.before.before.requires.0 in
+    let f = room-pass _ c.before.before.before.before.before.before.before.requires.0 in
     omega arith
 
 array-read-module-word : tie.Need-array-read-module-word invariant-loop decreases-loop
 array-read-module-word c =
-    let f = room-pass _ c.before.before.before.before.before.before.before.before.requires.0 in
+    let f = room-pass _ c.before.before.before.before.before.before.before.requires.0 in
     omega arith
 
 mul-module-word-2 : tie.Need-overflow-mul-module-word-2 invariant-loop decreases-loop
 mul-module-word-2 c =
-    let f = room-pass _ c.before.before.before.before.before.before.before.before.requires.0 in
+    let f = room-pass _ c.before.before.before.before.before.before.before.requires.0 in
     omega arith
 
 array-read-module-word-2 : tie.Need-array-read-module-word-2 invariant-loop decreases-loop
 array-read-module-word-2 c =
-    let f = room-pass _ c.before.before.before.before.before.before.before.before.requires.0 in
+    let f = room-pass _ c.before.before.before.before.before.before.before.requires.0 in
     omega arith
 
 module-word-requires : tie.Need-module-word-requires invariant-loop decreases-loop
 module-word-requires c κs =
-    let f = room-pass _ c.before.before.before.before.before.before.before.before.requires.0 in
-    let h = c.before.loop-test.true in
+    let f = room-pass _ c.before.before.before.before.before.before.before.requires.0 in
+    let h = c.loop-test.true in
     (omega arith, place-small _ f _ h, criticality-small _ f _ h)
 
 add-put-word : tie.Need-overflow-add-put-word invariant-loop decreases-loop
 add-put-word c =
-    let f = room-pass _ c.before.before.before.before.before.before.before.before.before.before.requires.0 in
+    let f = room-pass _ c.before.before.before.before.before.before.before.before.before.requires.0 in
     omega arith
 
 put-word-requires : tie.Need-put-word-requires invariant-loop decreases-loop
 put-word-requires c κs =
-    let w = c.before.before.before.before.before.before.before in
+    let w = c.before.before.before.before.before.before in
     let f = w.front-words.ensures.0 ∙ ap front_words w.before.fades.ensures in
     omega arith
 
@@ -78,10 +72,10 @@ loop-less c = omega arith
 
 loop-again : tie.Need-loop-preserved invariant-loop decreases-loop
 loop-again c =
-    let l = c.before.before.before.before.before.before.before.loop in
-    let w = c.before.before.before.before.before.before.before.before.before.before in
+    let l = c.before.before.before.before.before.before.loop in
+    let w = c.before.before.before.before.before.before.before.before.before in
     let put = c.before.before.put_word in
-    let e = rw c.before.before.before.before.before.bit_at.ensures at c.before.before.before.before.module-word.ensures in
+    let e = c.before.before.before.before.module-word.ensures in
     let o = w.before.before.before.args.out.now in
     (omega arith, put.auto.0 ∙ l.invariant.1, put_step o w.front-words.result l.j _ l.invariant.2 put.ensures e)
 
@@ -103,7 +97,6 @@ write-modules-spec =
     fades-requires
     front-words-requires
     loop-holds
-    bit-at-requires
     mul-module-word
     array-read-module-word
     mul-module-word-2

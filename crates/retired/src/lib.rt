@@ -1,0 +1,1 @@
+// Theorems on the retired send mark, no code: see specs/Retired.antt.
