@@ -3,9 +3,10 @@
 # make harness  the harness alone: Rust implementations of the documents and a C program against the proved library and the bench
 # make edits    tries every wrong program and keeps all that the prover says of it, by which each slip is refused for itself; the gate does it too
 # make tools-test   the tests of the tools for run scripts and what the bench prints, alone; harness runs them too
-# make soak     the harness on a hundred million calls, a million histories of the scan lock, a hundred thousand run scripts and twenty thousand
-#               renumbered racks
-# make measure  instructions of a step beside plain C, stack of every call, code size, and a step's time beside the Rust implementation
+# make soak     the harness on a hundred million calls, a million histories of the scan lock, a hundred thousand run scripts, twenty thousand
+#               renumbered racks and a hundred thousand logs
+# make measure  instructions of a step, of the judge and of a list of usable cards beside plain C, stack of every call, code size, and the
+#               times of step and judge beside the Rust implementation
 # make time     time of the bench beside the Rust player: 100,000 rounds of 16 modules
 .PHONY: run test harness harness-model harness-calls harness-scripts harness-edits harness-tools harness-c edits tools-test soak measure time library bench rust clean
 
@@ -13,11 +14,12 @@ LIB := target/staticlib
 # the crates whose calls are exported, each by a thin crate of its own, NAME_c
 EXPORTS := calls lockcalls page
 BENCH := target/bin/bench
+JUDGE := target/bin/judge
 RUST := target/harness/release
 SEED ?= 1
 CARGO := cd harness && PRESENCE_LIB_DIR=../$(LIB) CARGO_TARGET_DIR=../target/harness cargo
 CARGO_FLAGS := --release --offline --features library
-TOOLS_TEST := BENCH=$(BENCH) python3 -m unittest discover -s tools/tests
+TOOLS_TEST := BENCH=$(BENCH) JUDGE=$(JUDGE) python3 -m unittest discover -s tools/tests
 C := $(MAKE) --no-print-directory -f harness/c.mk PRESENCE_LIB=$(LIB) C_BUILD=target/c
 
 run: bench
@@ -41,6 +43,10 @@ endif
 	mkdir -p $(dir $(BENCH))
 	cp crates/bench/out/bench $(BENCH)
 
+# the proved judge, $(JUDGE)
+judge:
+	rt check judge
+
 rust: library
 	$(CARGO) build $(CARGO_FLAGS)
 
@@ -55,16 +61,17 @@ harness-model:
 harness-calls:
 	cd harness && ../$(RUST)/vectors
 	for f in harness/data/*calls.txt; do $(RUST)/vectors --print $$f | diff - $$f || exit 1; done
-	$(RUST)/differential 42000 $(SEED)
+	$(RUST)/differential 49000 $(SEED)
 	$(RUST)/locks harness/data/scanlock/calls.txt harness/data/scanlock/own.txt
 	$(RUST)/locks --random 20000 $(SEED)
 
 harness-scripts:
 	tools/hex2bin examples/sheet.hex | cmp - harness/data/vectors/001-star-sheet.bin
-	for d in vectors e04 e06 e08 e09 e11 own-scripts; do $(RUST)/scripts --dir harness/data/$$d $(BENCH) || exit 1; done
+	for d in vectors e04 e06 e08 e09 e11 e12 e14 own-scripts; do $(RUST)/scripts --dir harness/data/$$d $(BENCH) || exit 1; done
 	$(RUST)/scripts --long $(BENCH)
 	$(RUST)/scripts 1000 $(SEED) $(BENCH)
 	$(RUST)/renumber 500 $(SEED) $(BENCH)
+	$(RUST)/judged 1400 $(SEED) $(JUDGE)
 
 # all that the prover says with each edit, which the tests of the tools read; without the gate they read what is there
 harness-edits:
@@ -84,15 +91,17 @@ edits:
 tools-test: bench
 	$(TOOLS_TEST)
 
-soak: rust bench
+soak: rust bench judge
 	$(RUST)/differential 2800000 $(SEED)
 	$(RUST)/locks --random 1000000 $(SEED)
 	$(RUST)/scripts 100000 $(SEED) $(BENCH)
 	$(RUST)/renumber 20000 $(SEED) $(BENCH)
+	$(RUST)/judged 100000 $(SEED) $(JUDGE)
 
 measure: rust
 	$(C) measure
 	$(RUST)/time_step
+	$(RUST)/time_judge
 
 time: rust bench
 	harness/measure/time_bench.py $(BENCH) $(RUST)/player target/time

@@ -41,10 +41,10 @@ header: | $(C_BUILD)
 	gcc $(C_FLAGS) -pedantic -Wstrict-prototypes -c $(C_BUILD)/header.c -o $(C_BUILD)/header.o
 	g++ -x c++ -std=c++98 -Wall -Wextra -Werror -Iinclude -c $(C_BUILD)/header.c -o $(C_BUILD)/header.o
 
-# The library has all that it calls: nothing of the C library, memcpy and memset included.
+# The library has all that it calls: nothing of the C library, memcpy and memset included. The judge alone, which is not for cards, calls memcpy.
 alone: $(C_ARCHIVE)
-	@if nm -u $(C_ARCHIVE) | grep ' U '; then echo 'the library calls what it does not have' >&2; exit 1; fi
-	@echo library: has all that it calls
+	@if nm -A -u $(C_ARCHIVE) | grep ' U ' | grep -v ':log\.o: *U memcpy$$'; then echo 'the library calls what it does not have' >&2; exit 1; fi
+	@echo library: has all that it calls, but for memcpy in the judge
 
 # The example; its output must be the stored one.
 firmware: $(C_BUILD)/card
@@ -70,7 +70,8 @@ measure: $(C_ARCHIVE)
 $(C_BUILD):
 	mkdir -p $(C_BUILD)
 
-CHECK = $(wildcard harness/c/check/*.c harness/c/check/groups/*.c) harness/c/plain.c harness/c/plain_page.c
+CHECK = $(wildcard harness/c/check/*.c harness/c/check/groups/*.c) harness/c/plain.c harness/c/plain_page.c \
+    harness/c/plain_judge.c harness/c/plain_link.c
 CHECK_HEADERS = $(wildcard harness/c/check/*.h harness/c/check/groups/*.h) harness/c/plain.h include/presence.h
 CHECK_NEEDS = $(CHECK) $(CHECK_HEADERS) $(C_ARCHIVE)
 

@@ -31,49 +31,54 @@
  * A module's state is its image, a block of bytes that the caller keeps.
  * Nothing is kept between calls: the result of a call and the bytes it writes
  * follow from its arguments alone.  The functions use no heap, no static
- * variables and no C library calls.  With counts and with fading (see SETUP),
- * with head bit 5 and without, an accepted presence_step takes 1,112 bytes of
- * stack (measured, for N = 2, 4, 8 and 16) and a refused one 1,272,
- * presence_page_step 1,352 and 1,512, presence_page_open 408, presence_open
- * 312, presence_change 296, presence_save 216; no other call takes more than
- * 200.
+ * variables and no C library calls, but presence_judge calls memcpy.  With
+ * counts and with fading (see SETUP), with head bit 5 and without, an accepted
+ * presence_step takes 1,096 bytes of stack (measured, for N = 2, 4, 8 and 16)
+ * and a refused one 1,240, presence_page_step 1,360 and 1,496,
+ * presence_page_open 408, presence_open 296, presence_change 280, presence_save
+ * 200; no other call takes more than 184, but presence_judge, which is not for
+ * cards, 3,208.
  *
  * Instructions of an accepted presence_step and presence_page_step (page), the
  * most that were counted in quiet and loud rounds and in rounds in which
  * modules outside the view count or return, with every l at N and with others.
- * They do not grow steadily with N: with counts 3 modules take more than 4, 5
- * to 7 more than 8, 11 more than 12, 13 to 15 more than 16; with fading 6 and 7
- * more than 8, 11 more than 12, 14 and 15 more than 16.
+ * They do not grow steadily with N: 3 modules take more than 4, with counts 5
+ * to 7 more than 8 and with fading 6 and 7, 11 more than 12, 13 to 15 more than
+ * 16.
  *
  * With counts:
  *
  *    N   step   page        N   step   page        N   step   page
- *    2  1,139  1,347        7  2,025  2,284       12  2,151  2,406
- *    3  1,338  1,569        8  1,523  1,750       13  2,525  2,799
- *    4  1,240  1,434        9  1,931  2,178       14  2,732  3,029
- *    5  1,617  1,830       10  2,131  2,401       15  2,931  3,251
- *    6  1,826  2,062       11  2,330  2,623       16  2,390  2,677
+ *    2  1,114  1,336        7  1,961  2,258       12  2,086  2,378
+ *    3  1,307  1,555        8  1,492  1,738       13  2,433  2,759
+ *    4  1,215  1,426        9  1,873  2,154       14  2,634  2,986
+ *    5  1,565  1,810       10  2,067  2,374       15  2,827  3,205
+ *    6  1,768  2,039       11  2,260  2,593       16  2,316  2,641
  *
  * With fading:
  *
  *    N   step   page        N   step   page        N   step   page
- *    2  1,168  1,372        7  2,333  2,589       12  2,786  3,039
- *    3  1,435  1,660        8  1,964  2,189       13  3,152  3,427
- *    4  1,455  1,647        9  2,340  2,588       14  3,402  3,698
- *    5  1,821  2,035       10  2,566  2,835       15  3,662  3,979
- *    6  2,073  2,308       11  2,833  3,123       16  3,254  3,539
+ *    2  1,116  1,338        7  2,137  2,438       12  2,371  2,667
+ *    3  1,363  1,611        8  1,703  1,953       13  2,716  3,046
+ *    4  1,320  1,535        9  2,058  2,343       14  2,946  3,302
+ *    5  1,665  1,914       10  2,264  2,575       15  3,186  3,568
+ *    6  1,897  2,172       11  2,511  2,848       16  2,710  3,039
  *
  * With counts and a change of limits pending (see NEW LIMITS WITHOUT A STOP),
- * at N = 2, 4, 8 and 16: a step takes 1,251, 1,416, 1,771 and 2,804, with a
- * page 1,462, 1,615, 2,000 and 3,093; the step that applies the change 1,316,
- * 1,464, 1,880 and 3,005, with a page 1,583, 1,756, 2,203 and 3,448.
+ * at N = 2, 4, 8 and 16: a step takes 1,255, 1,432, 1,760 and 2,756, with a
+ * page 1,481, 1,646, 2,007 and 3,082; the step that applies the change 1,312,
+ * 1,477, 1,868 and 2,951, with a page 1,601, 1,793, 2,217 and 3,440.
  *
  * With head bit 5 (see STANDS WITH A TORN CABLE), at N = 2, 4, 8 and 16, where
  * more than half of all view words are the same: with counts a step takes
- * 1,461, 1,617, 1,834 and 2,870, with fading 1,485, 1,832, 2,275 and 3,734.
- * Where no two are the same, which takes most: with counts 1,505, 1,819, 2,151
- * and 3,677, with a page 1,727, 2,028, 2,390 and 3,976; with fading 1,530,
- * 2,034, 2,592 and 4,541, with a page 1,748, 2,241, 2,829 and 4,838.
+ * 1,420, 1,575, 1,783 and 2,760, with fading 1,417, 1,680, 1,994 and 3,154.
+ * Where no two are the same, which takes most: with counts 1,464, 1,778, 2,102
+ * and 3,568, with a page 1,706, 2,011, 2,376 and 3,930; with fading 1,462,
+ * 1,883, 2,313 and 3,962, with a page 1,704, 2,120, 2,591 and 4,328.
+ *
+ * An accepted presence_link_list takes at most 550, 770, 1,247 and 2,200 at 2,
+ * 4, 8 and 16 backplanes, with counts or with fading, and with head bit 5 628,
+ * 878, 1,415 and 2,488.
  *
  *
  * CALLS AT THE SAME TIME
@@ -156,8 +161,9 @@
  *   1         2     penalty limit P, 1..1,000,000
  *   2         3     reward limit R, 1..8,000,000
  *   2+j       4     module j, for j = 1..N in this order:
- *                   27..23 j; 22 send mark; 21..17 read place l, 0..N;
- *                   16..0 criticality, 1..100,000
+ *                   27..23 j; 22 not looked at, and written as 0 (see BOARDS
+ *                   THAT WROTE WITHIN THEIR OWN SLOT); 21..17 read place l,
+ *                   0..N; 16..0 criticality, 1..100,000
  *
  * Fading, N+6 words:
  *
@@ -183,11 +189,41 @@
  * before those of l+1..N.  With l = N this is the end of the round, with
  * l = 0 its beginning.
  *
- * The send mark says that the module makes its step before it sends in the
- * same round, and sends the word that this step hands out.  So the mark is
- * allowed only with l below the module's own number, and never on module 1.
- * A module without the mark sends in each round the word that its step of the
- * round before handed out; in round 1 the word of the opened image.
+ * Every module sends in each round the word that its step of the round before
+ * handed out, whether it makes its step of this round before its own slot or
+ * after it; in round 1 the word of the opened image.
+ *
+ *
+ * BOARDS THAT WROTE WITHIN THEIR OWN SLOT
+ *
+ * Bit 22 of a module word was the send mark.  A module with it made its step of
+ * a round before its own slot and sent, in that slot, the word that this step
+ * handed out: the one with the syndrome of the round before.  The mark is
+ * retired.  In setups, new setups of a change, images and their pending words
+ * bit 22 of a module word is read as if it were 0, on every module and with
+ * every read place, and no call is refused for it.  Whatever is written has 0
+ * there.  So setups and images that have it are taken as they are, and an image
+ * that is saved loses it and nothing else.
+ *
+ * What a board of this kind has to change: the word that a step hands out now
+ * has the syndrome of this very step, and is to be sent in the next round.  So
+ * in round k it sends the word that its step of round k-1 handed out, in round
+ * 1 that of the opening: presence_outgoing of the image that it holds before
+ * its step of round k.  With head bit 5 the same goes for
+ * presence_outgoing_view.  These are the words that it sent in this slot of
+ * round k before, so on the bus nothing is changed.
+ *
+ * An image that the old library wrote for a module with the mark must not be
+ * stepped in the middle of a session.  Let round k be that of the last step by
+ * the old library.  That step handed out the word with the syndrome of round
+ * k-1, for round k.  The next one, by this library, hands out the word with the
+ * syndrome of round k+1, for round k+2.  So the word that is due in round k+1,
+ * with the syndrome of round k, is handed out by neither; and a board that
+ * sends in round k+1 what its step of that round hands out, as it used to,
+ * sends it a round too early, and no longer follows the rules.  Open the module
+ * anew (presence_open; HOW A CARD LEAVES AND COMES BACK says what it does
+ * then).  Only the module's own mark matters here, not those of the other
+ * modules in its image.
  *
  *
  * IMAGE: 5N+7 words with counts, 5N+10 with fading; with counts and a pending
@@ -356,9 +392,9 @@
  * this step has the new setup and no pending change.
  *
  * Only one change can be pending.  Nothing else of a setup can be changed: N,
- * Q, head bit 5, read places and send marks have to be those of the image's
- * setup, and neither side may fade (23).  P, R and criticalities that are the
- * old ones are accepted.
+ * Q, head bit 5 and read places have to be those of the image's setup, and
+ * neither side may fade (23).  P, R and criticalities that are the old ones are
+ * accepted.  Bit 22 of module words is not compared.
  *
  * Lengths.  A change makes the image longer by N+2 words, and the step that
  * applies it writes the shorter one again.  The output of a step has the length
@@ -503,6 +539,129 @@
  * outside the view included, send a false one.
  *
  *
+ * JUDGING ANOTHER MAKER'S CARD
+ *
+ * A partner's card can be judged by a log: what it read in each round, from its
+ * opening on, and what it claims to have found.  presence_judge opens a module
+ * from the setup and the own number in the log, makes its step on each read,
+ * and looks at the claims.  The log is accepted exactly if in every round the
+ * claimed health is the health vector that this step answers, and the claimed
+ * view is the view that the module then shows, as presence_shown_view reads it.
+ * Otherwise the first round in which one of the two is another is named.
+ *
+ *   counts    fading     kind  content
+ *   0..N+2    0..N+5           the setup that the card was opened from
+ *   N+3       N+6        10    20..16 own number; all else 0, the view too
+ *   and for each round, one after the other, from round 1 on
+ *   N words              -     the read of this round, as in READ below; with
+ *                              head bit 5 2N words
+ *   1 word               -     the controller bits of this read
+ *   1 word               -     the claimed health
+ *   1 word               -     the claimed view, with head bit 5 the adopted
+ *                              one
+ *
+ * So a round has N+3 words, with head bit 5 2N+3 (presence_log_round_bytes),
+ * and the first stands after N+4 words, with fading N+7.  A log may end after
+ * any round; one without rounds is accepted.  It may have any length.
+ *
+ *   - A read and its controller bits are those that the card made its step on,
+ *     as they came from its controller; a word that is not heard may hold any
+ *     bits.  What was on the bus may be something else, since other cards may
+ *     have heard otherwise.
+ *   - A controller word has no bit at N or above (10).
+ *   - Claims are any words, and are compared whole.  So a claim with a bit at N
+ *     or above is wrong, and not refused.
+ *   - Send marks in the setup are not looked at.
+ *   - A log has no word for a change of limits (NEW LIMITS WITHOUT A STOP).
+ *     What a card claims from the step on that applies one does not follow from
+ *     its log, so end the log before that step.
+ *   - A log begins with an opening.  A card that opens anew begins another.
+ *
+ * All checks come before any judgement: a log with a wrong claim in round 3 and
+ * a refused controller word in round 7 is refused.
+ *
+ * What an accepted log means: on these reads a module that follows the rules,
+ * opened from this setup with this number, answers this health and shows this
+ * view in every round of the log, and any other claims would have been wrong
+ * (proved).  A card that follows the rules and has taken no change of limits is
+ * always accepted, whatever it reads and whatever other cards do (proved).
+ *
+ * What it does not mean: that the reads are what was on the bus; that the card
+ * sent the words that it should have sent, since a log holds what it read; or
+ * that the card keeps counters, scores or return counts right where no claim of
+ * this log tells them.  The longer a log, and the more is lost in it, the more
+ * it says: best are logs in which cards leave the view and come back.
+ *
+ *
+ * SEVERAL BACKPLANES
+ *
+ * A large stand has 2 to 16 backplanes, numbered from 1.  Each runs as said in
+ * this file, with its own setup, its own N and its own rounds, and knows
+ * nothing of the others.
+ *
+ * A link stands for a backplane among the other backplanes.  It is a module as
+ * any other, by the same setup, image, step and bus words; only its modules are
+ * the backplanes.  So in its setup N is the number of backplanes, the word of
+ * module b is that of backplane b, and the links have a bus of their own, on
+ * which link b sends what presence_outgoing of its own image gives.  Link b is
+ * opened with own number b.  Its view says which backplanes are present: bit
+ * b-1 is backplane b.
+ *
+ * A card is usable exactly if it is in the local view of its backplane and that
+ * backplane is in the local view of the link.  presence_link_list writes the
+ * list: one plain word for each backplane in turn, its usable cards as in a
+ * view.  So the word of a backplane is the view that was handed in for it while
+ * the link has it in its view, and 0 while it is struck off, though its cards
+ * may run on.
+ *
+ * What a site sets up.  One card of each backplane, or a processor of its own
+ * beside them, is also on the bus of the links, and keeps two images: its own
+ * on its backplane, and that of the link.  All links get the same setup.  Its
+ * limits are chosen as for cards; a return limit lets a backplane come back by
+ * itself.  A link that is struck off takes its whole backplane off the list, so
+ * choose P and the criticalities such that a short loss does not do it.
+ *
+ * Where the views come from.  For each backplane the link is handed the local
+ * view of a card there, any one that follows the rules: presence_local_view of
+ * that card's image, with head bit 5 too, not presence_shown_view.  How the
+ * views of the other backplanes reach a link is the site's, as it is with
+ * events of the scan lock.  presence_put_view writes one into the views,
+ * presence_usable_cards reads a word of the list.
+ *
+ * Which round.  Two links are sure to list alike only if both have made the
+ * same number of steps, and each was handed, for each backplane, a view of
+ * after the same round of that backplane.  Cards with different read places
+ * make their steps of a round at different times.  So let the card of each
+ * backplane take its view after its step of round k and before its step of
+ * round k + 1, send k along with the view, and let all links list by the views
+ * of one k for each backplane.  A backplane may count its rounds by itself and
+ * have read places of its own; k need not be the same for all.  Where one clock
+ * starts all rounds, this is: at the end of the round, after the last step of
+ * any card and any link, and before the first of the next round.
+ *
+ * What is proved.  Two links that follow the rules, after the same round, write
+ * the same list, byte for byte, while
+ *
+ *   - the links keep their fault limit and every backplane keeps its own, up to
+ *     the rounds in question;
+ *   - changes of limits are common to all that follow the rules, at the links
+ *     as on each backplane (NEW LIMITS WITHOUT A STOP);
+ *   - and each link was handed, for each backplane, the local view of a card
+ *     there that follows the rules, after the same round of that backplane.
+ *
+ * Limits, changes and rounds are each needed: in computed cases one of them
+ * fails alone, and two links list other cards.
+ *
+ * What is not.  A list says nothing of whether the views that were handed in
+ * are those of the cards: a view of another round, or of a card that breaks the
+ * rules, is listed as it stands.  A backplane on which no card follows the
+ * rules has no view to hand in.  Nothing is said of how the views travel.  The
+ * link does not know how many cards a backplane has, so bits from that number
+ * up to bit 15 are listed as they came; only bits at 16 or above are refused
+ * (26).  With head bit 5 the list goes by local views, at the cards as at the
+ * links, while page and scan lock go by adopted ones.
+ *
+ *
  * READ: N words; with head bit 5 2N words, these and then N view words
  *
  * Word j-1 is the latest word that came in from module j, at the time of the
@@ -562,17 +721,19 @@
  *
  * number is 0 if the call is accepted.  Otherwise the call is refused: it
  * writes nothing, not even a part of the output or of the page, and answers
- * health 0, word 0, or cause 0 and row 0.  Of several reasons the lowest number
- * is answered, but presence_change has an order of its own; 22 stands in the
- * place of 4, here and in every order of checks below.
- * index is a word index from 0 in the setup or image that was passed, and
+ * health 0, word 0, round 0, or cause 0 and row 0.  Of several reasons the
+ * lowest number is answered, but presence_change and presence_judge have orders
+ * of their own; 22 stands in the place of 4, here and in every order of checks
+ * below.
+ * index is a word index from 0 in the setup, image or log that was passed, and
  * names the first word that is wrong for this number.  Of presence_change it
- * counts in the image for what is wrong there, else in the new setup.
+ * counts in the image for what is wrong there, else in the new setup; of
+ * presence_link_list in the image, and for 26 in the views.
  *
  *   No.  Refused because                                    Index
  *   ---  -------------------------------------------------  -----------------
  *    0   not refused                                        0
- *    1   setup or image empty, or its length is no          0
+ *    1   setup, image or log empty, or its length is no     0
  *        multiple of 4
  *    2   first word no head: kind not 1, N not 2..16, Q     0
  *        over 1,000,000, or one of bits 7..6 set; n of
@@ -581,17 +742,18 @@
  *        rounds-left word, or not of 5N+7 words where that
  *        is 0 and 6N+9 where it is not; where word 1 is of
  *        kind 0, not of N+6, and 5N+10 or 6N+12; with head
- *        bit 5 the image not of N+4 words more
+ *        bit 5 the image not of N+4 words more; log of
+ *        fewer words than its setup
  *    4   limit word wrong: kind (word 1 of neither 2 nor    1 (P) or 2 (R)
  *        0), or P or R out of range
  *    5   module word wrong: kind, number not in turn, l     its word,
  *        over N, criticality out of range                   3..N+2;
  *                                                           fading 6..N+5
- *    6   send mark on module 1, or on a module whose l is   its word,
- *        its own number or more                             as with 5
+ *    6   retired: no call answers it; a send mark is
+ *        accepted on every module, and not looked at
  *    7   own number not 1..N                                presence_open: 0
- *        (in an image tested only if that word is of        image: N+3;
- *        kind 10)                                           fading N+6
+ *        (in an image or a log tested only if that word is  image and log:
+ *        of kind 10)                                        N+3; fading N+6
  *    8   wrong word in the part of an image after the       its word,
  *        setup: kind, order or number of a word; a bit set  N+3..7N+12; fading
  *        that must be 0; a vector with a bit at N or        N+6..6N+13 (view
@@ -606,15 +768,17 @@
  *        or out of it with one below; rounds left over      score: its high
  *        1,000, or not 0 with fading; a word of a pending   half; the two
  *        change that is wrong as a limit or a module word,  local views:
- *        or whose l or send mark is not the setup's; with   the later word)
- *        head bit 5 a view word neither 0 nor of kind 10
- *        with view bits alone, a local view that is not
- *        that of the kind 10 word, or the last word over 1
+ *        or whose l is not the setup's; with head bit 5 a   the later word)
+ *        view word neither 0 nor of kind 10 with view bits
+ *        alone, a local view that is not that of the kind
+ *        10 word, or the last word over 1
  *    9   read not of N words, with head bit 5 not of 2N;    0
  *        output not of the words of the image that the
  *        call would write, or page not of 16 (a length
- *        that is no multiple of 4 included)
- *   10   controller has a bit at N or above; that of        0
+ *        that is no multiple of 4 included); views or list
+ *        not of one word for each backplane
+ *   10   controller has a bit at N or above, or a           0
+ *        controller word of a log has one; that of
  *        presence_read_cause is not 0 or 1
  *   11   retired: no call answers it; every word that a
  *        module hands out is one that receivers hear, and
@@ -628,9 +792,15 @@
  *        (NaN); limit not above 0.0, over 1,000,000.0 or    4 (limit's)
  *        no number
  *   23   new setup differs in more than P, R and            0
- *        criticalities: in N, Q, head bit 5, a read place
- *        or a send mark; or it or the image is fading
+ *        criticalities: in N, Q, head bit 5 or a read
+ *        place; or it or the image is fading
  *   24   a change is pending, or lead is not 1..1,000       0
+ *   25   log without the word after the setup, or with      that word, N+3;
+ *        another kind or other bits in it; log that ends    fading N+6; for
+ *        inside a round                                     the last the word
+ *                                                           count
+ *   26   view of a backplane with a bit at 16 or above      its word in the
+ *                                                           views, 0..N-1
  *
  * Other numbers do not occur in these functions.
  *
@@ -639,16 +809,17 @@
  *
  * Each pointer must point to at least as many bytes as its length says.
  * Lengths count bytes.  Any length may be passed; a wrong one is refused with
- * 1, 3 or 9.  Length 0 is allowed everywhere, but the pointer must still be a
- * valid one: pass any valid pointer, for example that of an array, not NULL.
+ * 1, 3, 9 or 25.  Length 0 is allowed everywhere, but the pointer must still be
+ * a valid one: pass any valid pointer, for example that of an array, not NULL.
  *
  * Output and page must not overlap an input of the same call, that is the
- * setup, the image or the read, nor one another.  Keep two images and swap
- * them after an accepted step or change; the page stays where it is.
+ * setup, the image, the read or the views, nor one another.  Keep two images
+ * and swap them after an accepted step or change; the page stays where it is.
  * Inputs are only read, and may overlap one another.
  *
- * An accepted call of presence_open, presence_step, presence_save or
- * presence_change, with a page or without, writes all words of the output.
+ * An accepted call of presence_open, presence_step, presence_save,
+ * presence_change or presence_link_list, with a page or without, writes all
+ * words of the output.
  * presence_page_open writes all 16 words of the page, presence_page_step words
  * 0 to 2 and 4 to 7, presence_page_write the one word.
  */
@@ -677,6 +848,11 @@ extern "C" {
 #define PRESENCE_READ_BYTES(n) (4u * (size_t)(n))
 #define PRESENCE_VIEWS_BYTES(n) (4u * ((size_t)(n) + 4u))
 #define PRESENCE_PARTITIONABLE_READ_BYTES(n) (8u * (size_t)(n))
+
+/* The length of the views that a link is handed, and of its list, for n
+   backplanes. */
+#define PRESENCE_LIST_BYTES(n) (4u * (size_t)(n))
+#define PRESENCE_MAX_LIST_BYTES 64u
 
 /* The same for N = 16.  A setup of either form has room in that with fading, an
    image of either form in that with a pending change; so it is for every N.
@@ -746,7 +922,6 @@ extern "C" {
 #define PRESENCE_WRONG_LENGTH 3u
 #define PRESENCE_WRONG_LIMIT 4u
 #define PRESENCE_WRONG_MODULE 5u
-#define PRESENCE_WRONG_SEND_MARK 6u
 #define PRESENCE_WRONG_OWN_NUMBER 7u
 #define PRESENCE_WRONG_STATE 8u
 #define PRESENCE_WRONG_BUFFER 9u
@@ -756,8 +931,10 @@ extern "C" {
 #define PRESENCE_WRONG_FADING 22u
 #define PRESENCE_WRONG_CHANGE 23u
 #define PRESENCE_WRONG_LEAD 24u
+#define PRESENCE_WRONG_LOG 25u
+#define PRESENCE_WRONG_VIEW 26u
 
-/* Answer of the functions that answer no presence_word or presence_cause. */
+/* Answer of the functions that answer none of the structs below. */
 typedef struct presence_answer {
     uint32_t number; /* 0 accepted, else the reason for the refusal */
     uint32_t index;  /* word index, see the table; 0 if accepted */
@@ -781,6 +958,15 @@ typedef struct presence_cause {
     uint32_t row;    /* the row of a word that is heard, else 0 */
 } presence_cause;
 
+/* Answer of presence_judge.  A log is accepted if number and round are 0. */
+typedef struct presence_judged {
+    uint32_t number; /* 0 not refused, else the reason for the refusal */
+    uint64_t index;  /* word index in the log, see the table; 0 if not refused,
+                        64 bits because a log may have any length */
+    uint64_t round;  /* the first wrong round, from 1; 0 if every claim is
+                        right, and 0 if the log is refused */
+} presence_judged;
+
 /*
  * The functions.  Each takes modules with counts and modules with fading.  With
  * head bit 5 an image, and so the output, is PRESENCE_VIEWS_BYTES(N) longer
@@ -791,7 +977,7 @@ typedef struct presence_cause {
  * Tests a setup.
  *   setup, setup_len   the setup, PRESENCE_SETUP_BYTES(N); fading
  *                      PRESENCE_FADING_SETUP_BYTES(N)
- * Order of the checks: 1, 2, 3, 4, 5, 6.
+ * Order of the checks: 1, 2, 3, 4, 5.
  * Writes nothing.  Health is 0.
  */
 presence_answer presence_check_setup(const uint8_t *setup, size_t setup_len);
@@ -803,8 +989,7 @@ presence_answer presence_check_setup(const uint8_t *setup, size_t setup_len);
  *   own                the module's own number, 1..N
  *   out, out_len       output, PRESENCE_IMAGE_BYTES(N); fading
  *                      PRESENCE_FADING_IMAGE_BYTES(N)
- * Order of the checks: 1, 2, 3, 4, 5, 6 (setup), 7 (own, index 0),
- * 9 (output).
+ * Order of the checks: 1, 2, 3, 4, 5 (setup), 7 (own, index 0), 9 (output).
  * Accepted: the output holds the fresh image.  Health is 0.
  * Refused: the output stays as it was.
  */
@@ -824,8 +1009,8 @@ presence_answer presence_open(const uint8_t *setup, size_t setup_len,
  *                      PRESENCE_FADING_IMAGE_BYTES(N); if more than one round
  *                      is left PRESENCE_PENDING_IMAGE_BYTES(N)
  *                      (presence_stepped_bytes tells it)
- * Order of the checks: 1, 2, 3, 4, 5, 6, 7, 8 (image), 9 (read and output),
- * 10 (controller).
+ * Order of the checks: 1, 2, 3, 4, 5, 7, 8 (image), 9 (read and output), 10
+ * (controller).
  * Accepted: the output holds the image after the step, and health is the
  * health vector: bit j-1 is 1 if module j was healthy.  It judges the round
  * before this one if every l is N, else the one three rounds before this one.
@@ -833,6 +1018,8 @@ presence_answer presence_open(const uint8_t *setup, size_t setup_len,
  * step, and what its word says is not held against it; the others still vote
  * on it.  One that leaves the view in this step, by a change too, has voted in
  * it, one that returns in this step has not.
+ * The word that the step hands out (presence_outgoing of the image that it
+ * wrote) is to be sent in the next round.
  * Refused: the output stays as it was, no step has been made, and the image
  * that was passed is still the current one.
  * That cards agree is proved of cards that make the step of every round, each
@@ -846,17 +1033,18 @@ presence_answer presence_step(const uint8_t *state, size_t state_len,
                               uint8_t *out, size_t out_len);
 
 /*
- * Tests an image and writes it to the output, word for word the same.  Serves
- * to put a state into a store that survives a restart, and to take it back
- * from there: an accepted image is one that a step may go on from.  An image
- * of another setup or another slot is accepted too: a card that goes on from a
- * stored image compares the setup and the own number (in the word after the
- * setup) itself.
+ * Tests an image and writes it to the output, word for word the same but for
+ * send marks, which are not written.  Serves to put a state into a store that
+ * survives a restart, and to take it back from there: an accepted image is one
+ * that a step may go on from.  An image of another setup or another slot is
+ * accepted too: a card that goes on from a stored image compares the setup and
+ * the own number (in the word after the setup) itself, and in an image from the
+ * old library its own send mark (BOARDS THAT WROTE WITHIN THEIR OWN SLOT).
  *   state, state_len   the image, PRESENCE_IMAGE_BYTES(N); fading
  *                      PRESENCE_FADING_IMAGE_BYTES(N); while a change is
  *                      pending PRESENCE_PENDING_IMAGE_BYTES(N)
  *   out, out_len       output, of the same length
- * Order of the checks: 1, 2, 3, 4, 5, 6, 7, 8 (image), 9 (output).
+ * Order of the checks: 1, 2, 3, 4, 5, 7, 8 (image), 9 (output).
  * Health is 0.
  * Refused: the output stays as it was.
  */
@@ -872,9 +1060,9 @@ presence_answer presence_save(const uint8_t *state, size_t state_len,
  *   lead               which step counts by it, 1 for the next one, up to
  *                      PRESENCE_MAX_LEAD
  *   out, out_len       output, PRESENCE_PENDING_IMAGE_BYTES(N)
- * Order of the checks: 1, 2, 3, 4, 5, 6, 7, 8 (image), then 1, 2, 3, 4, 5, 6
- * (new setup), 23, 24, 9 (output).
- * Numbers 1 to 6 do not tell which of the two is wrong; presence_check_setup of
+ * Order of the checks: 1, 2, 3, 4, 5, 7, 8 (image), then 1, 2, 3, 4, 5 (new
+ * setup), 23, 24, 9 (output).
+ * Numbers 1 to 5 do not tell which of the two is wrong; presence_check_setup of
  * the new setup does.
  * Accepted: the output holds the image with the new words and lead rounds left.
  * It is the current one, and no step has been made.  Health is 0.
@@ -887,28 +1075,25 @@ presence_answer presence_change(const uint8_t *state, size_t state_len,
 
 /*
  * The word handed out by the step, or the opening, that wrote this image: kind
- * 5 with the syndrome of the latest step, or of the step before it if the
- * module's own send mark is set.  A change leaves it as it was.
+ * 5 with the syndrome of the latest step.  A change leaves it as it was.
  *   state, state_len   the image, PRESENCE_IMAGE_BYTES(N); fading
  *                      PRESENCE_FADING_IMAGE_BYTES(N); while a change is
  *                      pending PRESENCE_PENDING_IMAGE_BYTES(N)
- * Order of the checks: 1, 2, 3, 4, 5, 6, 7, 8 (image).
+ * Order of the checks: 1, 2, 3, 4, 5, 7, 8 (image).
  * Writes nothing.
- * With the send mark the word is to be sent in the round of that step,
- * without it in the round after.  So a module without the mark takes its word
- * for a round before it makes the step of that round (from the image of the
- * step before, or of the opening), and a module with the mark after it.
+ * The word is to be sent in the round after that of the step.  So a module
+ * takes its word for a round before it makes the step of that round, from the
+ * image of the step before, or of the opening.
  * The bus carries the word as 32 bits.
  */
 presence_word presence_outgoing(const uint8_t *state, size_t state_len);
 
 /*
  * The view word handed out by the step, or the opening, that wrote this image:
- * kind 10 with the local view after that step, or with the local view before it
- * if the module's own send mark is set.  Without head bit 5 the word is 0, and
- * there is nothing to send.  A change leaves it as it was.
+ * kind 10 with the local view after that step.  Without head bit 5 the word is
+ * 0, and there is nothing to send.  A change leaves it as it was.
  *   state, state_len   the image, as for presence_outgoing
- * Order of the checks: 1, 2, 3, 4, 5, 6, 7, 8 (image).
+ * Order of the checks: 1, 2, 3, 4, 5, 7, 8 (image).
  * Writes nothing.
  * It is sent in the same round and slot as the word of presence_outgoing, taken
  * from the same image.
@@ -937,8 +1122,8 @@ presence_cause presence_read_cause(uint32_t n, uint32_t controller,
  * module (health all ones, its view, no flags, enable 0, all causes 0).
  *   page, page_len     the page, PRESENCE_PAGE_BYTES; its old bytes are lost
  *   the rest           as for presence_open
- * Order of the checks: 1, 2, 3, 4, 5, 6 (setup), 7 (own, index 0),
- * 9 (output and page).
+ * Order of the checks: 1, 2, 3, 4, 5 (setup), 7 (own, index 0), 9 (output and
+ * page).
  * Refused: output and page stay as they were.
  */
 presence_answer presence_page_open(const uint8_t *setup, size_t setup_len,
@@ -951,8 +1136,8 @@ presence_answer presence_page_open(const uint8_t *setup, size_t setup_len,
  * presence_step.
  *   page, page_len     the page, PRESENCE_PAGE_BYTES; any bytes are taken
  *   the rest           as for presence_step
- * Order of the checks: 1, 2, 3, 4, 5, 6, 7, 8 (image), 9 (read, output and
- * page), 10 (controller).
+ * Order of the checks: 1, 2, 3, 4, 5, 7, 8 (image), 9 (read, output and page),
+ * 10 (controller).
  * Refused: output and page stay as they were, and no step has been made.
  */
 presence_answer presence_page_step(const uint8_t *state, size_t state_len,
@@ -993,8 +1178,39 @@ presence_word presence_page_write(uint8_t *page, size_t page_len,
 presence_word presence_page_interrupt(const uint8_t *page, size_t page_len);
 
 /*
+ * Judges the log of another maker's card: whether every claim in it is what the
+ * rules give.  JUDGING ANOTHER MAKER'S CARD says what a log is.
+ *   log, log_len       the log, of any length
+ * Order of the checks: 1, 2, 3, 4, 5 (setup), 7, 25, 10; all of them before any
+ * judgement.
+ * Not refused: round is 0 if the log is accepted, else the first round, from 1,
+ * in which the claimed health or the claimed view is wrong.
+ * Refused: round is 0, which says nothing of the claims; so look at number
+ * first.
+ * Writes nothing.
+ */
+presence_judged presence_judge(const uint8_t *log, size_t log_len);
+
+/*
+ * Lists the usable cards of a stand.  SEVERAL BACKPLANES says what a link is,
+ * and when two of them list alike.
+ *   image, image_len   the image of the link, of any form; N is the number of
+ *                      backplanes
+ *   views, views_len   for each backplane in turn the local view of a card
+ *                      there, as a plain word, PRESENCE_LIST_BYTES(N)
+ *   out, out_len       the list, PRESENCE_LIST_BYTES(N)
+ * Order of the checks: 1, 2, 3, 4, 5, 7, 8 (image), 9 (views and list), 26.
+ * Accepted: the list has for each backplane in turn its view if the backplane
+ * is in the local view of the link, else 0.  Health is 0.
+ * Refused: the list stays as it was.
+ */
+presence_answer presence_link_list(const uint8_t *image, size_t image_len,
+                                   const uint8_t *views, size_t views_len,
+                                   uint8_t *out, size_t out_len);
+
+/*
  * Helpers, which are no part of the library.  Those on lengths and views take
- * an accepted image of n modules, of any form; the first three take an accepted
+ * an accepted image of n modules, of any form; the first four take an accepted
  * setup as well.
  */
 
@@ -1004,6 +1220,12 @@ static inline size_t presence_read_bytes(const uint8_t *bytes, uint32_t n)
     return PRESENCE_IS_PARTITIONABLE(bytes)
                ? PRESENCE_PARTITIONABLE_READ_BYTES(n)
                : PRESENCE_READ_BYTES(n);
+}
+
+/* The length of a round of a log, of which this is the setup. */
+static inline size_t presence_log_round_bytes(const uint8_t *bytes, uint32_t n)
+{
+    return presence_read_bytes(bytes, n) + 12u;
 }
 
 /* The length of an image without a pending change: what out_len of an opening
@@ -1049,6 +1271,13 @@ static inline size_t presence_stepped_bytes(const uint8_t *image, uint32_t n)
                                               : presence_opened_bytes(image, n);
 }
 
+/* The local view, of either form: what links are handed. */
+static inline uint32_t presence_local_view(const uint8_t *image, uint32_t n)
+{
+    return PRESENCE_IS_FADING(image) ? PRESENCE_FADING_VIEW(image, n)
+                                     : PRESENCE_VIEW(image, n);
+}
+
 /* The view that a card acts on, and that page and scan lock take: the adopted
    one with head bit 5, else the local one. */
 static inline uint32_t presence_shown_view(const uint8_t *image, uint32_t n)
@@ -1056,8 +1285,7 @@ static inline uint32_t presence_shown_view(const uint8_t *image, uint32_t n)
     const uint8_t *from = image + presence_image_bytes(image, n) - 8u;
 
     if (!PRESENCE_IS_PARTITIONABLE(image))
-        return PRESENCE_IS_FADING(image) ? PRESENCE_FADING_VIEW(image, n)
-                                         : PRESENCE_VIEW(image, n);
+        return presence_local_view(image, n);
     return (uint32_t)from[2] << 8 | (uint32_t)from[3];
 }
 
@@ -1067,6 +1295,25 @@ static inline uint32_t presence_is_out(const uint8_t *image, uint32_t n)
     return PRESENCE_IS_PARTITIONABLE(image)
                ? image[presence_image_bytes(image, n) - 1u]
                : 0u;
+}
+
+/* Writes the view of backplane b, from 1, into the views for a list, and reads
+   the usable cards of backplane b from a list. */
+static inline void presence_put_view(uint8_t *views, uint32_t b, uint32_t view)
+{
+    uint8_t *to = views + 4u * (b - 1u);
+
+    to[0] = (uint8_t)(view >> 24);
+    to[1] = (uint8_t)(view >> 16);
+    to[2] = (uint8_t)(view >> 8);
+    to[3] = (uint8_t)view;
+}
+
+static inline uint32_t presence_usable_cards(const uint8_t *list, uint32_t b)
+{
+    const uint8_t *from = list + 4u * (b - 1u);
+
+    return (uint32_t)from[2] << 8 | (uint32_t)from[3];
 }
 
 /*

@@ -31,8 +31,8 @@
 
 #define WORD(w) \
     (uint8_t)((w) >> 24), (uint8_t)((w) >> 16), (uint8_t)((w) >> 8), (uint8_t)(w)
-#define MODULE(number, mark, place, criticality) \
-    WORD(0x40000000u | (number) << 23 | (mark) << 22 | (place) << 17 | (criticality))
+#define MODULE(number, place, criticality) \
+    WORD(0x40000000u | (number) << 23 | (place) << 17 | (criticality))
 
 /*
  * The setup that the cards are opened from, the same in all: Q = 8, P = 4,
@@ -46,7 +46,7 @@
  *     WORD(0u), WORD(0x3FE00000u), WORD(0u), WORD(0x40080000u), WORD(0u),
  *
  * The setup's length is then PRESENCE_FADING_SETUP_BYTES, and the cards' words
- * begin at word 6 and not at 3 (has_send_mark, read_place).
+ * begin at word 6 and not at 3 (read_place).
  */
 #define SETUP_BYTES PRESENCE_SETUP_BYTES(N)
 
@@ -54,11 +54,10 @@ static const uint8_t rack[SETUP_BYTES] = {
     WORD(0x10000000u | 8u << 8 | N),
     WORD(0x20000000u | 4u),
     WORD(0x30000000u | 6u),
-    MODULE(1u, 0u, 4u, 1u), /* steps at the end of the round */
-    MODULE(2u, 1u, 1u, 1u), /* steps after 1 has sent, then sends */
-    MODULE(3u, 1u, 0u, 1u), /* steps at the beginning, then sends */
-    MODULE(4u, 0u, 2u, 1u)  /* steps after 2 has sent; sends the word of the
-                               step before, as it has no send mark */
+    MODULE(1u, 4u, 1u), /* steps at the end of the round */
+    MODULE(2u, 1u, 1u), /* steps after 1 has sent, before its own slot */
+    MODULE(3u, 0u, 1u), /* steps at the beginning */
+    MODULE(4u, 2u, 1u)  /* steps after 2 has sent */
 };
 static const uint8_t *setup = rack; /* later that of the stand */
 
@@ -114,13 +113,8 @@ static uint32_t card_rounds_left(const struct card *c)
     return presence_rounds_left(c->image[c->current], N);
 }
 
-/* Bit 22 and bits 21..17 of a card's word in the setup (its second byte holds
-   bits 23..16). */
-static int has_send_mark(uint32_t own)
-{
-    return (setup[4u * (2u + own) + 1u] & 0x40u) != 0;
-}
-
+/* Bits 21..17 of a card's word in the setup (its second byte holds bits
+   23..16). */
 static uint32_t read_place(uint32_t own)
 {
     return setup[4u * (2u + own) + 1u] >> 1 & 0x1Fu;
@@ -175,8 +169,10 @@ static void page_write(struct card *c, uint32_t offset, uint32_t value)
         c->line = w.word;
 }
 
-/* Whether an accepted image is of this rack: its setup has the same head, read
-   places and send marks; P, R and criticalities may have been changed. */
+/* Whether an accepted image is of this rack: its setup has the same head and
+   read places; P, R and criticalities may have been changed.  One that has a
+   send mark, which the setup has not, was saved by firmware that obeyed it, and
+   is not gone on from (BOARDS THAT WROTE WITHIN THEIR OWN SLOT). */
 static int of_this_rack(const uint8_t *image)
 {
     uint32_t at;
@@ -261,7 +257,8 @@ static int hears_most(const struct card *c)
 /* Beginning of a round.  A card that has taken itself out opens anew when it
    hears enough, by the limits that hold, with which its image begins, and
    drives nothing until it has made two steps (one would do if all cards stepped
-   at the end of the round).  Then the words of the step before. */
+   at the end of the round).  Then the words to send in this round: those of
+   the step before, also where this round's step comes before the own slot. */
 static void card_begin_round(struct card *c)
 {
     if (card_is_out(c) && hears_most(c)) {
@@ -292,8 +289,6 @@ static void card_step(struct card *c)
     c->health = a.health;
     if (c->wait > 0)
         c->wait--;
-    if (has_send_mark(c->own))
-        take_words(c); /* the words of this step go out in this round */
     act_on_view(c);
     set_line(c);
 }

@@ -13,13 +13,19 @@
  * on until the joystick's card, whose plug sits again, is back in the views:
  * its locks are lost for good, and it may begin new ones.
  *
+ * The third part is the firmware of a link, and the fourth a stand of two
+ * backplanes with a link each: the one of the incident, and another.  The link
+ * of the other falls silent for three rounds and comes back by itself.  After
+ * every round both links list the cards that are usable, by views of different
+ * cards, and list the same.
+ *
  * Build, with libgirmaut.a in the folder LIB:
  *   gcc -std=c99 -O2 -Iinclude examples/stage/stage.c -LLIB -lgirmaut -o stage
  *
  * Prints what happens; exit status 0 if it is as said: in the first run the
  * cards differ from round 5 on, in the second they never do, every event is
  * answered as the table of events says, no other call is refused, and the
- * joystick is live in the end.
+ * joystick is live in the end; and both links list what their table says.
  */
 #include <stdio.h>
 #include <string.h>
@@ -36,17 +42,17 @@
 
 #define WORD(w) \
     (uint8_t)((w) >> 24), (uint8_t)((w) >> 16), (uint8_t)((w) >> 8), (uint8_t)(w)
-#define MODULE(number, mark, place, criticality) \
-    WORD(0x40000000u | (number) << 23 | (mark) << 22 | (place) << 17 | (criticality))
+#define MODULE(number, place, criticality) \
+    WORD(0x40000000u | (number) << 23 | (place) << 17 | (criticality))
 
 /* The setup, the same in all cards: P = 3, R = 3; the joystick's card is
    struck off after two charges, another one after four. */
 static const uint8_t setup[PRESENCE_SETUP_BYTES(N)] = {
     WORD(0x10000000u | Q << 8 | N), WORD(0x20000003u), WORD(0x30000003u),
-    MODULE(1u, 0u, 4u, 1u), /* steps at the end of the round */
-    MODULE(2u, 1u, 1u, 1u), /* steps after 1 has sent, then sends */
-    MODULE(3u, 1u, 0u, 1u), /* steps at the beginning, then sends */
-    MODULE(4u, 0u, 2u, 2u)  /* steps after 2 has sent */
+    MODULE(1u, 4u, 1u), /* steps at the end of the round */
+    MODULE(2u, 1u, 1u), /* steps after 1 has sent, before its own slot */
+    MODULE(3u, 0u, 1u), /* steps at the beginning */
+    MODULE(4u, 2u, 2u)  /* steps after 2 has sent */
 };
 
 enum kind { BEGIN, END, START, ABORT, FINISHED, STOPPED };
@@ -78,12 +84,7 @@ struct card {
     uint32_t valid;
 };
 
-/* Bit 22 and bits 21..17 of a card's word in the setup. */
-static int has_send_mark(uint32_t own)
-{
-    return (setup[4u * (2u + own) + 1u] & 0x40u) != 0;
-}
-
+/* Bits 21..17 of a card's word in the setup. */
 static uint32_t read_place(uint32_t own)
 {
     return setup[4u * (2u + own) + 1u] >> 1 & 0x1Fu;
@@ -157,7 +158,7 @@ static void card_end_round(struct card *c)
     c->queued = 0;
 }
 
-/* At the beginning of each round, and again after a step with the send mark. */
+/* At the beginning of each round: the word of the step before. */
 static void card_word(struct card *c)
 {
     presence_word w = presence_outgoing(c->image[c->current],
@@ -183,8 +184,6 @@ static void card_step(struct card *c)
         return;
     }
     c->current = next;
-    if (has_send_mark(c->own))
-        card_word(c); /* the word of this step goes out in this round */
     card_take(c, scanlock_view(LOCK(c), presence_shown_view(c->image[next], N),
                                NEXT(c)));
 }
@@ -194,7 +193,7 @@ static void card_step(struct card *c)
 #define ROUNDS 8u       /* of the first run */
 #define ALL_ROUNDS 15u  /* of the second, in which card 4 comes back */
 
-static struct card cards[N];
+static struct card cards[N]; /* the backplane of the incident */
 
 /* In rounds 1 to 3 the joystick's plug is loose: cards 1 and 3 do not hear it,
    card 2 does.  These rounds are judged in steps 4 to 6, and card 4 is struck
@@ -253,38 +252,55 @@ static void carry(const struct coming *e, int by_rule)
     printf("\n");
 }
 
-/* The word of card j arrives at the cards that hear it. */
-static void send(uint32_t j, uint32_t round)
+/* The word of card j of a backplane arrives at the cards that hear it. */
+static void send(struct card *of, uint32_t j, uint32_t round)
 {
-    const uint8_t bytes[4] = { WORD(cards[j - 1].word) };
+    const uint8_t bytes[4] = { WORD(of[j - 1].word) };
     uint32_t i;
 
     for (i = 0; i < N; i++) {
-        cards[i].valid &= ~(1u << (j - 1));
-        if (!lost(round, j, i + 1)) {
-            memcpy(cards[i].received + 4u * (j - 1), bytes, 4);
-            cards[i].valid |= 1u << (j - 1);
+        of[i].valid &= ~(1u << (j - 1));
+        if (of != cards || !lost(round, j, i + 1)) {
+            memcpy(of[i].received + 4u * (j - 1), bytes, 4);
+            of[i].valid |= 1u << (j - 1);
         }
     }
 }
 
-/* The cards send in turn; each steps at its read place.  In round 0 all are
-   opened, and all send the all-ones word. */
+/* The beginning of a round.  In round 0 all are opened, and all send the
+   all-ones word. */
+static void begin_round(struct card *of, uint32_t round)
+{
+    uint32_t i;
+
+    for (i = 0; i < N; i++) {
+        if (round == 0)
+            card_start(&of[i], i + 1);
+        card_word(&of[i]);
+    }
+}
+
+/* A slot of a round: its card sends, and each card whose read place it is
+   steps. */
+static void play_slot(struct card *of, uint32_t round, uint32_t slot)
+{
+    uint32_t i;
+
+    if (slot > 0)
+        send(of, slot, round);
+    for (i = 0; i < N; i++)
+        if (read_place(i + 1) == slot && round > 0)
+            card_step(&of[i]);
+}
+
+/* A round of the incident, with its events. */
 static void play(uint32_t round, int by_rule)
 {
     uint32_t slot, i, e;
 
-    for (i = 0; i < N; i++) {
-        if (round == 0)
-            card_start(&cards[i], i + 1);
-        card_word(&cards[i]);
-    }
+    begin_round(cards, round);
     for (slot = 0; slot <= N; slot++) {
-        if (slot > 0)
-            send(slot, round);
-        for (i = 0; i < N; i++)
-            if (read_place(i + 1) == slot && round > 0)
-                card_step(&cards[i]);
+        play_slot(cards, round, slot);
         for (e = 0; e < COMINGS; e++)
             if (comings[e].round == round && comings[e].slot == slot)
                 carry(&comings[e], by_rule);
@@ -354,9 +370,210 @@ static uint32_t run(const char *title, int by_rule, uint32_t rounds)
     return first;
 }
 
+/* ================= firmware of a link ================= */
+
+#define BACKPLANES 2u
+#define LINK_Q 3u /* good rounds after which a backplane is back */
+
+/* A link is a module whose modules are the backplanes: P = 1, R = 3.  Both
+   links step at the end of the round. */
+static const uint8_t link_setup[PRESENCE_SETUP_BYTES(BACKPLANES)] = {
+    WORD(0x10000000u | LINK_Q << 8 | BACKPLANES), WORD(0x20000001u),
+    WORD(0x30000003u), MODULE(1u, 2u, 1u), MODULE(2u, 2u, 1u)
+};
+
+struct link {
+    uint8_t image[2][PRESENCE_IMAGE_BYTES(BACKPLANES)];
+    unsigned current;  /* which image is the state */
+    uint32_t word;     /* word to send in this round */
+    unsigned refused;  /* calls refused so far */
+
+    /* Buffer of the controller of the links' bus, as a card has it. */
+    uint8_t received[PRESENCE_READ_BYTES(BACKPLANES)];
+    uint32_t valid;
+
+    /* The local view of a card of each backplane, and the usable cards. */
+    uint8_t views[PRESENCE_LIST_BYTES(BACKPLANES)];
+    uint8_t list[PRESENCE_LIST_BYTES(BACKPLANES)];
+};
+
+static void link_start(struct link *l, uint32_t own)
+{
+    presence_answer a = presence_open(link_setup, sizeof link_setup, own,
+                                      l->image[0], sizeof l->image[0]);
+
+    l->current = 0;
+    l->refused = a.number != PRESENCE_ACCEPTED;
+}
+
+/* At the beginning of each round. */
+static void link_word(struct link *l)
+{
+    presence_word w = presence_outgoing(l->image[l->current],
+                                        sizeof l->image[0]);
+
+    if (w.number != PRESENCE_ACCEPTED)
+        l->refused++;
+    l->word = w.word;
+}
+
+/* Once a round, as a card. */
+static void link_step(struct link *l)
+{
+    unsigned next = 1u - l->current;
+    presence_answer a = presence_step(l->image[l->current],
+                                      sizeof l->image[0], l->received,
+                                      sizeof l->received, l->valid,
+                                      l->image[next], sizeof l->image[0]);
+
+    if (a.number == PRESENCE_ACCEPTED)
+        l->current = next;
+    else
+        l->refused++;
+}
+
+/* A card of backplane b, any one, hands its local view to the link: at the end
+   of a round, after step k of every card and before step k + 1 of any, so that
+   all links get views of the same round. */
+static void link_hear_view(struct link *l, uint32_t b, const struct card *c)
+{
+    presence_put_view(l->views, b,
+                      presence_local_view(c->image[c->current], N));
+}
+
+/* At the end of the round, when the views are there. */
+static void link_list(struct link *l)
+{
+    presence_answer a = presence_link_list(l->image[l->current],
+                                           sizeof l->image[0], l->views,
+                                           sizeof l->views, l->list,
+                                           sizeof l->list);
+
+    if (a.number != PRESENCE_ACCEPTED)
+        l->refused++;
+}
+
+/* ================= two backplanes ================= */
+
+#define STAND_ROUNDS 13u
+
+static struct card others[N]; /* the second backplane, on which all is well */
+static struct card *const backplanes[BACKPLANES] = { cards, others };
+static struct link links[BACKPLANES];
+
+/* In rounds 4 to 6 the link of backplane 2 is silent: nobody hears it, itself
+   included.  Rounds 4 and 5 are judged in steps 5 and 6, and in step 6 it is
+   struck off.  Rounds 7 to 9 are good; with the third of them, judged in step
+   10, it is back.  (A link that some hear and others do not is more than the
+   fault limit has room for where there are two.) */
+static int silent(uint32_t round, uint32_t b)
+{
+    return b == 2 && round >= 4 && round <= 6;
+}
+
+/* What both links list from which round on.  Card 4 of backplane 1 leaves in
+   step 5 and is back in step 12. */
+static const struct {
+    uint32_t from, cards[BACKPLANES];
+    const char *text;
+} lists[] = {
+    { 0, { 0xF, 0xF }, "all cards are usable" },
+    { 5, { 0x7, 0xF }, "card 4 of backplane 1 is struck off" },
+    { 6, { 0x7, 0x0 }, "backplane 2 is struck off: its cards run on, and none "
+      "is usable" },
+    { 10, { 0x7, 0xF }, "backplane 2 is back" },
+    { 12, { 0xF, 0xF }, "card 4 of backplane 1 is back" }
+};
+
+/* The words of the links arrive at both. */
+static void send_links(uint32_t round)
+{
+    uint32_t b, i;
+
+    for (b = 1; b <= BACKPLANES; b++) {
+        const uint8_t bytes[4] = { WORD(links[b - 1].word) };
+
+        for (i = 0; i < BACKPLANES; i++) {
+            links[i].valid &= ~(1u << (b - 1));
+            if (!silent(round, b)) {
+                memcpy(links[i].received + 4u * (b - 1), bytes, 4);
+                links[i].valid |= 1u << (b - 1);
+            }
+        }
+    }
+}
+
+/* One clock starts the rounds of both backplanes and of the links. */
+static void play_stand(uint32_t round)
+{
+    uint32_t slot, b, i;
+
+    for (b = 0; b < BACKPLANES; b++) {
+        begin_round(backplanes[b], round);
+        if (round == 0)
+            link_start(&links[b], b + 1);
+        link_word(&links[b]);
+    }
+    for (slot = 0; slot <= N; slot++)
+        for (b = 0; b < BACKPLANES; b++)
+            play_slot(backplanes[b], round, slot);
+    send_links(round);
+    for (i = 0; i < BACKPLANES; i++) {
+        if (round > 0)
+            link_step(&links[i]);
+        /* link 1 asks card 1 of each backplane, link 2 card 3 */
+        for (b = 0; b < BACKPLANES; b++)
+            link_hear_view(&links[i], b + 1, &backplanes[b][2 * i]);
+        link_list(&links[i]);
+    }
+}
+
+/* The line of the table that holds in this round. */
+static uint32_t line_of(uint32_t round)
+{
+    uint32_t e = sizeof lists / sizeof lists[0] - 1;
+
+    while (lists[e].from > round)
+        e--;
+    return e;
+}
+
+/* Answers whether both links listed what the table says after every round. */
+static int run_stand(const char *title)
+{
+    uint32_t round, i, b, e;
+    int right = 1;
+
+    printf("%s\n", title);
+    for (round = 0; round <= STAND_ROUNDS; round++) {
+        if (silent(round, 2) != silent(round - 1, 2))
+            printf("round %u: the link of backplane 2 %s\n", (unsigned)round,
+                   silent(round, 2) ? "falls silent" : "is heard again");
+        play_stand(round);
+        e = line_of(round);
+        printf("end of round %u: usable cards", (unsigned)round);
+        for (i = 0; i < BACKPLANES; i++) {
+            printf("%s by link %u:", i == 0 ? "" : ",", (unsigned)(i + 1));
+            for (b = 1; b <= BACKPLANES; b++) {
+                printf(" %X",
+                       (unsigned)presence_usable_cards(links[i].list, b));
+                right = right && presence_usable_cards(links[i].list, b) ==
+                                     lists[e].cards[b - 1];
+            }
+        }
+        printf("%s%s\n", lists[e].from == round ? "; " : "",
+               lists[e].from == round ? lists[e].text : "");
+        right = right && memcmp(links[0].list, links[1].list,
+                                sizeof links[0].list) == 0;
+    }
+    for (i = 0; i < BACKPLANES; i++)
+        right = right && links[i].refused == 0;
+    return right;
+}
+
 int main(void)
 {
-    int right;
+    int right, alike;
     uint32_t i, e, refused = 0;
 
     right = run("Events told when they come", 0, ROUNDS) == 5 &&
@@ -368,5 +585,7 @@ int main(void)
     for (i = 0; i < N; i++)
         right = right && cards[i].refused == refused && cards[i].joystick == 1;
     printf("\n%s\n", right ? "by the rule no two cards differed" : "FAILED");
-    return right ? 0 : 1;
+    alike = run_stand("\nTwo backplanes, a link each");
+    printf("\n%s\n", alike ? "no two links listed other cards" : "FAILED");
+    return right && alike ? 0 : 1;
 }

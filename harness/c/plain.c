@@ -3,8 +3,10 @@
  *
  * Rule numbers are those of "One step, round k", refusal numbers those of
  * "Answers and their order" in document 01; E4, E6, E9 and E10 of document 02
- * change rules 4, 5 and 8, and E11 has modules adopt a view besides.  Module j
- * stands at place j-1 of the arrays and is bit j-1 of the vectors.
+ * change rules 4, 5 and 8, E11 has modules adopt a view besides, and E12 takes
+ * the send mark from rule 7: bit 22 of a module word is not looked at, and is
+ * never written.  Module j stands at place j-1 of the arrays and is bit j-1 of
+ * the vectors.
  *
  * A setup has one of two forms: counts, with P and R, or fading, with a factor
  * and a limit (E9).  An image has the form of its setup.  Scores take as many
@@ -31,6 +33,7 @@
 
 #define MAX PRESENCE_MAX_MODULES
 #define MOST_ROUNDS_LEFT 1000
+#define SEND_MARK 0x00400000u
 
 enum kind {
     FADING = 0,
@@ -62,7 +65,6 @@ struct setup {
     struct limits limits;
     double factor, limit;  /* of fading */
     uint32_t return_limit; /* Q, 0 for never */
-    bool mark[MAX];        /* send mark */
     uint32_t place[MAX];   /* read place l */
 };
 
@@ -244,7 +246,7 @@ static inline presence_answer load_limits(struct limits *l,
 }
 
 /*
- * Reads a setup, or the setup part of an image.  Refusals 1 to 6, 22 in the
+ * Reads a setup, or the setup part of an image.  Refusals 1 to 5, 22 in the
  * place of 4; an image differs in the length asked for by 3.
  */
 static presence_answer load_setup(struct setup *s, const uint8_t *bytes,
@@ -278,7 +280,6 @@ static presence_answer load_setup(struct setup *s, const uint8_t *bytes,
     at = s->words - s->n;
     for (j = 0; j < s->n; j++) {
         word = get_word(bytes, at + j);
-        s->mark[j] = bit(word, 22);
         s->place[j] = word >> 17 & 0x1F;
         s->limits.criticality[j] = word & 0x1FFFF;
         if (kind_of(word) != MODULE || number_of(word) != j + 1 ||
@@ -286,10 +287,6 @@ static presence_answer load_setup(struct setup *s, const uint8_t *bytes,
             s->limits.criticality[j] > 100000)
             return answer(5, at + j, 0);
     }
-
-    for (j = 0; j < s->n; j++)
-        if (s->mark[j] && (j == 0 || s->place[j] >= j + 1))
-            return answer(6, at + j, 0);
 
     return answer(0, 0, 0);
 }
@@ -347,8 +344,8 @@ static presence_answer load_scores(struct state *s, const uint8_t *bytes,
 static uint32_t module_word(const struct setup *s, uint32_t j,
                             uint32_t criticality)
 {
-    return (uint32_t)MODULE << 28 | (j + 1) << 23 |
-           (uint32_t)s->mark[j] << 22 | s->place[j] << 17 | criticality;
+    return (uint32_t)MODULE << 28 | (j + 1) << 23 | s->place[j] << 17 |
+           criticality;
 }
 
 /* The rounds left and what follows them.  Refusal 8 at the first word for which
@@ -368,7 +365,7 @@ static presence_answer load_pending(struct state *s, const uint8_t *bytes)
         return a;
     for (j = 0; j < s->setup.n; j++) {
         at = first + 3 + j;
-        word = get_word(bytes, at);
+        word = get_word(bytes, at) & ~SEND_MARK;
         s->pending.criticality[j] = word & 0x1FFFF;
         if (word != module_word(&s->setup, j, word & 0x1FFFF) ||
             s->pending.criticality[j] < 1 || s->pending.criticality[j] > 100000)
@@ -408,7 +405,7 @@ static presence_answer load_views(struct state *s, const uint8_t *bytes)
     return answer(0, 0, 0);
 }
 
-/* Reads an image.  Refusals 1 to 8, 22 in the place of 4. */
+/* Reads an image.  Refusals 1 to 5, 7 and 8, 22 in the place of 4. */
 static presence_answer load_state(struct state *s, const uint8_t *bytes,
                                   size_t len)
 {
@@ -560,12 +557,10 @@ static void store_state(const struct state *s, uint8_t *out)
     store_pending(s, out, 4 * n + 3);
 }
 
-/* Rule 7: without the mark the latest syndrome, with it the one before. */
+/* Rule 7, without the send mark. */
 static uint32_t word_handed_out(const struct state *s)
 {
-    uint32_t syndrome = s->setup.mark[s->own - 1] ? s->before : s->latest;
-
-    return (uint32_t)BUS_WORD << 28 | syndrome;
+    return (uint32_t)BUS_WORD << 28 | s->latest;
 }
 
 /* The word of a view. */
@@ -574,12 +569,10 @@ static uint32_t view_word(uint32_t view)
     return (uint32_t)OWN_AND_VIEW << 28 | view;
 }
 
-/* E11 of document 02: delayed like a syndrome; none without head bit 5. */
+/* E11 of document 02: none without head bit 5. */
 static uint32_t view_word_handed_out(const struct state *s)
 {
-    if (!s->setup.partitionable)
-        return 0;
-    return view_word(s->setup.mark[s->own - 1] ? s->view_before : s->view);
+    return s->setup.partitionable ? view_word(s->view) : 0;
 }
 
 /* Rule 1. */
@@ -910,7 +903,7 @@ static bool same_but_limits(const struct setup *s, const struct setup *t)
         s->return_limit != t->return_limit)
         return false;
     for (j = 0; j < s->n; j++)
-        if (s->mark[j] != t->mark[j] || s->place[j] != t->place[j])
+        if (s->place[j] != t->place[j])
             return false;
     return true;
 }

@@ -48,4 +48,10 @@ presence_word plain_page_interrupt(const uint8_t *page, size_t page_len);
 
 presence_cause plain_read_cause(uint32_t n, uint32_t controller, uint32_t word);
 
+presence_judged plain_judge(const uint8_t *log, size_t log_len);
+
+presence_answer plain_link_list(const uint8_t *image, size_t image_len,
+                                const uint8_t *views, size_t views_len,
+                                uint8_t *out, size_t out_len);
+
 #endif

@@ -1,5 +1,5 @@
 #!/usr/bin/env python3
-"""Writes own-calls.txt: calls with the answers that document 01 gives, and E1, E4, E5, E6, E9, E10 and E11 of document 02.
+"""Writes own-calls.txt: calls with the answers that document 01 gives, and E1, E4, E5, E6, E9, E10, E11, E12, E13 and E14 of document 02.
 
     python3 make_own_calls.py > own-calls.txt
 
@@ -10,7 +10,7 @@ the fields after each step, are written here after the paper; no model computes 
 import copy
 
 from setup_words import (ABOVE_1, ABOVE_MOST, BELOW_1, BELOW_MOST, GREATEST, INFINITE, LEAST, LEAST_NORMAL, MINUS_INFINITE, MOST, NO_NUMBERS,
-                         bus, double, head, limit_p, limit_r, module, setup_words, view_word)
+                         bus, double, head, limit_p, limit_r, module, setup_words, view_word, without_marks)
 
 # ---- words ----
 
@@ -65,6 +65,7 @@ THREE = setup_words(3)
 SIXTEEN = setup_words(16)
 TWO_MARKED = setup_words(2, l=[0, 1], marks=[2])
 MARKED = setup_words(4, l=[0, 0, 1, 2], marks=[2, 3, 4])
+ALL_MARKED = setup_words(4, marks=[1, 2, 3, 4])
 SIXTEEN_MARKED = setup_words(16, l=list(range(16)), marks=range(2, 17))
 ONE_EARLY = setup_words(4, l=[4, 4, 4, 3])
 WIDE = setup_words(4, p=5, crit=[3] * 4)
@@ -87,6 +88,11 @@ def fades(setup):
 
 def partitionable(setup):
     return setup[0] >> 5 & 1 == 1
+
+
+def clear(setup):
+    """A setup without its send marks."""
+    return without_marks(setup, 6 if fades(setup) else 3, setup[0] & 31)
 
 
 class State:
@@ -120,6 +126,11 @@ class State:
             else:
                 setattr(state, name, value)
         return state
+
+    def written(self):
+        """As it is written: without send marks in the setup and in the words of a change that waits."""
+        left, new = self.pending or (0, [])
+        return self.but(setup=clear(self.setup), pending=self.pending and (left, clear(new)))
 
     def words(self):
         numbers = range(1, self.n + 1)
@@ -181,7 +192,7 @@ def image_bytes(image):
 
 def opened(words, own):
     """An accepted opening."""
-    image = State(words, own)
+    image = State(words, own).written()
     print(f"open {text(words)} {own} {image_bytes(image)} = 0 0 0000 {text(image)}")
 
 
@@ -190,7 +201,7 @@ def open_refused(data, own, out, number, index):
 
 
 def saved(image):
-    print(f"save {text(image)} {image_bytes(image)} = 0 0 0000 {text(image)}")
+    print(f"save {text(image)} {image_bytes(image)} = 0 0 0000 {text(image.written())}")
 
 
 def save_refused(data, out, number, index):
@@ -198,9 +209,9 @@ def save_refused(data, out, number, index):
 
 
 def stepped(image, read, controller, health, rows, latest, **fields):
-    """An accepted step: health and the fields after it, those not named stay. Answers the new state.
+    """An accepted step: health and the fields after it, those not named stay; send marks do not. Answers the new state.
     read: words; rows: the read as the image keeps it, None if unheard."""
-    after = image.but(row=list(rows), latest=latest, before=image.latest, earlier=image.view, **fields)
+    after = image.but(row=list(rows), latest=latest, before=image.latest, earlier=image.view, **fields).written()
     print(
         f"step {text(image)} {text(read)} {controller:X} {image_bytes(after)}"
         f" = 0 0 {health:04X} {text(after)}"
@@ -210,7 +221,7 @@ def stepped(image, read, controller, health, rows, latest, **fields):
 
 def changed(image, new, lead):
     """An accepted change; answers the state in which it waits."""
-    after = image.but(pending=(lead, new))
+    after = image.but(pending=(lead, new)).written()
     print(f"change {text(image)} {text(new)} {lead} {image_bytes(after)} = 0 0 0000 {text(after)}")
     return after
 
@@ -221,6 +232,14 @@ def change_refused(data, new, lead, out, number, index):
 
 def step_refused(data, read, controller, out, number, index):
     print(f"step {text(data)} {text(read)} {controller:X} {out} = {number} {index} 0000 -")
+
+
+def outgoing(data, number, index, word):
+    print(f"outgoing {text(data)} = {number} {index} {word:08X}")
+
+
+def outgoing_view(data, number, index, word):
+    print(f"outgoingview {text(data)} = {number} {index} {word:08X}")
 
 
 def buses(*syndromes):
@@ -245,7 +264,7 @@ def four_causes(causes, first):
 
 
 def page_opened(words, own, page):
-    image = State(words, own)
+    image = State(words, own).written()
     print(f"pageopen {text(words)} {own} {image_bytes(image)} 64 = 0 0 0000 {text(image)} {text(page)}")
 
 
@@ -255,7 +274,7 @@ def page_open_refused(data, own, out, page, number, index):
 
 def page_stepped(image, page, after_page, read, controller, health, rows, latest, **fields):
     """As stepped, with the page before and after; answers the new state."""
-    after = image.but(row=list(rows), latest=latest, before=image.latest, earlier=image.view, **fields)
+    after = image.but(row=list(rows), latest=latest, before=image.latest, earlier=image.view, **fields).written()
     print(
         f"pagestep {text(image)} {text(read)} {controller:X} {image_bytes(after)} {text(page)}"
         f" = 0 0 {health:04X} {text(after)} {text(after_page)}"
@@ -313,7 +332,7 @@ def cause_refused(n, bit, word, number):
 
 def setups_accepted():
     note("Setups that are accepted: the sheet; N = 2 and 16 with u = 0 (every l is N);",
-         "N = 2, 4 and 16 with u = 1, the send mark on all modules but 1; the highest limits.")
+         "N = 2, 4 and 16 with u = 1, a send mark on all modules but 1; the highest limits.")
     for words in [SHEET, TWO, SIXTEEN, TWO_MARKED, MARKED, SIXTEEN_MARKED, LARGE]:
         setup(words, 0, 0)
 
@@ -411,24 +430,31 @@ def setups_with_wrong_modules():
     setup(put(SHEET, {4: module(2, 5), 6: module(4, 4, crit=0)}), 5, 4)
 
 
-def setups_with_wrong_marks():
-    note("6: send mark on module 1 with l = 0 and with l = N.")
-    setup(put(SHEET, {3: module(1, 0, mark=1)}), 6, 3)
-    setup(put(SHEET, {3: module(1, 4, mark=1)}), 6, 3)
-    also("6: send mark on 2 with l = 1 (accepted) and 2; on 4 with l = 3 (accepted) and 4.")
+def setups_with_marks():
+    note("The send mark is not looked at (E12), and 6 is no longer given: on module 1 with l = 0 and with l = N.")
+    setup(put(SHEET, {3: module(1, 0, mark=1)}), 0, 0)
+    setup(put(SHEET, {3: module(1, 4, mark=1)}), 0, 0)
+    also("On 2 with l = 1 and 2; on 4 with l = 3 and 4.")
     setup(put(SHEET, {4: module(2, 1, mark=1)}), 0, 0)
-    setup(put(SHEET, {4: module(2, 2, mark=1)}), 6, 4)
+    setup(put(SHEET, {4: module(2, 2, mark=1)}), 0, 0)
     setup(put(SHEET, {6: module(4, 3, mark=1)}), 0, 0)
-    setup(put(SHEET, {6: module(4, 4, mark=1)}), 6, 6)
-    also("6: N = 16, mark on 16 with l = 15 (accepted) and 16.")
+    setup(put(SHEET, {6: module(4, 4, mark=1)}), 0, 0)
+    also("N = 16, on 16 with l = 15 and 16. On 2 and 3, with l at the own number. On all, N = 2, 4 and 16, u = 0.")
     setup(put(SIXTEEN, {18: module(16, 15, mark=1)}), 0, 0)
-    setup(put(SIXTEEN, {18: module(16, 16, mark=1)}), 6, 18)
-    also("6: marks wrong on 3 and on 2, the first counts.")
-    setup(put(SHEET, {4: module(2, 2, mark=1), 5: module(3, 3, mark=1)}), 6, 4)
-    also("5 before 6 though it lies later: mark on 1 (word 3), criticality 0 at module 4 (word 6).")
+    setup(put(SIXTEEN, {18: module(16, 16, mark=1)}), 0, 0)
+    setup(put(SHEET, {4: module(2, 2, mark=1), 5: module(3, 3, mark=1)}), 0, 0)
+    for n in (2, 4, 16):
+        setup(setup_words(n, marks=range(1, n + 1)), 0, 0)
+    also("5 as without it: a mark on 1 (word 3), criticality 0 at module 4 (word 6); module 2 with a mark and l = 5, criticality 0, 100,001,")
+    also("number 3, kinds 0 and 5.")
     setup(put(SHEET, {3: module(1, 0, mark=1), 6: module(4, 4, crit=0)}), 5, 6)
-    also("5 before 6 in one word: module 2 with the mark and l = 5.")
-    setup(put(SHEET, {4: module(2, 5, mark=1)}), 5, 4)
+    for word in (module(2, 5, mark=1), module(2, 4, crit=0, mark=1), module(2, 4, crit=100001, mark=1), module(3, 4, mark=1),
+                 kind(module(2, 4, mark=1), 0), kind(module(2, 4, mark=1), 5)):
+        setup(put(SHEET, {4: word}), 5, 4)
+    also("Bit 22 of other words is no mark: in the head it is of Q, in P's word and in R's it is of the number.")
+    setup(put(SHEET, {0: head(4) | 1 << 22}), 0, 0)
+    setup(put(SHEET, {1: limit_p(1) | 1 << 22}), 4, 1)
+    setup(put(SHEET, {2: limit_r(3) | 1 << 22}), 0, 0)
 
 
 # ---- state ----
@@ -460,7 +486,7 @@ def states_accepted():
 
 
 def states_with_wrong_setup():
-    note("Numbers 1 to 6 in a state: empty, one byte over.")
+    note("Numbers 1 to 5 in a state: empty, one byte over.")
     state(b"", 1, 0)
     state(raw(FRESH_WORDS) + b"\x00", 1, 0)
     also("2: N = 17. 3: one word short (without the rounds left), two, one over, the setup alone.")
@@ -475,14 +501,14 @@ def states_with_wrong_setup():
     also("3: N = 2 one word over, N = 16 one word short.")
     state(State(TWO, 1).words() + [0], 3, 0)
     state(State(SIXTEEN, 1).words()[:86], 3, 0)
-    also("4: P = 0, R = 8,000,001. 5: l = 5 at module 4. 6: mark on 1.")
+    also("4: P = 0, R = 8,000,001. 5: l = 5 at module 4.")
     state(put(FRESH_WORDS, {1: limit_p(0)}), 4, 1)
     state(put(FRESH_WORDS, {2: limit_r(8000001)}), 4, 2)
     state(put(FRESH_WORDS, {6: module(4, 5)}), 5, 6)
-    state(put(FRESH_WORDS, {3: module(1, 0, mark=1)}), 6, 3)
-    also("5 before 6 though it lies later; 6 before 7.")
+    also("A send mark on 1 is accepted, and 5 and 7 are given as without it.")
+    state(put(FRESH_WORDS, {3: module(1, 0, mark=1)}), 0, 0)
     state(put(FRESH_WORDS, {3: module(1, 0, mark=1), 6: module(4, 4, crit=0)}), 5, 6)
-    state(put(FRESH_WORDS, {4: module(2, 2, mark=1), 7: own_view(0, 0xF)}), 6, 4)
+    state(put(FRESH_WORDS, {4: module(2, 2, mark=1), 7: own_view(0, 0xF)}), 7, 7)
 
 
 def states_with_wrong_own_number():
@@ -636,12 +662,14 @@ def states_in_wrong_order():
 
 def openings():
     note("Openings that are accepted: all-ones rows and syndromes, all heard, counters 0, full view.",
-         "N = 2, N = 4 with own number 1 and N, N = 16, and u = 1 with send marks.")
+         "N = 2, N = 4 with own number 1 and N, N = 16, and u = 1; send marks are not written: on 2, 3, 4; on all, with u = 0.")
     opened(TWO, 2)
     opened(SHEET, 1)
     opened(SHEET, 4)
     opened(SIXTEEN, 16)
     opened(MARKED, 3)
+    opened(ALL_MARKED, 1)
+    opened(setup_words(16, marks=range(1, 17)), 16)
     also("With Q = 3 and 1,000,000: the head keeps it, return counts 0.")
     opened(RETURN_THREE, 2)
     opened(RETURN_LATEST, 4)
@@ -652,13 +680,15 @@ def openings():
     also("7: N = 16 with own 17.")
     open_refused(SIXTEEN, 17, 348, 7, 0)
 
-    note("Numbers 1 to 6 come before 7 and 9: own 0 and no output in each call.")
+    note("Numbers 1 to 5 come before 7 and 9: own 0 and no output in each call; a send mark does not.")
     open_refused(b"", 0, 0, 1, 0)
     open_refused(put(SHEET, {0: head(17)}), 0, 0, 2, 0)
     open_refused(FRESH, 0, 0, 3, 0)
     open_refused(put(SHEET, {2: limit_r(0)}), 0, 0, 4, 2)
     open_refused(put(SHEET, {6: module(4, 5)}), 0, 0, 5, 6)
-    open_refused(put(SHEET, {5: module(3, 3, mark=1)}), 0, 0, 6, 5)
+    open_refused(put(SHEET, {6: module(4, 5, mark=1)}), 0, 0, 5, 6)
+    open_refused(put(SHEET, {5: module(3, 3, mark=1)}), 0, 0, 7, 0)
+    open_refused(put(SHEET, {5: module(3, 3, mark=1)}), 3, 0, 9, 0)
     also("7 before 9.")
     open_refused(SHEET, 0, 0, 7, 0)
 
@@ -671,19 +701,23 @@ def openings():
 
 
 def savings():
-    note("Savings that are accepted write the image.")
+    note("Savings that are accepted write the image, without send marks: those of 2 to 16; of all; and of one alone.")
     saved(State(TWO, 1))
     saved(MIDDLE)
     saved(State(SIXTEEN_MARKED, 16))
     saved(AWAY.but(returns={2: 2}))
+    saved(MIDDLE.but(setup=ALL_MARKED))
+    for j in range(1, 5):
+        saved(MIDDLE.but(setup=setup_words(4, marks=[j])))
 
-    note("Numbers 1 to 8 come before 9: no output in each call.")
+    note("Numbers 1 to 5, 7 and 8 come before 9: no output in each call; a send mark does not.")
     save_refused(raw(FRESH_WORDS)[:5], 0, 1, 0)
     save_refused(put(FRESH_WORDS, {0: head(1)}), 0, 2, 0)
     save_refused(FRESH_WORDS[:26], 0, 3, 0)
     save_refused(put(FRESH_WORDS, {1: limit_r(1)}), 0, 4, 1)
     save_refused(put(FRESH_WORDS, {4: module(2, 4, crit=0)}), 0, 5, 4)
-    save_refused(put(FRESH_WORDS, {4: module(2, 2, mark=1)}), 0, 6, 4)
+    save_refused(put(FRESH_WORDS, {4: module(2, 4, crit=0, mark=1)}), 0, 5, 4)
+    save_refused(put(FRESH_WORDS, {4: module(2, 2, mark=1)}), 0, 9, 0)
     save_refused(put(FRESH_WORDS, {7: own_view(31, 0xF)}), 0, 7, 7)
     save_refused(put(FRESH_WORDS, {20: reward(3, 1)}), 0, 8, 20)
 
@@ -697,13 +731,15 @@ def savings():
 
 def steps_refused():
     read = buses(0xF, 0xF, 0xF, 0xF)
-    note("Numbers 1 to 8 come before 9 and 10: no read, no output and controller bit 31 in each call.")
+    note("Numbers 1 to 5, 7 and 8 come before 9 and 10: no read, no output and controller bit 31 in each call; a send mark does not.")
     step_refused(b"", b"", 1 << 31, 0, 1, 0)
     step_refused(put(FRESH_WORDS, {0: head(17)}), b"", 1 << 31, 0, 2, 0)
     step_refused(FRESH_WORDS + [0], b"", 1 << 31, 0, 3, 0)
     step_refused(put(FRESH_WORDS, {2: limit_r(0)}), b"", 1 << 31, 0, 4, 2)
     step_refused(put(FRESH_WORDS, {5: module(3, 5)}), b"", 1 << 31, 0, 5, 5)
-    step_refused(put(FRESH_WORDS, {3: module(1, 0, mark=1)}), b"", 1 << 31, 0, 6, 3)
+    step_refused(put(FRESH_WORDS, {5: module(3, 5, mark=1)}), b"", 1 << 31, 0, 5, 5)
+    step_refused(put(FRESH_WORDS, {3: module(1, 0, mark=1)}), b"", 1 << 31, 0, 9, 0)
+    step_refused(put(FRESH_WORDS, {3: module(1, 0, mark=1)}), read, 1 << 31, 108, 10, 0)
     step_refused(put(FRESH_WORDS, {7: own_view(0, 0xF)}), b"", 1 << 31, 0, 7, 7)
     step_refused(FRESH.but(view=0x7), b"", 1 << 31, 0, 8, 17)
 
@@ -922,18 +958,24 @@ def steps_of_other_n():
             penalty={j: 1 for j in range(2, 16)})
 
 
+def both_ways(image, *call, **fields):
+    """The step of an image with the marks of MARKED, and of the same without; answers the new state."""
+    stepped(image.but(setup=MARKED), *call, **fields)
+    return stepped(image.written(), *call, **fields)
+
+
 def steps_with_u_1():
     f, d = 0xF, 0xD
-    note("l = 0, 0, 1, 2 and marks on 2, 3, 4 (u = 1); 2 is unheard by all in round 1. Module 4, l = 2:",
-         "rows 1 and 2 come from the previous read, 3 and 4 from this one. Round 1: all rows are there,",
-         "nobody charged, full syndrome. The read is kept with 2 unheard.")
-    first = stepped(State(MARKED, 4), buses(f, f, f, f), 0xD, f, [f, None, f, f], f)
+    note("l = 0, 0, 1, 2 and marks on 2, 3, 4, which decide nothing and are not written (u = 1); 2 is unheard by all in round 1. Module 4,",
+         "l = 2: rows 1 and 2 come from the previous read, 3 and 4 from this one. Round 1: all rows are there,",
+         "nobody charged, full syndrome. The read is kept with 2 unheard. Each image is stepped with the marks and as it was written.")
+    first = both_ways(State(MARKED, 4), buses(f, f, f, f), 0xD, f, [f, None, f, f], f)
     also("Round 2: row 2 is missing, though 2 is heard now; health 1111; the syndrome lacks 2.")
-    second = stepped(first, buses(f, f, f, f), f, f, [f] * 4, d)
+    second = both_ways(first, buses(f, f, f, f), f, f, [f] * 4, d)
     also("Round 3: 1 and 2 already sent that syndrome, but their rows come from round 2: health 1111.")
-    third = stepped(second, buses(d, d, f, f), f, f, [d, d, f, f], f)
+    third = both_ways(second, buses(d, d, f, f), f, f, [d, d, f, f], f)
     also("Round 4: all rows are of round 3 and lack 2: health 1011, 2 is charged.")
-    stepped(third, buses(f, f, d, d), f, d, [f, f, d, d], f, penalty={2: 1})
+    both_ways(third, buses(f, f, d, d), f, d, [f, f, d, d], f, penalty={2: 1})
 
     note("Nobody heard with u = 1, module 1 (l = 0): the syndrome before the latest decides. Latest 0000",
          "and before 1111: health 1111, nobody charged. Latest 1111, before 1101: 3 is charged.")
@@ -948,12 +990,12 @@ def steps_with_u_1():
     stepped(State(ONE_EARLY, 1).but(row=lacks_3), read, f, 0xB, [f] * 4, f, penalty={3: 1})
     stepped(State(SHEET, 1).but(row=lacks_3), read, f, f, [f] * 4, f)
 
-    note("N = 2, module 2 with l = 1 and the mark: row 1 of the previous read lacks 2, row 2 is of this",
+    note("N = 2, module 2 with l = 1 and a send mark: row 1 of the previous read lacks 2, row 2 is of this",
          "one. Health 10, 2 charges itself.")
     stepped(State(TWO_MARKED, 2).but(row={1: 0x1}), buses(0x3, 0x3), 0x3, 0x1, [0x3, 0x3], 0x3,
             penalty={2: 1})
 
-    note("N = 16, module 9 with l = 8 and the mark: rows 1 to 8 of the previous read and 9 to 16 of this",
+    note("N = 16, module 9 with l = 8 and a send mark: rows 1 to 8 of the previous read and 9 to 16 of this",
          "one lack 9. All vote 0 on 9, which charges itself; the other rows of both reads are full.")
     full_row, lack = 0xFFFF, 0xFEFF
     before = State(SIXTEEN_MARKED, 9).but(row=[lack] * 8 + [full_row] * 8)
@@ -977,10 +1019,11 @@ def page_openings():
         page_open_refused(SHEET, 1, 108, length, 9, 0)
     page_open_refused(SHEET, 1, 107, 64, 9, 0)
     page_open_refused(SHEET, 1, 0, 4, 9, 0)
-    also("1, 4, 6 and 7 before 9.")
+    also("1, 4, 5 and 7 before 9; a send mark is not.")
     page_open_refused(b"", 1, 108, 63, 1, 0)
     page_open_refused(put(SHEET, {1: limit_p(0)}), 1, 108, 63, 4, 1)
-    page_open_refused(put(SHEET, {3: module(1, 0, 1, 1)}), 1, 108, 0, 6, 3)
+    page_open_refused(put(SHEET, {3: module(1, 5, 1, 1)}), 1, 108, 0, 5, 3)
+    page_open_refused(put(SHEET, {3: module(1, 0, 1, 1)}), 1, 108, 0, 9, 0)
     page_open_refused(SHEET, 5, 108, 65, 7, 0)
 
 
@@ -1199,6 +1242,7 @@ FADING = setup_words(4, fading=(0.5, 2.0))
 FADING_TWO = setup_words(2, fading=(0.5, 2.0))
 FADING_SIXTEEN = setup_words(16, fading=(0.5, 2.0))
 FADING_MARKED = setup_words(4, l=[0, 0, 1, 2], marks=[2, 3, 4], fading=(0.5, 2.0))
+FADING_ALL_MARKED = setup_words(4, marks=[1, 2, 3, 4], fading=(0.5, 2.0))
 FADING_THREE = setup_words(4, q=3, fading=(0.5, 2.0))
 FADES = State(FADING, 2)
 FADES_WORDS = FADES.words()
@@ -1217,8 +1261,8 @@ def with_double(words, at, value):
 
 
 def fading_setups_accepted():
-    note("Fading setups that are accepted: N = 4, 2 and 16, marks, Q = 3; N+6 words.")
-    for words in (FADING, FADING_TWO, FADING_SIXTEEN, FADING_MARKED, FADING_THREE):
+    note("Fading setups that are accepted: N = 4, 2 and 16, send marks on 2, 3, 4 and on all, Q = 3; N+6 words.")
+    for words in (FADING, FADING_TWO, FADING_SIXTEEN, FADING_MARKED, FADING_ALL_MARKED, FADING_THREE):
         setup(words, 0, 0)
     also("Factors: 0, the least double above it, the least normal one, a tenth, the one before 1.0, 1.0.")
     for factor in (0.0, LEAST, LEAST_NORMAL, 0.1, BELOW_1, 1.0):
@@ -1270,20 +1314,26 @@ def fading_setups_refused():
     note("22 at several words, the first counts.")
     setup(put(setup_words(4, fading=(2.0, 0.0)), {1: 1}), 22, 1)
     setup(setup_words(4, fading=(2.0, 0.0)), 22, 2)
-    also("22 before 5 and 6: a mark on 1, l = 5 at module 1, a word of kind 0 for module 4.")
+    also("22 with a mark on 1; 22 before 5: l = 5 at module 1, a word of kind 0 for module 4.")
     setup(put(with_double(FADING, 4, 0.0), {6: module(1, 0, mark=1)}), 22, 4)
     setup(put(with_double(FADING, 2, -0.0), {6: module(1, 5)}), 22, 2)
     setup(put(FADING, {1: 1 << 27, 9: 0}), 22, 1)
-    note("5 and 6 lie three words further: l = 5 at modules 1 and 4, criticality 0 and 100,001, a mark on 1, and on 2 with l = 2.")
+    note("5 lies three words further: l = 5 at modules 1 and 4, criticality 0 and 100,001. Send marks on 1, on 2 with l = 2, on 16 with l = 16",
+         "are accepted.")
     setup(put(FADING, {6: module(1, 5)}), 5, 6)
     setup(put(FADING, {9: module(4, 5)}), 5, 9)
     setup(put(FADING, {7: module(2, 4, crit=0)}), 5, 7)
     setup(put(FADING, {7: module(2, 4, crit=100001)}), 5, 7)
-    setup(put(FADING, {6: module(1, 0, mark=1)}), 6, 6)
-    setup(put(FADING, {7: module(2, 2, mark=1)}), 6, 7)
-    setup(put(FADING_SIXTEEN, {21: module(16, 16, mark=1)}), 6, 21)
-    also("5 before 6 though it lies later.")
+    setup(put(FADING, {6: module(1, 0, mark=1)}), 0, 0)
+    setup(put(FADING, {7: module(2, 2, mark=1)}), 0, 0)
+    setup(put(FADING_SIXTEEN, {21: module(16, 16, mark=1)}), 0, 0)
+    also("5 with marks. Bit 22 of the kind 0 word is a spare bit, in a double's halves it is of the double.")
     setup(put(FADING, {6: module(1, 0, mark=1), 9: module(4, 4, crit=0)}), 5, 9)
+    setup(put(FADING, {9: module(4, 5, mark=1)}), 5, 9)
+    setup(put(FADING_ALL_MARKED, {1: 1 << 22}), 22, 1)
+    for at in (3, 5):
+        setup(put(FADING_ALL_MARKED, {at: FADING[at] | 1 << 22}), 0, 0)
+    setup(put(FADING_ALL_MARKED, {2: 0x3FF00000 | 1 << 19}), 22, 2)
 
 
 def fading_states():
@@ -1345,9 +1395,10 @@ def fading_states_with_wrong_setup():
     state(with_double(FADES_WORDS, 2, ABOVE_1), 22, 2)
     state(with_double(FADES_WORDS, 4, -0.0), 22, 4)
     state(put(with_double(FADES_WORDS, 4, INFINITE), {6: 0, 10: own_view(0, 0xF), 17: 0xFFF00000}), 22, 4)
-    also("5 and 6 at 6 to 9. 7 at 10: own number 0 and 5; 8 where the word is not of kind 10, or a view bit at N.")
+    also("5 at 6 to 9; a send mark there is accepted. 7 at 10: own number 0 and 5; 8 where the word is not of kind 10, or a view bit at N.")
     state(put(FADES_WORDS, {9: module(4, 5)}), 5, 9)
-    state(put(FADES_WORDS, {7: module(2, 2, mark=1)}), 6, 7)
+    state(put(FADES_WORDS, {7: module(2, 2, mark=1)}), 0, 0)
+    state(put(FADES_WORDS, {7: module(2, 2, mark=1), 10: own_view(0, 0xF)}), 7, 10)
     state(put(FADES_WORDS, {10: own_view(0, 0xF)}), 7, 10)
     state(put(FADES_WORDS, {10: own_view(5, 0xF), 17: 0xFFF00000}), 7, 10)
     state(put(FADES_WORDS, {10: kind(own_view(2, 0xF), 9)}), 8, 10)
@@ -1356,8 +1407,8 @@ def fading_states_with_wrong_setup():
 
 
 def fading_openings():
-    note("Fading openings: every score 0.0. N = 4, 2 and 16, marks, Q = 3.")
-    for words, own in ((FADING, 1), (FADING_TWO, 2), (FADING_SIXTEEN, 16), (FADING_MARKED, 3), (FADING_THREE, 4)):
+    note("Fading openings: every score 0.0. N = 4, 2 and 16, send marks, which are not written, on 2, 3, 4 and on all; Q = 3.")
+    for words, own in ((FADING, 1), (FADING_TWO, 2), (FADING_SIXTEEN, 16), (FADING_MARKED, 3), (FADING_ALL_MARKED, 1), (FADING_THREE, 4)):
         opened(words, own)
     note("22 before 7 and 9; 7 before 9; 9: output empty, as long as with counts, one word short, one byte over, one word over.")
     open_refused(put(FADING, {1: 2}), 0, 0, 22, 1)
@@ -1371,8 +1422,9 @@ def fading_openings():
 
 
 def fading_savings():
-    note("Fading savings write the image, every bit of the scores as it was.")
+    note("Fading savings write the image, every bit of the scores as it was, without send marks.")
     saved(FADES)
+    saved(State(FADING_ALL_MARKED, 2).but(view=0xD, score={1: LEAST, 2: GREATEST, 3: BELOW_2}))
     saved(FADED.but(view=0x5, score={1: LEAST, 3: 0.1, 4: 1e300}, returns={2: 2, 4: 1}))
     saved(State(FADING_SIXTEEN, 7).but(view=0x7FFF, score={1: BELOW_2, 2: LEAST_NORMAL / 2, 16: GREATEST}))
     also("22 and 8 before 9; 9 as in an opening.")
@@ -1515,7 +1567,7 @@ def fading_steps_of_other_n():
     note("N = 16: 16 is charged and leaves; the scores of the others are halved.")
     charged(State(FADING_SIXTEEN, 5).but(score={j: j / 16 for j in range(1, 17)}), 16, view=0x7FFF,
             score=dict([(j, j / 32) for j in range(1, 16)] + [(16, 2.0)]))
-    note("u = 1, module 4 with l = 2 and the mark: rows 1 and 2 of the previous read and 3 and 4 of this one lack 2.")
+    note("u = 1, module 4 with l = 2 and a send mark: rows 1 and 2 of the previous read and 3 and 4 of this one lack 2.")
     stepped(State(FADING_MARKED, 4).but(row=[0xD, 0xD, 0xF, 0xF], score={2: 1.0, 3: 1.0}), buses(0xF, 0xF, 0xD, 0xD), 0xF, 0xD,
             [0xF, 0xF, 0xD, 0xD], 0xF, score={2: 2.0, 3: 0.5}, view=0xD)
 
@@ -1564,20 +1616,30 @@ def changes_accepted():
     also("In the middle of a life: nothing else moves, whatever the new limits will do to it.")
     changed(MIDDLE, setup_words(4, p=1000000, r=1), 1000)
     changed(AWAY.but(returns={2: 2}), setup_words(4, p=3, q=3), 2)
-    also("N = 2 and 16, Q = 2, send marks.")
+    also("N = 2 and 16, Q = 2.")
     changed(State(TWO, 2), setup_words(2, p=9), 1)
     changed(State(SIXTEEN_RETURN, 16), setup_words(16, p=9, q=2), 1000)
-    changed(State(MARKED_RETURN, 3), setup_words(4, p=9, q=2, l=[0, 0, 1, 2], marks=[2, 3, 4]), 3)
+    also("Send marks in image and new words, in one of them alone, on other modules in each; neither is written. A mark alone differs: not 23.")
+    for old, new in (([2, 3, 4], [2, 3, 4]), ([2, 3, 4], []), ([], [2, 3, 4]), ([2], [1, 3]), ([1, 2, 3, 4], [1, 2, 3, 4])):
+        changed(State(setup_words(4, q=2, l=[0, 0, 1, 2], marks=old), 3), setup_words(4, p=9, q=2, l=[0, 0, 1, 2], marks=new), 3)
+    for j in range(1, 5):
+        changed(SHEET_1, setup_words(4, marks=[j]), 1)
+        changed(State(setup_words(4, marks=[j]), 1), SHEET, 1)
+    changed(State(MARKED, 1), put(MARKED, {4: module(2, 0)}), 1)
+    changed(State(MARKED, 1), put(MARKED, {6: module(4, 2)}), 1)
+    changed(State(ONE_EARLY, 1), put(ONE_EARLY, {6: module(4, 3, mark=1)}), 1)
+    changed(SHEET_1, put(RAISED, {4: module(2, 4, mark=1)}), 1000)
 
 
 def changes_refused_by_the_state():
-    note("Numbers 1 to 8 of the state come first: no new setup, lead 0 and no output in each call.")
+    note("Numbers 1 to 5, 7 and 8 of the state come first: no new setup, lead 0 and no output in each call.")
     change_refused(b"", b"", 0, 0, 1, 0)
     change_refused(put(FRESH_WORDS, {0: head(17)}), b"", 0, 0, 2, 0)
     change_refused(FRESH_WORDS[:26], b"", 0, 0, 3, 0)
     change_refused(put(FRESH_WORDS, {2: limit_r(0)}), b"", 0, 0, 4, 2)
     change_refused(put(FRESH_WORDS, {6: module(4, 5)}), b"", 0, 0, 5, 6)
-    change_refused(put(FRESH_WORDS, {3: module(1, 0, mark=1)}), b"", 0, 0, 6, 3)
+    change_refused(put(FRESH_WORDS, {6: module(4, 5, mark=1)}), b"", 0, 0, 5, 6)
+    change_refused(put(FRESH_WORDS, {3: module(1, 0, mark=1)}), b"", 0, 0, 1, 0)
     change_refused(put(FRESH_WORDS, {7: own_view(5, 0xF)}), b"", 0, 0, 7, 7)
     change_refused(put(FRESH_WORDS, {25: returns(4, 1)}), b"", 0, 0, 8, 25)
     also("22 in the place of 4; 8 in the words of a change that waits.")
@@ -1593,13 +1655,13 @@ def changes_refused_by_the_new_words():
                                (put(RAISED, {1: limit_p(0)}), 4, 1), (put(RAISED, {1: limit_p(1000001)}), 4, 1),
                                (put(RAISED, {2: limit_r(8000001)}), 4, 2), (put(RAISED, {1: limit_r(3)}), 4, 1),
                                (put(RAISED, {3: module(1, 5)}), 5, 3), (put(RAISED, {6: module(4, 4, crit=100001)}), 5, 6),
-                               (put(RAISED, {5: module(3, 4, crit=0)}), 5, 5), (put(RAISED, {3: module(1, 0, mark=1)}), 6, 3),
-                               (put(RAISED, {4: module(2, 2, mark=1)}), 6, 4)):
+                               (put(RAISED, {5: module(3, 4, crit=0)}), 5, 5), (put(RAISED, {3: module(1, 5, mark=1)}), 5, 3),
+                               (put(RAISED, {4: module(2, 4, crit=0, mark=1)}), 5, 4)):
         change_refused(WAITS, new, 0, 0, number, index)
-    also("A fading one: 3 for a wrong length, 22 in the place of 4, 5 and 6 three words further.")
+    also("A fading one: 3 for a wrong length, 22 in the place of 4, 5 three words further, with a send mark too.")
     for new, number, index in ((FADING[:9], 3, 0), (put(FADING, {1: 1}), 22, 1), (with_double(FADING, 2, ABOVE_1), 22, 2),
                                (with_double(FADING, 4, -0.0), 22, 4), (put(FADING, {9: module(4, 5)}), 5, 9),
-                               (put(FADING, {7: module(2, 2, mark=1)}), 6, 7)):
+                               (put(FADING, {7: module(2, 5, mark=1)}), 5, 7)):
         change_refused(WAITS, new, 0, 0, number, index)
         change_refused(FADES, new, 0, 0, number, index)
     also("A wrong word in a setup of another N and Q: its own number, not 23.")
@@ -1612,23 +1674,21 @@ def changes_refused_by_23():
         change_refused(SHEET_1, new, 1, 132, 23, 0)
     for q in (0, 2, 4):
         change_refused(AWAY, setup_words(4, q=q), 1, 132, 23, 0)
-    also("23: N alone, with the same l and marks of the modules that both have: one more with l = 4 or 0, one less; 2 and 16.")
+    also("23: N alone, with the same l of the modules that both have, and with the same send marks: one more with l = 4 or 0, one less; 2 and 16.")
     for l in (0, 4, 5):
         change_refused(SHEET_1, setup_words(5, l=[4] * 4 + [l]), 1, 132, 23, 0)
     early = State(setup_words(4, l=[0, 0, 1, 2], marks=[2, 3]), 1)
     change_refused(early, setup_words(3, l=[0, 0, 1], marks=[2, 3]), 1, 132, 23, 0)
     change_refused(State(setup_words(16, l=[0] * 16), 1), setup_words(2, l=[0, 0]), 1, 420, 23, 0)
     change_refused(State(setup_words(2, l=[0, 0]), 1), setup_words(16, l=[0] * 16), 1, 84, 23, 0)
-    also("23: a read place, at each module, one less and 0; with u = 1 too. A mark more, a mark less.")
+    also("23: a read place, at each module, one less and 0, with a send mark too; with u = 1 too.")
     for j in range(1, 5):
         for l in (0, 3):
             change_refused(SHEET_1, put(RAISED, {2 + j: module(j, l)}), 1, 132, 23, 0)
-    marked = State(MARKED, 1)
-    change_refused(marked, put(MARKED, {3: module(1, 1)}), 1, 132, 23, 0)
+            change_refused(SHEET_1, put(RAISED, {2 + j: module(j, l, mark=1)}), 1, 132, 23, 0)
+    change_refused(State(MARKED, 1), put(MARKED, {3: module(1, 1)}), 1, 132, 23, 0)
+    change_refused(State(MARKED, 1), put(MARKED, {4: module(2, 1, mark=1)}), 1, 132, 23, 0)
     change_refused(State(ONE_EARLY, 1), SHEET, 1, 132, 23, 0)
-    change_refused(State(ONE_EARLY, 1), put(ONE_EARLY, {6: module(4, 3, mark=1)}), 1, 132, 23, 0)
-    change_refused(marked, put(MARKED, {4: module(2, 0)}), 1, 132, 23, 0)
-    change_refused(marked, put(MARKED, {6: module(4, 2)}), 1, 132, 23, 0)
     also("23: fading for counts, counts for fading, fading for fading, with other limits and the same.")
     change_refused(SHEET_1, FADING, 1, 132, 23, 0)
     change_refused(FADES, SHEET, 1, 144, 23, 0)
@@ -1672,7 +1732,14 @@ def pending_states():
     for new in (SHEET, setup_words(4, r=1), LARGE):
         state(MIDDLE.but(pending=(5, new)), 0, 0)
     state(State(TWO, 1).but(pending=(1, setup_words(2, p=2))), 0, 0)
-    state(State(SIXTEEN_MARKED, 9).but(pending=(1, setup_words(16, p=2, l=list(range(16)), marks=range(2, 17)))), 0, 0)
+    also("Send marks in the setup and in the pending words, in one of them alone, on others in each.")
+    for marks in (range(2, 17), [], [1], range(1, 17)):
+        state(State(SIXTEEN_MARKED, 9).but(pending=(1, setup_words(16, p=2, l=list(range(16)), marks=marks))), 0, 0)
+    state(State(setup_words(16, l=list(range(16))), 9).but(pending=(1, setup_words(16, p=2, l=list(range(16)), marks=range(2, 17)))), 0, 0)
+    also("Saved, without them.")
+    saved(MIDDLE.but(setup=ALL_MARKED, pending=(7, setup_words(4, p=2, marks=[1, 2, 3, 4]))))
+    saved(MIDDLE.but(pending=(7, setup_words(4, p=2, marks=[1]))))
+    saved(MIDDLE.but(setup=setup_words(4, marks=[4]), pending=(7, setup_words(4, p=2, marks=[2, 3]))))
     also("Saved, with an output of that length; 9 for the length without a change, one word short, one over.")
     saved(WAITS)
     saved(AWAY.but(pending=(1000, setup_words(4, q=3, p=9))))
@@ -1722,34 +1789,38 @@ def pending_states_refused():
     state(put(WAITS_WORDS, {27: limit_p(1), 28: limit_r(1)}), 0, 0)
 
     note("8 at a module's word (29 to 32): criticality 0 and 100,001, number 0 and the next one's, kind 5; l other than in the setup, above N",
-         "too; a mark that the setup has not.")
+         "too; each with a send mark and without. A mark that the setup has not is accepted.")
     for j in range(1, 5):
         at = 28 + j
         for wrong in (module(j, 4, crit=0), module(j, 4, crit=100001), module(0, 4), module(j + 1, 4), kind(module(j, 4), 5),
-                      module(j, 3), module(j, 0), module(j, 5), module(j, 4, mark=1), module(j, 0, mark=1)):
+                      module(j, 3), module(j, 0), module(j, 5)):
             state(put(WAITS_WORDS, {at: wrong}), 8, at)
+            state(put(WAITS_WORDS, {at: wrong | 1 << 22}), 8, at)
         state(put(WAITS_WORDS, {at: module(j, 4, crit=100000)}), 0, 0)
+        state(put(WAITS_WORDS, {at: module(j, 4, mark=1)}), 0, 0)
+        state(put(WAITS_WORDS, {at: module(j, 4, crit=100000, mark=1)}), 0, 0)
     state(put(WAITS_WORDS, {30: module(3, 4), 31: module(2, 4)}), 8, 30)
-    also("With the marks of the setup, l = 0, 0, 1, 2: a mark less, and an l that is right by itself, are wrong too.")
+    also("With l = 0, 0, 1, 2 and send marks: an l that is right by itself is wrong; a mark less is not.")
     marked = State(MARKED, 2).but(pending=(4, MARKED)).words()
     state(marked, 0, 0)
-    for at, wrong in ((29, module(1, 1)), (30, module(2, 0)), (30, module(2, 1, mark=1)), (31, module(3, 1)), (32, module(4, 3, mark=1)),
-                      (32, module(4, 2))):
+    for at, wrong in ((29, module(1, 1)), (30, module(2, 1, mark=1)), (31, module(3, 0)), (32, module(4, 3, mark=1))):
         state(put(marked, {at: wrong}), 8, at)
+    for at, right in ((29, module(1, 0, mark=1)), (30, module(2, 0)), (31, module(3, 1)), (32, module(4, 2))):
+        state(put(marked, {at: right}), 0, 0)
 
-    note("8 at several words, the first counts: the rounds left and P; P and a module; a mark at 29 and criticality 0 at 32; l at 30 and",
-         "criticality 0 at 29; a return count (25) and the rounds left; a reward (18) and P.")
+    note("8 at several words, the first counts: the rounds left and P; P and a module; a mark at 29, which is none, and criticality 0 at 32; l at",
+         "30 and criticality 0 at 29; a return count (25) and the rounds left; a reward (18) and P.")
     state(put(WAITS_WORDS, {26: 1001, 27: 0}), 8, 26)
     state(put(WAITS_WORDS, {27: limit_p(0), 29: 0}), 8, 27)
-    state(put(WAITS_WORDS, {29: module(1, 4, mark=1), 32: module(4, 4, crit=0)}), 8, 29)
+    state(put(WAITS_WORDS, {29: module(1, 4, mark=1), 32: module(4, 4, crit=0)}), 8, 32)
     state(put(WAITS_WORDS, {29: module(1, 4, crit=0), 30: module(2, 3)}), 8, 29)
     state(put(WAITS_WORDS, {25: returns(4, 1), 26: 1001}), 8, 25)
     state(put(WAITS_WORDS, {18: reward(1, 3), 27: 0}), 8, 18)
-    also("4 to 7 before 8: P = 0 in the setup, l = 5, a mark, own number 0; the pending P is 0.")
+    also("4, 5 and 7 before 8: P = 0 in the setup, l = 5, own number 0; the pending P is 0. With a send mark it is still 8.")
     wrong = put(WAITS_WORDS, {27: limit_p(0)})
     state(put(wrong, {1: limit_p(0)}), 4, 1)
     state(put(wrong, {6: module(4, 5)}), 5, 6)
-    state(put(wrong, {3: module(1, 0, mark=1)}), 6, 3)
+    state(put(wrong, {3: module(1, 4, mark=1)}), 8, 27)
     state(put(wrong, {7: own_view(0, 0xF)}), 7, 7)
     also("The counters are held to the limits that still hold: penalty 1 in the view with P = 1, 2 is not; R = 3 with reward 2, 3 is not.")
     state(WAITS.but(penalty={2: 1}, reward={2: 2}), 0, 0)
@@ -1897,11 +1968,16 @@ def steps_of_changes_and_votes():
     alone = good(applied(SHEET, State(setup_words(4, p=5), 1).but(penalty={j: 5 for j in range(1, 5)})),
                  penalty={j: 2 for j in range(1, 5)}, view=0x0, setup=SHEET, pending=None)
     stepped(alone, buses(0, 0, 0, 0), 0xF, 0xF, [0] * 4, 0xF)
-    note("u = 1 with marks, Q = 2, module 4 with l = 2: as with u = 0; rows 1 and 2 are those of the read before.")
-    new = setup_words(4, p=1, r=2, q=2, l=[0, 0, 1, 2], marks=[2, 3, 4])
-    old = setup_words(4, p=4, q=2, l=[0, 0, 1, 2], marks=[2, 3, 4])
-    stepped(applied(new, State(old, 4).but(row=[0xD, 0xD, 0xF, 0xF], penalty={2: 4, 3: 3}, reward={3: 2})), buses(0xF, 0xF, 0xD, 0xD), 0xF,
-            0xD, [0xF, 0xF, 0xD, 0xD], 0xF, penalty={2: 2, 3: 0}, reward={3: 0}, view=0xD, setup=new, pending=None)
+    note("u = 1, Q = 2, module 4 with l = 2: as with u = 0; rows 1 and 2 are those of the read before. Send marks in the setup and in the pending",
+         "words, on the same modules and on others: none is written.")
+    for marks, new_marks in (([2, 3, 4], [2, 3, 4]), ([2, 3, 4], []), ([], [1, 2, 3, 4]), ([4], [1])):
+        new = setup_words(4, p=1, r=2, q=2, l=[0, 0, 1, 2], marks=new_marks)
+        old = setup_words(4, p=4, q=2, l=[0, 0, 1, 2], marks=marks)
+        stepped(applied(new, State(old, 4).but(row=[0xD, 0xD, 0xF, 0xF], penalty={2: 4, 3: 3}, reward={3: 2})), buses(0xF, 0xF, 0xD, 0xD), 0xF,
+                0xD, [0xF, 0xF, 0xD, 0xD], 0xF, penalty={2: 2, 3: 0}, reward={3: 0}, view=0xD, setup=new, pending=None)
+    also("Two rounds left: the marks of both are gone after the step, and the change waits on.")
+    waits = State(ALL_MARKED, 1).but(pending=(2, setup_words(4, p=9, marks=[1, 2, 3, 4])))
+    stepped(waits, ALL_ONES, 0xF, 0xF, [0xF] * 4, 0xF, pending=(1, setup_words(4, p=9)))
     note("N = 2 and 16.")
     good(applied(TWO, State(setup_words(2, p=9), 2).but(penalty={1: 9})), penalty={1: 2}, view=0x2, setup=TWO, pending=None)
     sixteen = setup_words(16, p=3, r=2, q=2, crit=[2] * 16)
@@ -1979,27 +2055,24 @@ def viewed(image, words, controller=None, seen=None, **fields):
                    seen=seen, **fields)
 
 
-def outgoing_view(data, number, index, word):
-    print(f"outgoingview {text(data)} = {number} {index} {word:08X}")
-
-
 def partitionable_setups():
-    note("Partitionable setups, head bit 5: N = 2, 4 and 16, u = 0 and u = 1, marks, Q, fading. The length is as without.")
+    note("Partitionable setups, head bit 5: N = 2, 4 and 16, u = 0 and u = 1, send marks, Q, fading. The length is as without.")
     for words in (TORN_TWO, TORN, TORN_SIXTEEN, TORN_MARKED, TORN_FADING, setup_words(4, q=1000000, partitionable=1)):
         setup(words, 0, 0)
-    also("3: one word short, one over; 4, 5 and 6 as without.")
+    setup(put(TORN, {4: module(2, 2, mark=1)}), 0, 0)
+    also("3: one word short, one over; 4 and 5 as without.")
     setup(TORN[:6], 3, 0)
     setup(TORN + [module(5, 4)], 3, 0)
     setup(put(TORN, {1: limit_p(0)}), 4, 1)
     setup(put(TORN, {6: module(4, 5)}), 5, 6)
-    setup(put(TORN, {4: module(2, 2, mark=1)}), 6, 4)
+    setup(put(TORN, {4: module(2, 5, mark=1)}), 5, 4)
     also("2: bit 5 with N = 1 and 17, with bit 6 and with bit 7; with Q = 1,000,001; with another kind.")
     for word in (head(1, 0, 1), head(17, 0, 1), head(4, 0, 1) | 1 << 6, head(4, 0, 1) | 1 << 7, head(4, 1000001, 1), kind(head(4, 0, 1), 2)):
         setup(put(TORN, {0: word}), 2, 0)
 
 
 def partitionable_openings():
-    note("Opened: every view is full, those in the view words too; out is 0. N = 2, 4 and 16, fading, with marks, with Q.")
+    note("Opened: every view is full, those in the view words too; out is 0. N = 2, 4 and 16, fading, with send marks, with Q.")
     for words, own in ((TORN, 1), (TORN, 4), (TORN_TWO, 2), (TORN_SIXTEEN, 16), (TORN_FADING, 3), (TORN_MARKED, 2),
                        (setup_words(4, q=3, partitionable=1), 2)):
         opened(words, own)
@@ -2032,7 +2105,7 @@ def partitionable_states():
     state(TORN_1.but(row={2: None, 3: 0x1}, seen={3: None, 2: view_word(0x3)}), 0, 0)
     also("The latest local view is the kind 10 word's: 2 is outside.")
     state(TORN_1.but(view=0xD, penalty={2: 2}, adopted=0xF), 0, 0)
-    also("With a change that waits; with fading; N = 2 and 16; marks.")
+    also("With a change that waits; with fading; N = 2 and 16; send marks.")
     state(TORN_WAITS, 0, 0)
     state(TORN_WAITS.but(pending=(1000, TORN), seen={1: None}, adopted=0x3, out=1), 0, 0)
     state(State(TORN_FADING, 2).but(view=0xD, score={2: 2.5}, earlier=0x0, adopted=0x9, out=1), 0, 0)
@@ -2152,7 +2225,7 @@ def partitionable_savings():
 
 
 def partitionable_outgoing_views():
-    note("The view word that a state hands out: 0 without head bit 5; else the latest local view, with the send mark the one before it.")
+    note("The view word that a state hands out: 0 without head bit 5; else the latest local view, with a send mark too (E12).")
     outgoing_view(SHEET_1, 0, 0, 0)
     outgoing_view(FADES, 0, 0, 0)
     outgoing_view(State(MARKED, 2), 0, 0, 0)
@@ -2163,21 +2236,22 @@ def partitionable_outgoing_views():
     marked = State(TORN_MARKED, 1).but(view=0xD, penalty={2: 2}, earlier=0x7, adopted=0xB)
     outgoing_view(marked, 0, 0, view_word(0xD))
     for own in (2, 3, 4):
-        outgoing_view(marked.but(own=own), 0, 0, view_word(0x7))
+        outgoing_view(marked.but(own=own), 0, 0, view_word(0xD))
     also("With a change that waits; with fading; N = 2 and 16; a view without anybody.")
     outgoing_view(TORN_WAITS, 0, 0, view_word(0xF))
     outgoing_view(State(TORN_FADING, 1).but(view=0xE, score={1: 2.0}), 0, 0, view_word(0xE))
     outgoing_view(State(TORN_TWO, 1).but(view=0x2, penalty={1: 2}), 0, 0, view_word(0x2))
     outgoing_view(State(TORN_SIXTEEN, 16).but(view=0x7FFF, penalty={16: 2}), 0, 0, view_word(0x7FFF))
     outgoing_view(TORN_1.but(view=0x0, penalty={j: 2 for j in range(1, 5)}), 0, 0, view_word(0x0))
-    also("Numbers 1 to 8, and 22 in the place of 4.")
+    also("Numbers 1 to 5, 7 and 8, and 22 in the place of 4; not 6.")
     outgoing_view(b"", 1, 0, 0)
     outgoing_view(put(TORN_WORDS, {0: head(4, 0, 1) | 1 << 6}), 2, 0, 0)
     outgoing_view(TORN_WORDS[:34], 3, 0, 0)
     outgoing_view(put(TORN_WORDS, {1: limit_p(0)}), 4, 1, 0)
     outgoing_view(with_double(State(TORN_FADING, 1).words(), 2, ABOVE_1), 22, 2, 0)
     outgoing_view(put(TORN_WORDS, {6: module(4, 5)}), 5, 6, 0)
-    outgoing_view(put(TORN_WORDS, {4: module(2, 2, mark=1)}), 6, 4, 0)
+    outgoing_view(put(TORN_WORDS, {6: module(4, 5, mark=1)}), 5, 6, 0)
+    outgoing_view(put(TORN_WORDS, {4: module(2, 2, mark=1)}), 0, 0, view_word(0xF))
     outgoing_view(put(TORN_WORDS, {7: own_view(5, 0xF)}), 7, 7, 0)
     outgoing_view(put(TORN_WORDS, {31: 0xE}), 8, 31, 0)
     outgoing_view(put(FRESH_WORDS, {25: returns(4, 1)}), 8, 25, 0)
@@ -2303,10 +2377,10 @@ def partitionable_steps_of_the_local_view():
 
 
 def partitionable_steps_with_u_1():
-    note("u = 1, module 4 with l = 2 and the mark: view words 1 and 2 of the read before, 3 and 4 of this one. All four carry 1011: adopted.")
+    note("u = 1, module 4 with l = 2 and a send mark: view words 1 and 2 of the read before, 3 and 4 of this one. All four carry 1011: adopted.")
     marked = State(TORN_MARKED, 4)
     after = viewed(marked.but(seen=views(0xD, 0xD, 0xF, 0xF)), views(0xF, 0xF, 0xD, 0xD), adopted=0xD)
-    also("It hands out the view before the latest, a full one. Two of the read before and two of this one differ: out.")
+    also("It hands out its latest local view, a full one. Two of the read before and two of this one differ: out.")
     outgoing_view(after, 0, 0, view_word(0xF))
     viewed(marked.but(seen=views(0xF, 0xF, 0xD, 0xD)), views(0xD, 0xD, 0xD, 0xD), out=1)
     also("Missing in the read before, there in this one: missing; and the other way round.")
@@ -2320,12 +2394,13 @@ def partitionable_steps_with_u_1():
     early = State(setup_words(4, l=[4, 4, 4, 3], partitionable=1), 1)
     viewed(early.but(seen=words), views(0x1, 0x2, 0x4, 0x8), adopted=0xB)
     viewed(early, [0] * 4, seen=[None] * 4)
-    also("Marked, and 2 leaves in this step: the word handed out is the view before it, in the next step that without 2.")
+    also("With a send mark, and 2 leaves in this step: the word handed out is without 2, from the image as it was written and with marks in it.")
     lack = [0xD] * 4
     left = stepped(marked.but(row=[0xD, 0xD, 0xF, 0xF], penalty={2: 1}), buses(0xF, 0xF, 0xD, 0xD) + views(0xF, 0xF, 0xF, 0xF), 0xF, 0xD,
                    [0xF, 0xF, 0xD, 0xD], 0xF, penalty={2: 2}, view=0xD)
-    outgoing_view(left, 0, 0, view_word(0xF))
-    later = stepped(left.but(row=lack), buses(*lack) + views(0xF, 0xF, 0xF, 0xF), 0xF, 0xD, lack, 0xF)
+    for image in (left, left.but(setup=TORN_MARKED)):
+        outgoing_view(image, 0, 0, view_word(0xD))
+    later = stepped(left.but(setup=TORN_MARKED, row=lack), buses(*lack) + views(0xF, 0xF, 0xF, 0xF), 0xF, 0xD, lack, 0xF)
     outgoing_view(later, 0, 0, view_word(0xD))
 
 
@@ -2436,9 +2511,488 @@ def partitionable_pages():
     page_step_refused(put(TORN_WORDS, {34: 2}), ALL_ONES, 0x10, 0, b"", 8, 34)
 
 
-print("# Calls and their answers after document 01 and E1, E4, E5, E6, E9, E10 and E11 of document 02, in the format of e11-calls.txt;")
-print("# a cause that is refused is written cause CTLBIT WORD N = refused NUMBER at INDEX, and the view word that a state hands out")
-print("# outgoingview STATE = NUMBER INDEX WORD.")
+# ---- the send mark retired (document 02, E12) ----
+
+
+def marked(image, marks, new_marks=()):
+    """The image with send marks on these modules, in the setup and in the words of a change that waits."""
+    left, new = image.pending or (0, [])
+    return image.but(setup=with_marks(image.setup, marks), pending=image.pending and (left, with_marks(new, new_marks)))
+
+
+def with_marks(setup, marks):
+    first = 6 if fades(setup) else 3
+    return put(setup, {first + j - 1: setup[first + j - 1] | 1 << 22 for j in marks})
+
+
+# Module 3 of four; the syndromes and the local views differ, so that a word of the round before would be seen.
+DIFFERENT = {"latest": 0x6, "before": 0x9, "earlier": 0x7}
+EARLY = setup_words(4, l=[0, 0, 1, 2])
+EACH_FORM = (
+    ("counts, u = 0", State(SHEET, 3)),
+    ("counts, u = 1", State(EARLY, 3)),
+    ("fading", State(FADING, 3)),
+    ("a change that waits", State(SHEET, 3).but(pending=(2, RAISED))),
+    ("head bit 5", State(TORN, 3)),
+    ("head bit 5, u = 1, a change that waits", State(setup_words(4, l=[0, 0, 1, 2], partitionable=1), 3).but(
+        pending=(2, setup_words(4, p=5, l=[0, 0, 1, 2], partitionable=1)))),
+    ("head bit 5 and fading", State(TORN_FADING, 3)),
+)
+MARKS = (([], []), ([3], []), ([1, 2, 3, 4], []), ([2, 4], [1, 3]), ([1, 2, 3, 4], [1, 2, 3, 4]))
+
+
+def marks_in_every_call():
+    note("Send marks on no module, on 3, on all, on some in the setup and on others in the pending words. Module 3, latest syndrome 0110, the one",
+         "before 1001; local view 1111, the one before 1110. The word handed out has the latest, whatever is marked; saved without the marks.")
+    for name, image in EACH_FORM:
+        also(name[0].upper() + name[1:] + ".")
+        image = image.but(**DIFFERENT)
+        for marks, new_marks in MARKS:
+            old = marked(image, marks, new_marks)
+            outgoing(old, 0, 0, bus(0x6))
+            outgoing_view(old, 0, 0, view_word(0xF) if partitionable(image.setup) else 0)
+            saved(old)
+    note("The same stepped on all-ones words, with a page and without: health 1111, syndrome 1111, the latest one before it; a round less is left.")
+    for name, image in EACH_FORM:
+        also(name[0].upper() + name[1:] + ".")
+        image = image.but(**DIFFERENT)
+        read = ALL_ONES + (views(0xF, 0xF, 0xF, 0xF) if partitionable(image.setup) else [])
+        for marks, new_marks in MARKS:
+            old = marked(image, marks, new_marks)
+            fields = {"pending": (1, image.pending[1])} if image.pending else {}
+            after = stepped(old, read, 0xF, 0xF, [0xF] * 4, 0xF, **fields)
+            page_stepped(old, page_words(0xF, 0xF, 0, 3), page_words(0xF, 0xF, 0, 3), read, 0xF, 0xF, [0xF] * 4, 0xF, **fields)
+        outgoing(marked(after, [3], [3]), 0, 0, bus(0xF))
+    note("Opened from setups with marks on 3, and on all, with a page and without; the setup tested.")
+    for name, image in EACH_FORM:
+        if not image.pending:
+            for marks in ([3], [1, 2, 3, 4]):
+                words = with_marks(image.setup, marks)
+                setup(words, 0, 0)
+                opened(words, 3)
+                page_opened(words, 3, FRESH_PAGE)
+    note("What the rules refuse is refused with marks as without: 2 to 5, 7 and 8, 9 and 10, 22 to 24; the index is the same.")
+    every = [1, 2, 3, 4]
+    for marks in ([], every):
+        words = marked(State(SHEET, 3), marks).words()
+        for at, wrong, number in ((0, head(17), 2), (1, limit_p(0), 4), (7, own_view(5, 0xF), 7), (8, 0, 8), (25, returns(4, 1), 8)):
+            state(put(words, {at: wrong}), number, at)
+        state(put(words, {5: words[5] & ~0x1FFFF}), 5, 5)
+        state(words[:26], 3, 0)
+        state(put(marked(FADES, marks).words(), {1: 1}), 22, 1)
+        save_refused(words, 104, 9, 0)
+        step_refused(words, ALL_ONES, 0x1F, 108, 10, 0)
+        change_refused(words, with_marks(THREE, marks[:3]), 1, 132, 23, 0)
+        change_refused(words, with_marks(RAISED, marks), 0, 132, 24, 0)
+        change_refused(words, with_marks(RAISED, marks), 1, 108, 9, 0)
+        waits = marked(WAITS, marks, marks).words()
+        state(put(waits, {26: 1001}), 8, 26)
+        state(put(waits, {30: waits[30] ^ 1 << 17}), 8, 30)
+        change_refused(waits, with_marks(SHEET, marks), 1, 132, 24, 0)
+        page_step_refused(words, ALL_ONES, 0xF, 108, raw(ANY_PAGE)[:60], 9, 0)
+        page_open_refused(with_marks(SHEET, marks), 5, 108, 64, 7, 0)
+    note("Bit 22 elsewhere in an image is none: it is heard in a row's word, and spare in those of own number, syndrome, penalty and return count.")
+    state(put(FRESH_WORDS, {8: previous(1, 0, 0)}), 0, 0)
+    for at in (7, 12, 13, 14, 22):
+        state(put(FRESH_WORDS, {at: FRESH_WORDS[at] ^ 1 << 22}), 8, at)
+
+
+# ---- judging another maker's card (document 02, E13) ----
+
+# A log of the sheet: words 0 to 6 are the setup, 7 the own number, then 7 words a round: a read at 8 + 7k, the controller word at 12 + 7k, the claimed
+# health and view behind it. With fading each stands 3 later, with head bit 5 a round has 11 words.
+OWN_1 = own_view(1, 0)
+
+
+def logged(rows, health, view, controller=None, seen=()):
+    """One round: bus words with these rows, those of views where some are seen, all heard by the controller unless said, and the claims."""
+    return buses(*rows) + views(*seen) + [full(len(rows)) if controller is None else controller, health, view]
+
+
+def log(setup, own, *rounds):
+    return setup + [own_view(own, 0)] + [word for each in rounds for word in each]
+
+
+def judged(data, wrong=0):
+    """Not refused: the first wrong round, 0 for none."""
+    print(f"judge {text(data)} = 0 0 {wrong}")
+
+
+def judge_refused(data, number, index):
+    print(f"judge {text(data)} = {number} {index} -")
+
+
+GOOD_ROUND = logged([0xF] * 4, 0xF, 0xF)
+# All rows lack 2, so its health is 0, and it is charged.
+CHARGE = logged([0xD] * 4, 0xD, 0xF)
+LEAVES = logged([0xD] * 4, 0xD, 0xD)
+# Good again, with 2 outside the view.
+STAYS_OUT = logged([0xF] * 4, 0xF, 0xD)
+TORN_ROUND = logged([0xF] * 4, 0xF, 0xF, seen=[0xF] * 4)
+A_LOG = log(SHEET, 1, GOOD_ROUND, GOOD_ROUND)
+
+
+def logs_accepted():
+    note("Logs that are accepted. No round; one and two rounds in which all is well, by each of four modules; N = 2 and 16.")
+    judged(log(SHEET, 1))
+    for own in (1, 2, 3, 4):
+        judged(log(SHEET, own, GOOD_ROUND, GOOD_ROUND))
+    judged(log(TWO, 2, logged([3] * 2, 3, 3)))
+    judged(log(SIXTEEN, 16, logged([0xFFFF] * 16, 0xFFFF, 0xFFFF)))
+    also("With fading, where the setup has N+6 words; with head bit 5, where a read has 2N; with both.")
+    judged(log(FADING, 1))
+    judged(log(FADING, 1, GOOD_ROUND, GOOD_ROUND))
+    judged(log(TORN, 1))
+    judged(log(TORN, 1, TORN_ROUND, TORN_ROUND))
+    judged(log(TORN_FADING, 1, TORN_ROUND, TORN_ROUND))
+    also("2 has health 0 twice, and at the second charge its penalty is over P = 1: it leaves. A good round does not bring it back, since Q is 0.")
+    judged(log(SHEET, 1, GOOD_ROUND, CHARGE, LEAVES, STAYS_OUT))
+    also("One charge and three good rounds clear both counters (R = 3), so a further charge is the first one; after two good rounds it is the second.")
+    judged(log(SHEET, 1, CHARGE, GOOD_ROUND, GOOD_ROUND, GOOD_ROUND, CHARGE))
+    judged(log(SHEET, 1, CHARGE, GOOD_ROUND, GOOD_ROUND, LEAVES))
+    also("Q = 1: the good round brings 2 back, with penalty P, so one charge more and it leaves. Q = 3: the third good round running does.")
+    judged(log(RETURN_ONE, 1, CHARGE, LEAVES, GOOD_ROUND, LEAVES))
+    judged(log(RETURN_THREE, 1, CHARGE, LEAVES, STAYS_OUT, STAYS_OUT, GOOD_ROUND))
+    also("Fading, factor 1/2 and limit 2.0: two charges running are the limit; with a good round between they are 1.5, and a third one 2.5.")
+    judged(log(FADING, 1, CHARGE, LEAVES, STAYS_OUT))
+    judged(log(FADING, 1, CHARGE, GOOD_ROUND, CHARGE, LEAVES))
+    also("Nobody is heard: health is the own syndrome of the round before, which is full in round 1 and empty from then on; all leave in round 3.")
+    judged(log(SHEET, 1, logged([0xF] * 4, 0xF, 0xF, 0), logged([0xF] * 4, 0x0, 0xF, 0), logged([0xF] * 4, 0x0, 0x0, 0)))
+    also("Words that are not heard, of another kind and with a bit at N, vote nothing: 3 and 4 say that 2 is good.")
+    judged(log(SHEET, 1, [kind(bus(0xD), 4), bus(0xF), bus(0xF), bus(0xF), 0xF, 0xF, 0xF]))
+    judged(log(SHEET, 1, [bus(0x1D), bus(0xF), bus(0xF), bus(0xF), 0xF, 0xF, 0xF]))
+    also("u = 1, l = 0, 0, 1, 2; rows 1011, 1111, 1011, 1111. Module 1 takes all of them from this read: 0, 0 and 1 on 2.")
+    also("Module 3 takes that of 1 from the read before, which was full at opening: 1, 0 and 1.")
+    judged(log(EARLY, 1, logged([0xD, 0xF, 0xD, 0xF], 0xD, 0xF)))
+    judged(log(EARLY, 3, logged([0xD, 0xF, 0xD, 0xF], 0xF, 0xF)))
+
+
+def logs_with_wrong_claims():
+    note("A wrong claim: each bit of the claimed health, of the claimed view, those at N or above too. In round 1, in round 2.")
+    for bit in (0, 1, 3, 4, 15, 16, 31):
+        for at in (13, 14):
+            judged(put(A_LOG, {at: 0xF ^ 1 << bit}), 1)
+            judged(put(A_LOG, {at + 7: 0xF ^ 1 << bit}), 2)
+    also("The first wrong round is named: both are wrong; the second and the third of three.")
+    judged(put(A_LOG, {13: 0, 20: 0}), 1)
+    judged(put(log(SHEET, 1, GOOD_ROUND, GOOD_ROUND, GOOD_ROUND), {20: 7, 28: 7}), 2)
+    also("Health and view exchanged where they differ; where they are the same nothing is wrong.")
+    judged(log(SHEET, 1, GOOD_ROUND, logged([0xD] * 4, 0xF, 0xD)), 2)
+    also("A charge that is not seen; a card that leaves too early, too late, and that comes back where Q is 0.")
+    judged(log(SHEET, 1, logged([0xD] * 4, 0xF, 0xF)), 1)
+    judged(log(SHEET, 1, LEAVES), 1)
+    judged(log(SHEET, 1, CHARGE, CHARGE), 2)
+    judged(log(SHEET, 1, CHARGE, LEAVES, GOOD_ROUND), 3)
+    also("What is right goes by the rules and not by the claims: after a wrong one, the others as they would be right.")
+    judged(log(SHEET, 1, LEAVES, LEAVES), 1)
+    also("Q = 1 and Q = 3: back a round too late, a round too early. Fading: 1.5 is below the limit, 2.0 is not.")
+    judged(log(RETURN_ONE, 1, CHARGE, LEAVES, STAYS_OUT), 3)
+    judged(log(RETURN_THREE, 1, CHARGE, LEAVES, STAYS_OUT, GOOD_ROUND), 4)
+    judged(log(FADING, 1, CHARGE, GOOD_ROUND, LEAVES), 3)
+    judged(log(FADING, 1, CHARGE, CHARGE), 2)
+    also("The own number decides: the rows of the logs above with u = 1, each by the other module.")
+    judged(log(EARLY, 3, logged([0xD, 0xF, 0xD, 0xF], 0xD, 0xF)), 1)
+    judged(log(EARLY, 1, logged([0xD, 0xF, 0xD, 0xF], 0xF, 0xF)), 1)
+    also("N = 16: bit 15 is module 16, bit 16 none.")
+    judged(log(SIXTEEN, 16, logged([0xFFFF] * 16, 0x7FFF, 0xFFFF)), 1)
+    judged(log(SIXTEEN, 16, logged([0xFFFF] * 16, 0x1FFFF, 0xFFFF)), 1)
+    also("N = 2: the last of three rounds.")
+    judged(log(TWO, 1, *[logged([3] * 2, 3, 3)] * 2, logged([3] * 2, 3, 2)), 3)
+
+
+def logs_with_head_bit_5():
+    note("Head bit 5: the adopted view is claimed. All view words lack 2, and the local view is full: 1011 is right, 1111 is wrong.")
+    judged(log(TORN, 1, logged([0xF] * 4, 0xF, 0xD, seen=[0xD] * 4)))
+    judged(log(TORN, 1, logged([0xF] * 4, 0xF, 0xF, seen=[0xD] * 4)), 1)
+    also("2 leaves the local view while all view words are full: 1111 is right in both rounds.")
+    judged(log(TORN, 1, *[logged([0xD] * 4, 0xD, 0xF, seen=[0xF] * 4)] * 2))
+    judged(log(TORN, 1, logged([0xD] * 4, 0xD, 0xF, seen=[0xF] * 4), logged([0xD] * 4, 0xD, 0xD, seen=[0xF] * 4)), 2)
+    also("Two and two: the card is out, and its adopted view stays, in the next round too, in which all lack 3.")
+    split = logged([0xF] * 4, 0xF, 0xF, seen=[0xF, 0xF, 0xD, 0xD])
+    judged(log(TORN, 1, split, logged([0xF] * 4, 0xF, 0xF, seen=[0xB] * 4)))
+    judged(log(TORN, 1, split, logged([0xF] * 4, 0xF, 0xB, seen=[0xB] * 4)), 2)
+    also("The same words in a log without head bit 5 are no whole rounds: 11 words are 7 and 4 more.")
+    judge_refused(log(SHEET, 1, TORN_ROUND), 25, 19)
+
+
+def logs_refused_by_the_setup():
+    note("1: empty; 1, 2, 3 and 5 bytes; a log with 1, 2 and 3 bytes more, and one byte less.")
+    judge_refused(b"", 1, 0)
+    for count in (1, 2, 3, 5):
+        judge_refused(raw(A_LOG)[:count], 1, 0)
+    for count in (1, 2, 3):
+        judge_refused(raw(A_LOG) + bytes(count), 1, 0)
+    judge_refused(raw(A_LOG)[:-1], 1, 0)
+    also("1 before 2: no head, and a byte more.")
+    judge_refused(raw(put(A_LOG, {0: 0})) + bytes(1), 1, 0)
+    also("2: N = 1, N = 17, another kind, spare bits 6 and 7, Q = 1,000,001. Q = 1,000,000 is accepted.")
+    for word in (head(1), head(17), kind(head(4), 2), head(4) | 1 << 6, head(4) | 1 << 7, head(4) | 1000001 << 8):
+        judge_refused(put(A_LOG, {0: word}), 2, 0)
+    judged(put(A_LOG, {0: head(4) | 1000000 << 8}))
+    also("3: one word less than the setup, and one word alone; the setup alone is 25. With fading the same, by the kind of the second word.")
+    judge_refused(SHEET[:1], 3, 0)
+    judge_refused(SHEET[:6], 3, 0)
+    judge_refused(SHEET, 25, 7)
+    judge_refused(FADING[:2], 3, 0)
+    judge_refused(FADING[:9], 3, 0)
+    judge_refused(FADING, 25, 10)
+    also("3 before 4: the second word is of kind 0, so 7 words are too few; of kind 5 they are enough, and 4 is at it.")
+    judge_refused(put(SHEET, {1: 0}), 3, 0)
+    judge_refused(put(SHEET, {1: 5 << 28}), 4, 1)
+    also("4: P = 0 and 1,000,001, R = 0 and 8,000,001; P before R. 1,000,000 and 8,000,000 are accepted.")
+    for places, at in (({1: limit_p(0)}, 1), ({1: limit_p(1000001)}, 1), ({2: limit_r(0)}, 2), ({2: limit_r(8000001)}, 2),
+                       ({1: limit_p(0), 2: limit_r(0)}, 1)):
+        judge_refused(put(A_LOG, places), 4, at)
+    judged(put(A_LOG, {1: limit_p(1000000), 2: limit_r(8000000)}))
+    also("22: a spare bit, a factor above 1, minus zero, a limit of 0. Factor 1 and limit 1,000,000 are accepted.")
+    fading = log(FADING, 1, GOOD_ROUND)
+    judge_refused(put(fading, {1: 1}), 22, 1)
+    judge_refused(with_double(fading, 2, ABOVE_1), 22, 2)
+    judge_refused(put(fading, {2: 1 << 31, 3: 0}), 22, 2)
+    judge_refused(with_double(fading, 4, 0.0), 22, 4)
+    judged(with_double(with_double(fading, 2, 1.0), 4, 1000000.0))
+    also("5: criticality 0 and 100,001, read place 5, 2 in the place of 1. 4 before 5.")
+    for word in (module(1, 4, 0), module(1, 4, 100001), module(1, 5, 1), module(2, 4, 1)):
+        judge_refused(put(A_LOG, {3: word}), 5, 3)
+    judge_refused(put(A_LOG, {2: limit_r(0), 3: 0}), 4, 2)
+    judge_refused(put(A_LOG, {6: 0}), 5, 6)
+    also("Each of these before 7, 25, 10 and a wrong claim.")
+    wrong = put(A_LOG, {7: 0xA0000000, 12: 0x1F, 13: 0})
+    for at, word, number in ((0, 0, 2), (1, limit_p(0), 4), (3, 0, 5)):
+        judge_refused(put(wrong, {at: word}), number, at)
+        judge_refused(put(wrong, {at: word})[:-1], number, at)
+
+
+def logs_refused_by_the_own_word():
+    note("7: own number 0, 5, 16 and 31 of four; 3 and 17 of others. Own number 4 is accepted.")
+    for own in (0, 5, 16, 31):
+        judge_refused(put(A_LOG, {7: own_view(own, 0)}), 7, 7)
+    judged(put(A_LOG, {7: own_view(4, 0)}))
+    judge_refused(log(TWO, 3), 7, 5)
+    judge_refused(log(SIXTEEN, 17), 7, 19)
+    judge_refused(log(SIXTEEN, 0), 7, 19)
+    judge_refused(log(FADING, 5, GOOD_ROUND), 7, 10)
+    judge_refused(log(TORN, 5, TORN_ROUND), 7, 7)
+    also("7 before 25: other bits set in the word, a log that ends inside a round. Before 10, before a wrong claim.")
+    judge_refused(put(A_LOG, {7: own_view(5, 1)}), 7, 7)
+    judge_refused(put(A_LOG, {7: own_view(0, 0) | 1 << 27}), 7, 7)
+    judge_refused(put(A_LOG, {7: own_view(5, 0)})[:-1], 7, 7)
+    judge_refused(put(A_LOG, {7: own_view(5, 0), 12: 0x1F, 13: 0}), 7, 7)
+    also("25: no such word; another kind, whatever its own number; a bit of the view, also where it is full; a spare bit.")
+    judge_refused(SHEET, 25, 7)
+    judge_refused(SIXTEEN, 25, 19)
+    for number in (0, 4, 5, 9, 11, 15):
+        judge_refused(put(A_LOG, {7: kind(OWN_1, number)}), 25, 7)
+        judge_refused(put(A_LOG, {7: kind(own_view(5, 0), number)}), 25, 7)
+    for bits in (1, 0xF, 0x10, 0x8000, 0xFFFF, 1 << 21, 1 << 22, 1 << 27):
+        judge_refused(put(A_LOG, {7: OWN_1 | bits}), 25, 7)
+    also("25: the word left out, so that a read stands in its place.")
+    judge_refused(SHEET + GOOD_ROUND, 25, 7)
+    also("25 at the word, where the log ends inside a round too.")
+    judge_refused(put(A_LOG, {7: OWN_1 | 1})[:-1], 25, 7)
+    judge_refused(put(A_LOG, {7: kind(OWN_1, 5)})[:12], 25, 7)
+
+
+def logs_refused_by_their_end():
+    note("25: a log that ends after each word of round 1 and of round 2, at its word count. Whole rounds are accepted.")
+    for count in range(8, 23):
+        if (count - 8) % 7:
+            judge_refused(A_LOG[:count], 25, count)
+        else:
+            judged(A_LOG[:count])
+    judge_refused(A_LOG + [bus(0xF)], 25, 23)
+    also("With fading, with head bit 5: a round has 11 words.")
+    fading, torn = log(FADING, 1, GOOD_ROUND), log(TORN, 1, TORN_ROUND)
+    judge_refused(fading[:-1], 25, 17)
+    judge_refused(fading + [0], 25, 19)
+    judge_refused(torn[:-1], 25, 18)
+    judge_refused(torn[:15], 25, 15)
+    judge_refused(torn + [0], 25, 20)
+    also("25 before 10 and before a wrong claim, in a round that is whole and in the one that is not.")
+    judge_refused(put(A_LOG, {12: 0x1F})[:-1], 25, 21)
+    judge_refused(put(A_LOG, {19: 0x1F})[:-1], 25, 21)
+    judge_refused(put(A_LOG, {13: 0})[:-1], 25, 21)
+
+
+def logs_refused_by_a_controller_word():
+    note("10: a controller word with bit 4, 5, 16 or 31, in round 1 and in round 2; index 0.")
+    for bit in (4, 5, 16, 31):
+        judge_refused(put(A_LOG, {12: 0xF | 1 << bit}), 10, 0)
+        judge_refused(put(A_LOG, {19: 1 << bit}), 10, 0)
+    judge_refused(log(SIXTEEN, 1, logged([0xFFFF] * 16, 0xFFFF, 0xFFFF, 0x10000)), 10, 0)
+    judge_refused(log(TWO, 1, logged([3] * 2, 3, 3, 4)), 10, 0)
+    judge_refused(put(log(FADING, 1, GOOD_ROUND), {15: 0x1F}), 10, 0)
+    judge_refused(put(log(TORN, 1, TORN_ROUND), {16: 0x1F}), 10, 0)
+    also("10 before a wrong claim, in an earlier round and in a later one.")
+    judge_refused(put(A_LOG, {13: 0, 19: 0x1F}), 10, 0)
+    judge_refused(put(A_LOG, {12: 0x1F, 20: 0}), 10, 0)
+    also("A wrong claim in round 3 and a controller word in round 7.")
+    judge_refused(put(log(SHEET, 1, *[GOOD_ROUND] * 7), {27: 0, 54: 0x1F}), 10, 0)
+
+
+def logs_with_marks():
+    note("Send marks are not read: on one module, on all, with u = 0 and u = 1, counts and fading. What is wrong or refused stays so.")
+    for words, rounds in ((SHEET, [GOOD_ROUND, CHARGE, LEAVES]), (FADING, [CHARGE, LEAVES]), (TORN, [TORN_ROUND])):
+        for marks in ([1], [1, 2, 3, 4]):
+            data = log(with_marks(words, marks), 1, *rounds)
+            judged(data)
+            judged(data[:-1] + [0], len(rounds))
+            judge_refused(data[:-1], 25, len(data) - 1)
+    judged(log(MARKED, 3, logged([0xD, 0xF, 0xD, 0xF], 0xF, 0xF)))
+    judged(log(MARKED, 1, logged([0xD, 0xF, 0xD, 0xF], 0xF, 0xF)), 1)
+
+
+# ---- several backplanes, one instrument (document 02, E14) ----
+
+# A link of four backplanes by the sheet, 108 bytes; the views and the list have 16.
+LINK = State(SHEET, 1)
+# Backplane 2 is struck off: its penalty is over P = 1, and the view 1011.
+LINK_OF_THREE = LINK.but(view=0xD, penalty={2: 2})
+SOME_VIEWS = [0xF, 0x7, 0x1, 0x5]
+
+
+def listed(link, handed, cards):
+    """An accepted list: the usable cards of each backplane in turn."""
+    print(f"list {text(link)} {text(handed)} {4 * link.n} = 0 0 {text(cards)}")
+
+
+def list_refused(data, handed, out, number, index):
+    print(f"list {text(data)} {text(handed)} {out} = {number} {index} -")
+
+
+def lists_of_usable_cards():
+    note("Lists: with all backplanes in the link's view each word is the view that was handed in, each backplane's own; no card; 16 cards of each.")
+    listed(LINK, SOME_VIEWS, SOME_VIEWS)
+    listed(LINK, [1, 2, 4, 8], [1, 2, 4, 8])
+    listed(LINK, [0] * 4, [0] * 4)
+    listed(LINK, [0xFFFF] * 4, [0xFFFF] * 4)
+    also("Backplane 2 is struck off: its word is 0, whatever its view; the others stay in their places, with the bits of backplane 2 too.")
+    listed(LINK_OF_THREE, SOME_VIEWS, [0xF, 0, 0x1, 0x5])
+    listed(LINK_OF_THREE, [0, 0xFFFF, 0, 2], [0, 0, 0, 2])
+    listed(LINK_OF_THREE, [2, 2, 2, 2], [2, 0, 2, 2])
+    also("Each backplane alone struck off, and each alone present.")
+    for b in range(4):
+        gone = LINK.but(view=0xF & ~(1 << b), penalty={b + 1: 2})
+        listed(gone, [0x11, 0x12, 0x14, 0x18], [0 if at == b else word for at, word in enumerate((0x11, 0x12, 0x14, 0x18))])
+        alone = LINK.but(view=1 << b, penalty={j: 2 for j in range(1, 5) if j != b + 1})
+        listed(alone, [0x11, 0x12, 0x14, 0x18], [word if at == b else 0 for at, word in enumerate((0x11, 0x12, 0x14, 0x18))])
+    also("All are struck off, the link's own backplane too.")
+    listed(LINK.but(view=0, penalty={j: 2 for j in range(1, 5)}), SOME_VIEWS, [0] * 4)
+    also("The link's own number decides nothing, and its own backplane is listed like the others.")
+    for own in (2, 3, 4):
+        listed(State(SHEET, own).but(view=0xD, penalty={2: 2}), SOME_VIEWS, [0xF, 0, 0x1, 0x5])
+    also("Rows, syndromes, return counts and a penalty within P decide nothing.")
+    listed(LINK.but(row={1: 0, 2: None}, latest=0, before=2, penalty={3: 1}), SOME_VIEWS, SOME_VIEWS)
+    listed(State(RETURN_THREE, 1).but(view=0xD, penalty={2: 2}, returns={2: 2}), SOME_VIEWS, [0xF, 0, 0x1, 0x5])
+    also("2 and 16 backplanes; of 16 the first, the ninth and the last are struck off.")
+    listed(State(TWO, 2), [0xFFFF, 3], [0xFFFF, 3])
+    listed(State(TWO, 1).but(view=1, penalty={2: 2}), [0xFFFF, 3], [0xFFFF, 0])
+    listed(State(TWO, 1).but(view=2, penalty={1: 2}), [0xFFFF, 3], [0, 3])
+    many = [0xFFFF - at for at in range(16)]
+    listed(State(SIXTEEN, 16), many, many)
+    listed(State(SIXTEEN, 1).but(view=0x7EFE, penalty={1: 2, 9: 2, 16: 2}), many, [0 if at in (0, 8, 15) else word for at, word in enumerate(many)])
+    also("Bits that a backplane of fewer cards does not have are listed as they came, up to bit 15.")
+    listed(LINK, [0x8000, 0x4000, 0x8001, 0xFFFF], [0x8000, 0x4000, 0x8001, 0xFFFF])
+    also("Send marks in the link's image are not looked at.")
+    listed(State(ALL_MARKED, 1).but(view=0xD, penalty={2: 2}), SOME_VIEWS, [0xF, 0, 0x1, 0x5])
+
+
+def lists_of_other_forms():
+    note("A link that fades: its view stands three words later.")
+    listed(State(FADING, 1), SOME_VIEWS, SOME_VIEWS)
+    listed(State(FADING, 1).but(view=0xD, score={2: 2.0}), SOME_VIEWS, [0xF, 0, 0x1, 0x5])
+    also("A change waits, by which P would be raised: the link's view is what it is.")
+    raised = setup_words(4, p=5)
+    listed(LINK_OF_THREE.but(pending=(1, raised)), SOME_VIEWS, [0xF, 0, 0x1, 0x5])
+    listed(LINK_OF_THREE.but(pending=(1000, raised)), SOME_VIEWS, [0xF, 0, 0x1, 0x5])
+    also("Head bit 5: the local view decides. Backplane 2 is out of it and in the adopted view; then the other way round; then the link is out.")
+    listed(State(TORN, 1).but(view=0xD, penalty={2: 2}), SOME_VIEWS, [0xF, 0, 0x1, 0x5])
+    listed(State(TORN, 1).but(adopted=0xD), SOME_VIEWS, SOME_VIEWS)
+    listed(State(TORN, 1).but(earlier=0), SOME_VIEWS, SOME_VIEWS)
+    listed(State(TORN, 1).but(view=0x7, penalty={4: 2}, adopted=0xD, out=1), SOME_VIEWS, [0xF, 0x7, 0x1, 0])
+    listed(State(TORN_FADING, 1).but(view=0xD, score={2: 2.0}), SOME_VIEWS, [0xF, 0, 0x1, 0x5])
+    also("The same with a change that waits.")
+    listed(State(TORN, 1).but(view=0xD, penalty={2: 2}, pending=(3, setup_words(4, p=5, partitionable=1))), SOME_VIEWS, [0xF, 0, 0x1, 0x5])
+
+
+def lists_refused_by_the_image():
+    note("1 to 8 of the link's image, before 9 for three views and for a list of 12 bytes, and before 26 for a bit at 16.")
+    few = [0x10000, 15, 15]
+    fresh = LINK.words()
+    for handed, out in ((SOME_VIEWS, 16), (few, 16), (few, 12), ([0x10000, 15, 15, 15], 16)):
+        list_refused(b"", handed, out, 1, 0)
+        list_refused(raw(fresh)[:-1], handed, out, 1, 0)
+        list_refused(put(fresh, {0: head(1)}), handed, out, 2, 0)
+        list_refused(put(fresh, {0: head(17)}), handed, out, 2, 0)
+        list_refused(fresh[:-1], handed, out, 3, 0)
+        list_refused(fresh + [0], handed, out, 3, 0)
+        list_refused(put(fresh, {1: limit_p(0)}), handed, out, 4, 1)
+        list_refused(put(fresh, {2: limit_r(8000001)}), handed, out, 4, 2)
+        list_refused(put(fresh, {5: module(3, 5, 1)}), handed, out, 5, 5)
+        list_refused(put(fresh, {7: own_view(0, 0xF)}), handed, out, 7, 7)
+        list_refused(put(fresh, {7: own_view(5, 0xF)}), handed, out, 7, 7)
+        list_refused(put(fresh, {7: own_view(1, 0x1F)}), handed, out, 8, 7)
+        # A view that clashes with the penalties is at the penalty; rounds left without new words are 3.
+        list_refused(put(fresh, {7: own_view(1, 0xD)}), handed, out, 8, 15)
+        list_refused(put(fresh, {26: 1}), handed, out, 3, 0)
+        list_refused(put(State(FADING, 1).words(), {2: 1 << 31}), handed, out, 22, 2)
+        list_refused(with_double(State(FADING, 1).words(), 4, 0.0), handed, out, 22, 4)
+    also("8: a fading link's score at the limit though the backplane is in the view; head bit 5, another local view at the end.")
+    list_refused(State(FADING, 1).but(score={2: 2.0}), SOME_VIEWS, 16, 8, 19)
+    torn = State(TORN, 1).words()
+    list_refused(put(torn, {31: 0xD}), SOME_VIEWS, 16, 8, 31)
+    also("A setup and a log are no image.")
+    list_refused(SHEET, SOME_VIEWS, 16, 3, 0)
+    list_refused(A_LOG, SOME_VIEWS, 16, 3, 0)
+
+
+def lists_refused_by_a_length():
+    note("9: views of 0, 4, 12, 15, 17, 20 and 32 bytes for four backplanes, and a list of these lengths; both. 16 are accepted above.")
+    for count in (0, 4, 12, 15, 17, 20, 32):
+        handed = raw(SOME_VIEWS * 2)[:count]
+        list_refused(LINK, handed, 16, 9, 0)
+        list_refused(LINK, SOME_VIEWS, count, 9, 0)
+        list_refused(LINK, handed, count, 9, 0)
+    also("The length of another N, and that of the image.")
+    list_refused(State(TWO, 1), SOME_VIEWS, 16, 9, 0)
+    list_refused(State(SIXTEEN, 1), SOME_VIEWS, 16, 9, 0)
+    list_refused(LINK, SOME_VIEWS, 108, 9, 0)
+    also("9 before 26, and for a backplane that is struck off too.")
+    list_refused(LINK, [0x10000, 15, 15], 16, 9, 0)
+    list_refused(LINK, [0x10000, 15, 15, 15], 12, 9, 0)
+    list_refused(LINK, [15, 15, 15, 15, 0x10000], 16, 9, 0)
+    list_refused(LINK_OF_THREE, [15, 15, 15], 12, 9, 0)
+
+
+def lists_refused_by_a_view():
+    note("26: bit 16 and bit 31 in each view, at its place; bit 15 is accepted.")
+    for at in range(4):
+        list_refused(LINK, put(SOME_VIEWS, {at: 0x10000}), 16, 26, at)
+        list_refused(LINK, put(SOME_VIEWS, {at: 1 << 31 | 0xF}), 16, 26, at)
+        listed(LINK, put(SOME_VIEWS, {at: 0x8000}), put(SOME_VIEWS, {at: 0x8000}))
+    also("Every bit from 16 on, in the second view; a view word, which has a kind; all ones.")
+    for bit in range(16, 32):
+        list_refused(LINK, put(SOME_VIEWS, {1: 7 | 1 << bit}), 16, 26, 1)
+    list_refused(LINK, put(SOME_VIEWS, {1: view_word(0xF)}), 16, 26, 1)
+    list_refused(LINK, put(SOME_VIEWS, {1: 0xFFFFFFFF}), 16, 26, 1)
+    also("The first of two and of four.")
+    list_refused(LINK, [15, 0x20000, 15, 0x10000], 16, 26, 1)
+    list_refused(LINK, [0x10000] * 4, 16, 26, 0)
+    also("Of a backplane that is struck off too; with others before it.")
+    list_refused(LINK_OF_THREE, put(SOME_VIEWS, {1: 0x10000}), 16, 26, 1)
+    list_refused(LINK.but(view=0, penalty={j: 2 for j in range(1, 5)}), put(SOME_VIEWS, {3: 0x10000}), 16, 26, 3)
+    also("2 and 16 backplanes, the last view.")
+    list_refused(State(TWO, 1), [3, 0x10003], 8, 26, 1)
+    list_refused(State(SIXTEEN, 1), [0xFFFF] * 15 + [0x1FFFF], 64, 26, 15)
+    also("A link that fades, one with head bit 5, one with a change that waits.")
+    list_refused(State(FADING, 1), put(SOME_VIEWS, {2: 0x10000}), 16, 26, 2)
+    list_refused(State(TORN, 1), put(SOME_VIEWS, {2: 0x10000}), 16, 26, 2)
+    list_refused(LINK.but(pending=(1, setup_words(4, p=5))), put(SOME_VIEWS, {2: 0x10000}), 16, 26, 2)
+
+
+print("# Calls and their answers after document 01 and E1, E4, E5, E6, E9, E10, E11, E12, E13 and E14 of document 02, in the format of e14-calls.txt;")
+print("# a cause that is refused is written cause CTLBIT WORD N = refused NUMBER at INDEX, the word that a state hands out")
+print("# outgoing STATE = NUMBER INDEX WORD, and the view word that it hands out outgoingview STATE = NUMBER INDEX WORD.")
 print("# A number before a colon or a comma at the start of a comment is the answer's number.")
 print("# Vectors in the comments are as printed: module 1 stands leftmost.")
 setups_accepted()
@@ -2447,7 +3001,7 @@ setups_with_wrong_head()
 setups_of_wrong_length()
 setups_with_wrong_limits()
 setups_with_wrong_modules()
-setups_with_wrong_marks()
+setups_with_marks()
 states_accepted()
 states_with_wrong_setup()
 states_with_wrong_own_number()
@@ -2524,3 +3078,17 @@ partitionable_steps_with_u_1()
 partitionable_steps_of_other_n()
 partitionable_changes()
 partitionable_pages()
+marks_in_every_call()
+logs_accepted()
+logs_with_wrong_claims()
+logs_with_head_bit_5()
+logs_refused_by_the_setup()
+logs_refused_by_the_own_word()
+logs_refused_by_their_end()
+logs_refused_by_a_controller_word()
+logs_with_marks()
+lists_of_usable_cards()
+lists_of_other_forms()
+lists_refused_by_the_image()
+lists_refused_by_a_length()
+lists_refused_by_a_view()

@@ -17,7 +17,7 @@ import subprocess
 import sys
 
 from setup_words import (ABOVE_1, ABOVE_MOST, BELOW_1, BELOW_MOST, INFINITE, LEAST, MINUS_INFINITE, MOST, NO_NUMBERS, bus, head, limit_p, limit_r,
-                         module, setup_words, view_word)
+                         module, setup_words, view_word, without_marks)
 
 # ---- words ----
 
@@ -73,7 +73,7 @@ def raw(words):
 
 
 def late(n, **fields):
-    """u = 1 without marks: all l are 0, each read holds the words of the round before."""
+    """u = 1: all l are 0, each read holds the words of the round before."""
     return setup_words(n, l=[0] * n, **fields)
 
 
@@ -92,6 +92,7 @@ CASES = []
 
 
 def case(name, data, wanted, limit, why):
+    """wanted: the output, or another script that is to print the same."""
     if not isinstance(data, bytes):
         data = raw(data)
     CASES.append((name, data, wanted, limit, why))
@@ -116,6 +117,12 @@ def by_hand(name, words, rounds, why):
 def played(name, words, why, limit=None):
     """limit: `in` or `out` for each round."""
     case("ok-" + name, words, None, limit, why)
+
+
+def alike(name, words, why):
+    """Played with its send marks; without them the player must print the same."""
+    n = words[0] & 31
+    case("ok-" + name, words, raw(without_marks(words, 3, n)), None, why)
 
 
 # ---- numbers 1 and 16 ----
@@ -212,9 +219,9 @@ def modules():
         refused("criticality-%d" % crit, put(sheet, {6: module(4, 4, crit)}), 5, 6,
                 "criticality is 1 to 100,000")
     refused("three", put(sheet, {4: 0, 5: 0, 6: 0}), 5, 4, "three wrong module words: the first")
-    refused("before-6", put(sheet, {3: module(1, 0, 1, 1), 6: module(4, 5)}), 5, 6,
-            "5 before 6: a mark on 1 stands at the earlier word, but l of 4 is wrong")
-    refused("and-6-in-one-word", put(sheet, {4: module(2, 5, 1, 1)}), 5, 4, "l = 5 with a mark")
+    refused("with-a-mark-before", put(sheet, {3: module(1, 0, 1, 1), 6: module(4, 5)}), 5, 6,
+            "a send mark on 1 is not looked at; l of 4 is wrong")
+    refused("with-a-mark", put(sheet, {4: module(2, 5, 1, 1)}), 5, 4, "l = 5 with a send mark")
     refused("before-12", put(sheet, {6: module(4, 5), 7: play(1)}), 5, 6, "no cast too")
     for crit in (1, 100000):
         played("criticality-%d" % crit, put(sheet, {6: module(4, 4, crit)}), "criticality at its end",
@@ -224,24 +231,25 @@ def modules():
 
 
 def marks():
+    """The send mark is not looked at, and 6 is no longer given (document 02, E12)."""
     sheet = SHEET + TAIL
     for l in (0, 1, 4):
-        refused("module-1-l-%d" % l, put(sheet, {3: module(1, l, 1, 1)}), 6, 3, "module 1 never has the mark")
+        by_hand("mark-1-l-%d" % l, put(sheet, {3: module(1, l, 1, 1)}), [GOOD], "a mark on module 1, which 6 refused")
     for j in (2, 3, 4):
         at = j + 2
-        refused("module-%d-l-own" % j, put(sheet, {at: module(j, j, 1, 1)}), 6, at,
-                "a mark with l = own number")
+        by_hand("mark-%d-l-own" % j, put(sheet, {at: module(j, j, 1, 1)}), [GOOD],
+                "a mark with l = own number, which 6 refused")
         played("mark-%d-l-below" % j, put(sheet, {at: module(j, j - 1, 1, 1)}),
                "a mark with l one below the own number", limit="in")
         played("mark-%d-l-0" % j, put(sheet, {at: module(j, 0, 1, 1)}), "a mark with l = 0", limit="in")
-    refused("module-2-l-n", put(sheet, {4: module(2, 4, 1, 1)}), 6, 4, "a mark with l = N")
-    refused("module-16-l-16", put(SIXTEEN + TAIL, {18: module(16, 16, 1, 1)}), 6, 18, "a mark with l = 16")
+    by_hand("mark-2-l-n", put(sheet, {4: module(2, 4, 1, 1)}), [GOOD], "a mark with l = N")
+    by_hand("mark-16-l-16", put(SIXTEEN + TAIL, {18: module(16, 16, 1, 1)}), ["1" * 16 + " " + "1" * 16 + " in"], "a mark with l = 16")
     played("mark-16-l-15", put(SIXTEEN + TAIL, {18: module(16, 15, 1, 1)}), "a mark with l = 15", limit="in")
-    refused("all", setup_words(4, marks=[1, 2, 3, 4]) + TAIL, 6, 3, "four marks with l = 4: the first")
-    refused("second", setup_words(4, l=[0, 1, 3, 4], marks=[2, 3, 4]) + TAIL, 6, 5,
-            "2 may have the mark, 3 and 4 not")
-    refused("before-12", put(sheet, {4: module(2, 2, 1, 1), 7: 0}), 6, 4, "no cast too")
-    refused("before-14", setup_words(4, marks=[4]), 6, 6, "no cast, no play")
+    by_hand("marks-all", setup_words(4, marks=[1, 2, 3, 4]) + TAIL, [GOOD], "four marks with l = 4")
+    by_hand("marks-l-own", setup_words(4, l=[0, 1, 3, 4], marks=[2, 3, 4]) + TAIL, [GOOD],
+            "marks with l below the own number on 2, at it on 3 and 4")
+    refused("mark-and-no-cast", put(sheet, {4: module(2, 2, 1, 1), 7: 0}), 12, 7, "a mark, and no cast")
+    refused("mark-and-no-play", setup_words(4, marks=[4]), 14, 7, "a mark; no cast, no play")
 
 
 # ---- numbers 12 to 15 ----
@@ -544,7 +552,7 @@ def late_runs():
     judged = [GOOD] * 3 + ["1011 1111 in", GOOD]
     by_hand("u1-marks", MARKED + [cast(), loss(2, ALL), play(5)], judged,
             "u = 1: round 1 is judged in round 4")
-    by_hand("u1-no-marks", late(4) + [cast(), loss(2, ALL), play(5)], judged, "all l = 0, no marks")
+    by_hand("u1-no-marks", late(4) + [cast(), loss(2, ALL), play(5)], judged, "all l = 0, no send marks")
     by_hand("u1-one-early", setup_words(4, l=[4, 4, 4, 3]) + [cast(), loss(2, ALL), play(5)], judged,
             "one l of four below N")
     by_hand("u1-second-charge", late(4) + [cast(), loss(2, ALL), play(1), loss(2, ALL), play(5)],
@@ -710,7 +718,7 @@ def marked_runs():
                [loss(3, full(5))]) + [play(6)], "each read place decides which round is read")
         played("marks-%s-lies" % name, setup + [cast(2, 5)] + by_round([lie(2, of(1)), bus(lacks(5, 3))],
                [lie(5, full(5)), bus(0)], [loss(2, of(4)), lie(5, of(3, 4)), bus(lacks(5, 1))]) + [play(6)],
-               "lies by modules with and without the mark")
+               "lies by modules with and without the send mark")
 
 
 def leaving_runs():
@@ -794,7 +802,7 @@ def returning_runs():
             [GOOD] * 3 + ["1011 1111 in", "1011 1011 in", "1111 1011 in", GOOD, GOOD],
             "u = 1: judged in 4 and 5, out in 5; rounds 3 and 4, good, are judged in 6 and 7, back in 7")
     by_hand("return-u1-marks", setup_words(4, q=1, l=[0, 0, 1, 2], marks=[2, 3, 4]) + [cast()] + lost_by(4, 2, 1, 1) + [play(5)],
-            [GOOD] * 3 + ["1011 1111 in", "1011 1011 in", GOOD, GOOD], "with marks, Q = 1: back in 6")
+            [GOOD] * 3 + ["1011 1111 in", "1011 1011 in", GOOD, GOOD], "with send marks, Q = 1: back in 6")
     everybody = [loss(j, ALL) for j in (1, 2, 3, 4)]
     by_hand("return-all", four(2) + by_round(everybody, everybody) + [play(5)],
             [GOOD, "0000 1111 in", "0000 0000 in", "1111 0000 in", GOOD, GOOD, GOOD],
@@ -851,7 +859,7 @@ def fading_lengths():
     refused("fading-lie", fading + [cast(), lie(2, 1), bus(15), play(1)], 13, 11, "nobody is in the cast")
     refused("fading-rounds", fading + [cast()] + [play(1000)] * 100 + [play(1)], 15, 111, "100,001 rounds")
     refused("fading-module", put(fading, {9: module(4, 5)}) + TAIL, 5, 9, "l of 4 is wrong; its word is at 9")
-    refused("fading-mark", put(fading, {7: module(2, 2, 1, 1)}) + TAIL, 6, 7, "a mark with l = own number")
+    by_hand("fading-mark", put(fading, {7: module(2, 2, 1, 1)}) + TAIL, [GOOD], "a send mark with l = own number, which 6 refused")
 
 
 def fading_runs():
@@ -893,7 +901,7 @@ def fading_runs():
     by_hand("fading-u1", late(4, q=2, fading=(0.5, 2.0)) + [cast()] + lost_by(4, 2, 1, 1) + [play(6)],
             [GOOD] * 3 + [bad, out_bad, out_good, GOOD, GOOD], "u = 1: judged in 4 and 5, out in 5, back in 7")
     by_hand("fading-marks", setup_words(4, l=[0, 0, 1, 2], marks=[2, 3, 4], fading=(0.5, 2.0)) + [cast()] + lost_by(4, 2, 1, 0, 1) + [play(4)],
-            [GOOD] * 3 + [bad, GOOD, bad, GOOD], "with marks: 1.0, 0.5, 1.5")
+            [GOOD] * 3 + [bad, GOOD, bad, GOOD], "with send marks: 1.0, 0.5, 1.5")
     everybody = [loss(j, ALL) for j in (1, 2, 3, 4)]
     by_hand("fading-all", four(0.5, 2.0, q=2) + by_round(everybody, everybody) + [play(5)],
             [GOOD, "0000 1111 in", "0000 0000 in", "1111 0000 in", GOOD, GOOD, GOOD],
@@ -966,7 +974,7 @@ def partitionable_runs():
     marked = [GOOD] * 3 + ["1011 1111 in", "1011 1111 in", GOOD, "1111 1011 in", "1111 1011 in"]
     by_hand("adopted-u1-marks", setup_words(4, l=[0, 0, 1, 2], marks=[2, 3, 4], partitionable=1) + [cast()] + lost_by(4, 2, 1, 1) + [play(6)],
             marked, "u = 1: out of all local views in 5, on the bus in 6, adopted in 7")
-    by_hand("adopted-u1-no-marks", late(4, partitionable=1) + [cast()] + lost_by(4, 2, 1, 1) + [play(6)], marked, "all l = 0, no marks")
+    by_hand("adopted-u1-no-marks", late(4, partitionable=1) + [cast()] + lost_by(4, 2, 1, 1) + [play(6)], marked, "all l = 0, no send marks")
     by_hand("adopted-u1-one-early", setup_words(4, l=[4, 4, 4, 3], partitionable=1) + [cast()] + lost_by(4, 2, 1, 1) + [play(6)], marked,
             "one l of four below N")
 
@@ -1052,13 +1060,55 @@ def torn_runs_of_every_n():
                        "%d of %d on one side, Q = 2" % (size, n), limit=" ".join(["in"] * 2 + ["out"] * 12))
 
 
+def retired_marks():
+    """Send marks where 6 refused them, and elsewhere: the lines are those of the same script without them."""
+    lost = [cast(), loss(2, ALL), play(3)]
+    sheet = [GOOD, "1011 1111 in", GOOD]
+    for number in range(1, 16):
+        marks = [j for j in (1, 2, 3, 4) if number >> (j - 1) & 1]
+        by_hand("retired-u0-%s" % "-".join(map(str, marks)), setup_words(4, marks=marks) + lost, sheet, "every l is N; round 1 is judged in 2")
+    lost = [cast(), loss(2, ALL), play(5)]
+    judged = [GOOD] * 3 + ["1011 1111 in", GOOD]
+    for name, l in (("early", [0, 0, 1, 2]), ("own", [1, 2, 3, 3]), ("above", [2, 3, 4, 0]), ("first", [0, 4, 4, 4]), ("last", [4, 4, 4, 0])):
+        for marks in ((1,), (2, 3, 4), (1, 2, 3, 4)):
+            by_hand("retired-u1-%s-%s" % (name, "-".join(map(str, marks))), setup_words(4, l=l, marks=marks) + lost, judged,
+                    "l = %s, u = 1; round 1 is judged in 4" % ", ".join(map(str, l)))
+    every = [1, 2, 3, 4]
+    by_hand("retired-return", setup_words(4, q=2, marks=every) + [cast()] + lost_by(4, 2, 1, 1) + [play(4)],
+            [GOOD, "1011 1111 in", "1011 1011 in", "1111 1011 in", GOOD, GOOD], "Q = 2: out in 3, good in 4 and 5, back in 5")
+    by_hand("retired-fading", setup_words(4, fading=(0.5, 2.0), marks=every) + [cast()] + lost_by(4, 2, 1, 1) + [play(3)],
+            [GOOD, "1011 1111 in", "1011 1011 in", "1111 1011 in", "1111 1011 in"], "1.0, then 2.0: out in 3")
+    by_hand("retired-adopted", setup_words(4, partitionable=1, marks=every) + [cast()] + lost_by(4, 2, 1, 1) + [play(3)],
+            [GOOD, "1011 1111 in", "1011 1111 in", "1111 1011 in", "1111 1011 in"], "head bit 5: out of all local views in 3, adopted in 4")
+    by_hand("retired-adopted-u1", setup_words(4, l=[2, 3, 4, 0], partitionable=1, marks=every) + [cast()] + lost_by(4, 2, 1, 1) + [play(6)],
+            [GOOD] * 3 + ["1011 1111 in", "1011 1111 in", GOOD, "1111 1011 in", "1111 1011 in"],
+            "head bit 5, u = 1: out of all local views in 5, adopted in 7")
+    sheet, fading = setup_words(4, marks=every), setup_words(4, fading=(0.5, 2.0), marks=every)
+    for name, data, number, index in (("one-byte-short", raw(sheet + TAIL)[:-1], 1, 0), ("n17", put(sheet, {0: head(17)}) + TAIL, 2, 0),
+                                      ("one-short", sheet[:6], 3, 0), ("p0", put(sheet, {1: limit_p(0)}) + TAIL, 4, 1),
+                                      ("factor", put(fading, {2: 0x40000000}) + TAIL, 22, 2), ("l-5", put(sheet, {5: module(3, 5, 1, 1)}) + TAIL, 5, 5),
+                                      ("criticality-0", put(sheet, {3: module(1, 4, 0, 1)}) + TAIL, 5, 3), ("kind", put(sheet, {6: 0x52480001}) + TAIL, 5, 6),
+                                      ("play-0", sheet + [cast(), play(0)], 12, 8), ("lie", sheet + [cast(), lie(2, 15), bus(15), play(1)], 13, 8),
+                                      ("no-play", sheet + [cast()], 14, 8), ("no-cast", sheet, 14, 7),
+                                      ("rounds", sheet + [cast()] + [play(1000)] * 101, 15, 108),
+                                      ("too-long", raw(sheet + [cast()] + [loss(1, 1)] * 16384), 16, 0)):
+        refused("retired-" + name, data, number, index, "four send marks; refused as without them")
+    for n in range(2, 17):
+        for u, l in (("u0", [n] * n), ("u1", [(j * 5 + n) % (n + 1) for j in range(n)])):
+            events = [[loss(1, full(n))], [lie(n, of(1)), bus(lacks(n, 1)), loss(n, of(2))], [], [lie(n, full(n)), bus(0)]]
+            setup = setup_words(n, p=3, l=l, marks=range(1, n + 1))
+            alike("retired-n%d-%s" % (n, u), setup + [cast(n)] + by_round(*events) + [play(2)], "marks on all; the lines are those without them")
+
+
 def write(player):
     folder = os.path.join(os.path.dirname(os.path.abspath(__file__)), "own-scripts")
     names = ["%03d-%s" % (at + 1, each[0]) for at, each in enumerate(CASES)]
     assert len(set(each[0] for each in CASES)) == len(CASES), "two cases of one name"
     outputs, index, wrong = [], [], 0
     for name, (_, data, wanted, limit, why) in zip(names, CASES):
-        found = subprocess.run([player], input=data, stdout=subprocess.PIPE, check=True).stdout.decode()
+        found = printed(player, data)
+        if isinstance(wanted, bytes):
+            wanted = printed(player, wanted)
         if wanted is not None and found != wanted:
             print("%s: written here\n%sthe player prints\n%s" % (name, wanted, found))
             wrong += 1
@@ -1086,6 +1136,10 @@ def write(player):
           hand, len(CASES) - no - hand))
 
 
+def printed(player, script):
+    return subprocess.run([player], input=script, stdout=subprocess.PIPE, check=True).stdout.decode()
+
+
 def limit_of(output):
     """The last field of module 1's line of each round."""
     lines = [line.split() for line in output.splitlines()]
@@ -1099,7 +1153,7 @@ def main():
                  many_rounds, two_numbers, quiet_runs, event_runs, told_runs, counter_runs, differing_runs, late_runs, limit_edges,
                  limit_over_two_rounds, limit_of_unheard_breakers, limit_by_receivers, limit_of_told_words, replaced_runs, every_n,
                  marked_runs, leaving_runs, back_in, return_limits, returning_runs, fading_limits, fading_lengths, fading_runs,
-                 partitionable_words, partitionable_runs, told_view_runs, torn_runs, torn_runs_of_every_n):
+                 partitionable_words, partitionable_runs, told_view_runs, torn_runs, torn_runs_of_every_n, retired_marks):
         part()
     write(sys.argv[1])
 

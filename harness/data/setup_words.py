@@ -30,7 +30,13 @@ def limits(p=1, r=3, fading=None):
 
 
 def module(number, l, crit=1, mark=0):
+    """mark: bit 22, the send mark, which is not looked at and never written since E12."""
     return 4 << 28 | number << 23 | mark << 22 | l << 17 | crit
+
+
+def without_marks(words, first, n):
+    """The words with bit 22 of the n module words from `first` on clear."""
+    return [word & ~(1 << 22) if first <= at < first + n else word for at, word in enumerate(words)]
 
 
 def bus(syndrome):
@@ -42,8 +48,8 @@ def view_word(view):
 
 
 def setup_words(n, p=1, r=3, q=0, l=None, crit=None, marks=(), fading=None, partitionable=0):
-    """l and crit: one a module; the default is l = N and criticality 1. fading: factor and limit in the place of P and R.
-    partitionable: head bit 5."""
+    """l and crit: one a module; the default is l = N and criticality 1. marks: the modules with the send mark. fading: factor and limit
+    in the place of P and R. partitionable: head bit 5."""
     l = l or [n] * n
     crit = crit or [1] * n
     modules = [module(j, l[j - 1], crit[j - 1], int(j in marks)) for j in range(1, n + 1)]

@@ -281,7 +281,7 @@ static void rounds_make(struct rounds *r, uint32_t n, uint32_t u, int form,
 
 /* The opened image as the rounds begin with it: late, all have a penalty or the
    score 1.0; away, nobody is in the view. */
-static void rounds_begin(const struct rounds *r, uint8_t *image)
+static inline void rounds_begin(const struct rounds *r, uint8_t *image)
 {
     uint32_t n = r->n, j, penalty = r->kind == LATE ? 1u : 2u;
 
@@ -301,7 +301,7 @@ static void rounds_begin(const struct rounds *r, uint8_t *image)
 
 /* With views the module is not out, whatever the step before it said.  Answers
    whether it was out. */
-static int rounds_in_again(const struct rounds *r, uint8_t *image)
+static inline int rounds_in_again(const struct rounds *r, uint8_t *image)
 {
     uint8_t *out = image + presence_image_bytes(image, r->n) - 1;
     int was_out = r->views && *out != 0;
@@ -313,7 +313,7 @@ static int rounds_in_again(const struct rounds *r, uint8_t *image)
 
 /* The image, of counts, with a pending change: in every other round back to the
    limits of the setup.  Views stay at its end. */
-static void rounds_change(const struct rounds *r, uint8_t *image, uint32_t k,
+static inline void rounds_change(const struct rounds *r, uint8_t *image, uint32_t k,
                           uint32_t left)
 {
     uint32_t at = 5 * r->n + 6, p = (uint32_t)r->setup[7], j;

@@ -17,22 +17,22 @@ N = 16
 FULL = (1 << N) - 1
 
 
-def setup(marks):
-    """u = 0, or u = 1 with l = own number - 1 and all marks; P so high that nobody leaves."""
+def setup(early):
+    """u = 0, or u = 1 with l = own number - 1; P so high that nobody leaves."""
     words = [1 << 28 | N, 2 << 28 | 1000000, 3 << 28 | 3]
     for j in range(1, N + 1):
-        words.append(4 << 28 | j << 23 | (marks and j > 1) << 22 | (j - 1 if marks else N) << 17 | 1)
+        words.append(4 << 28 | j << 23 | (j - 1 if early else N) << 17 | 1)
     return words
 
 
-def quiet(marks):
+def quiet(early):
     """100 plays of 1,000, no events."""
-    return setup(marks) + [6 << 28] + [9 << 28 | 1000] * 100
+    return setup(early) + [6 << 28] + [9 << 28 | 1000] * 100
 
 
-def loud(marks):
+def loud(early):
     """5,000 plays of 20: before each a loss at some or at all, and before every other one a lie by 1."""
-    words = setup(marks) + [6 << 28 | 1]
+    words = setup(early) + [6 << 28 | 1]
     for at in range(5000):
         sender, receivers = 2 + at % 15, FULL if at % 3 == 0 else 1 + at * 7919 % FULL
         words.append(7 << 28 | sender << 23 | receivers)
@@ -47,13 +47,13 @@ def as_bytes(words):
 
 
 def stored():
-    """100 plays of 1,000 with u = 1 and marks, before each a loss at all and a lie to some."""
+    """100 plays of 1,000 with u = 1 and send marks, before each a loss at all and a lie to some."""
     with open(os.path.join(os.path.dirname(os.path.abspath(__file__)), "..", "data", "heavy.bin"), "rb") as given:
         return given.read()
 
 
-SCRIPTS = [("quiet, u = 0", as_bytes(quiet(False))), ("quiet, u = 1, marks", as_bytes(quiet(True))),
-           ("events, u = 0", as_bytes(loud(False))), ("events, u = 1, marks", as_bytes(loud(True))),
+SCRIPTS = [("quiet, u = 0", as_bytes(quiet(False))), ("quiet, u = 1", as_bytes(quiet(True))),
+           ("events, u = 0", as_bytes(loud(False))), ("events, u = 1", as_bytes(loud(True))),
            ("data/heavy.bin", stored())]
 
 

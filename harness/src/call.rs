@@ -1,7 +1,7 @@
 //! One call with all its arguments, made on the model or on the library.
 
 use crate::hex::to_hex;
-use crate::model::calls::{Answer, CauseAnswer, Functions, WordAnswer};
+use crate::model::calls::{Answer, CauseAnswer, Functions, JudgeAnswer, WordAnswer};
 
 #[derive(Clone, PartialEq, Eq, Debug)]
 pub enum Call {
@@ -18,14 +18,16 @@ pub enum Call {
     PageWrite { page: Vec<u8>, offset: u32, value: u32 },
     Interrupt { page: Vec<u8> },
     ReadCause { n: u32, controller: u32, word: u32 },
+    Judge { log: Vec<u8> },
+    List { image: Vec<u8>, views: Vec<u8>, out_len: usize },
 }
 
-/// What a call answers: number, index, and health, an outgoing word, a word of the page, the interrupt or a cause.
+/// What a call answers: number, index, and health, an outgoing word, a word of the page, the interrupt, a cause or a round.
 #[derive(Clone, Copy, PartialEq, Eq, Debug)]
 pub struct Reply {
     pub number: u32,
-    pub index: u32,
-    pub value: u32,
+    pub index: u64,
+    pub value: u64,
     /// The row of a word that is heard, where a cause is asked for; else 0.
     pub row: u32,
 }
@@ -105,7 +107,8 @@ impl Call {
             | Call::Save { out_len, .. }
             | Call::Change { out_len, .. }
             | Call::PageOpen { out_len, .. }
-            | Call::PageStep { out_len, .. } => *out_len,
+            | Call::PageStep { out_len, .. }
+            | Call::List { out_len, .. } => *out_len,
             _ => 0,
         }
     }
@@ -129,6 +132,8 @@ impl Call {
             Call::PageWrite { offset, value, .. } => on.page_write(page_lent, *offset, *value).into(),
             Call::Interrupt { page } => on.page_interrupt(page).into(),
             Call::ReadCause { n, controller, word } => on.read_cause(*n, *controller, *word).into(),
+            Call::Judge { log } => on.judge(log).into(),
+            Call::List { image, views, .. } => on.link_list(image, views, out).into(),
         }
     }
 
@@ -159,24 +164,32 @@ impl Call {
             }
             Call::Interrupt { page } => format!("interrupt {}", to_hex(page)),
             Call::ReadCause { n, controller, word } => format!("cause {controller} {word:08X} {n}"),
+            Call::Judge { log } => format!("judge {}", to_hex(log)),
+            Call::List { image, views, out_len } => format!("list {} {} {out_len}", to_hex(image), to_hex(views)),
         }
     }
 }
 
 impl From<Answer> for Reply {
     fn from(answer: Answer) -> Reply {
-        Reply { number: answer.number, index: answer.index, value: answer.health, row: 0 }
+        Reply { number: answer.number, index: answer.index.into(), value: answer.health.into(), row: 0 }
     }
 }
 
 impl From<WordAnswer> for Reply {
     fn from(answer: WordAnswer) -> Reply {
-        Reply { number: answer.number, index: answer.index, value: answer.word, row: 0 }
+        Reply { number: answer.number, index: answer.index.into(), value: answer.word.into(), row: 0 }
     }
 }
 
 impl From<CauseAnswer> for Reply {
     fn from(answer: CauseAnswer) -> Reply {
-        Reply { number: answer.number, index: answer.index, value: answer.cause, row: answer.row }
+        Reply { number: answer.number, index: answer.index.into(), value: answer.cause.into(), row: answer.row }
+    }
+}
+
+impl From<JudgeAnswer> for Reply {
+    fn from(answer: JudgeAnswer) -> Reply {
+        Reply { number: answer.number, index: answer.index, value: answer.round, row: 0 }
     }
 }

@@ -4,8 +4,10 @@
 
 use crate::call::{Buffers, Call, Reply};
 use crate::hex::{from_hex, to_hex};
+use crate::marks::image_without_marks;
 use crate::model::calls::Functions;
 use std::fs;
+use std::str::FromStr;
 
 /// The calls files of a folder, by name.
 pub fn calls_files(folder: &str) -> Vec<String> {
@@ -21,9 +23,9 @@ pub fn calls_files(folder: &str) -> Vec<String> {
 pub struct Case {
     pub call: Call,
     pub number: u32,
-    pub index: u32,
-    /// Health, a word, the interrupt or a cause; `None` if the line does not say it.
-    pub value: Option<u32>,
+    pub index: u64,
+    /// Health, a word, the interrupt, a cause or a round; `None` if the line does not say it.
+    pub value: Option<u64>,
     /// The row of a heard word, where a cause is asked for.
     pub row: u32,
     /// The output after the call; `None` if it stays as given.
@@ -34,7 +36,8 @@ pub struct Case {
 
 /// The cases of a line: none for comments and empty lines, else one, but three for reading a
 /// state. That is asked through saving (with an output of the image's length) and through the two
-/// outgoing words, since all three begin by reading the state.
+/// outgoing words, since all three begin by reading the state. Saving writes the image without its
+/// send marks.
 pub fn parse(text: &str) -> Result<Vec<Case>, String> {
     let text = text.trim();
     if text.is_empty() || text.starts_with('#') {
@@ -63,28 +66,36 @@ fn cases(call: &[&str], answer: &[&str]) -> Result<Vec<Case>, String> {
             Ok(vec![case(call, number, index, Some(word), "-")?])
         }
         (["open", setup, own, out_len], [number, index, health, output]) => {
-            let out_len = decimal(out_len)? as usize;
+            let out_len = decimal(out_len)?;
             let call = Call::Open { setup: bytes(setup)?, own: decimal(own)?, out_len };
             Ok(vec![case(call, number, index, Some(health), output)?])
         }
         (["step", state, read, controller, out_len], [number, index, health, output]) => {
             let controller = hexadecimal(controller)?;
-            let out_len = decimal(out_len)? as usize;
+            let out_len = decimal(out_len)?;
             let call = Call::Step { state: bytes(state)?, read: bytes(read)?, controller, out_len };
             Ok(vec![case(call, number, index, Some(health), output)?])
         }
         (["save", state, out_len], [number, index, health, output]) => {
-            let call = Call::Save { state: bytes(state)?, out_len: decimal(out_len)? as usize };
+            let call = Call::Save { state: bytes(state)?, out_len: decimal(out_len)? };
             Ok(vec![case(call, number, index, Some(health), output)?])
         }
         (["change", state, setup, lead, out_len], [number, index, health, output]) => {
-            let (lead, out_len) = (decimal(lead)?, decimal(out_len)? as usize);
+            let (lead, out_len) = (decimal(lead)?, decimal(out_len)?);
             let call = Call::Change { state: bytes(state)?, setup: bytes(setup)?, lead, out_len };
             Ok(vec![case(call, number, index, Some(health), output)?])
         }
         (["cause", controller, word, n], answer) => {
             let call = Call::ReadCause { n: decimal(n)?, controller: decimal(controller)?, word: hexadecimal(word)? };
             Ok(vec![cause_case(call, answer)?])
+        }
+        (["judge", log], [number, index, round]) => {
+            let case = case(Call::Judge { log: bytes(log)? }, number, index, None, "-")?;
+            Ok(vec![Case { value: Some(decimal(told(round))?), ..case }])
+        }
+        (["list", image, views, out_len], [number, index, list]) => {
+            let call = Call::List { image: bytes(image)?, views: bytes(views)?, out_len: decimal(out_len)? };
+            Ok(vec![case(call, number, index, Some("0"), list)?])
         }
         _ => Ok(vec![page_case(call, answer)?]),
     }
@@ -104,14 +115,14 @@ fn cause_case(call: Call, answer: &[&str]) -> Result<Case, String> {
 fn page_case(call: &[&str], answer: &[&str]) -> Result<Case, String> {
     match (call, answer) {
         (["pageopen", setup, own, out_len, page_len], [number, index, health, output, page]) => {
-            let out_len = decimal(out_len)? as usize;
-            let page_len = decimal(page_len)? as usize;
+            let out_len = decimal(out_len)?;
+            let page_len = decimal(page_len)?;
             let call = Call::PageOpen { setup: bytes(setup)?, own: decimal(own)?, out_len, page_len };
             with_page(case(call, number, index, Some(health), output)?, page_len, page)
         }
         (["pagestep", state, read, controller, out_len, given], [number, index, health, output, page]) => {
             let controller = hexadecimal(controller)?;
-            let out_len = decimal(out_len)? as usize;
+            let out_len = decimal(out_len)?;
             let given = bytes(given)?;
             let page_len = given.len();
             let call = Call::PageStep { state: bytes(state)?, read: bytes(read)?, controller, out_len, page: given };
@@ -140,7 +151,7 @@ fn page_case(call: &[&str], answer: &[&str]) -> Result<Case, String> {
     }
 }
 
-/// A word that a refused call does not tell is answered as 0.
+/// A word or a round that a refused call does not tell is answered as 0.
 fn told(word: &str) -> &str {
     if word == "-" {
         "0"
@@ -162,10 +173,10 @@ fn with_page(mut case: Case, page_len: usize, page: &str) -> Result<Case, String
 fn state_cases(state: &str, number: &str, index: &str) -> Result<Vec<Case>, String> {
     let bytes = bytes(state)?;
     let accepted = number == "0";
-    let output = if accepted { state } else { "-" };
+    let output = if accepted { to_hex(&image_without_marks(&bytes)) } else { "-".to_string() };
     let word = if accepted { None } else { Some("0") };
     let save = Call::Save { state: bytes.clone(), out_len: bytes.len() };
-    let mut cases = vec![case(save, number, index, Some("0"), output)?];
+    let mut cases = vec![case(save, number, index, Some("0"), &output)?];
     for call in [Call::Outgoing { state: bytes.clone() }, Call::OutgoingView { state: bytes }] {
         cases.push(case(call, number, index, word, "-")?);
     }
@@ -173,10 +184,10 @@ fn state_cases(state: &str, number: &str, index: &str) -> Result<Vec<Case>, Stri
 }
 
 fn case(call: Call, number: &str, index: &str, value: Option<&str>, output: &str) -> Result<Case, String> {
-    let value = value.map(hexadecimal).transpose()?;
+    let value = value.map(hexadecimal).transpose()?.map(u64::from);
     let output = if output == "-" { None } else { Some(bytes(output)?) };
     if output.as_ref().is_some_and(|output| output.len() != call.out_len()) {
-        return Err("the image after = is not of the output's length".to_string());
+        return Err("what stands after = is not of the output's length".to_string());
     }
     Ok(Case { call, number: decimal(number)?, index: decimal(index)?, value, row: 0, output, page: None })
 }
@@ -185,7 +196,7 @@ fn bytes(text: &str) -> Result<Vec<u8>, String> {
     from_hex(text).ok_or_else(|| format!("no bytes: {text}"))
 }
 
-fn decimal(text: &str) -> Result<u32, String> {
+fn decimal<T: FromStr>(text: &str) -> Result<T, String> {
     text.parse().map_err(|_| format!("no decimal number: {text}"))
 }
 
@@ -236,6 +247,9 @@ pub fn answered(text: &str, on: &dyn Functions) -> Result<String, String> {
         Call::ReadCause { .. } if !accepted => format!("{text} = refused {number} at {index}"),
         Call::ReadCause { .. } if value == 0 => format!("{text} = {value} {row:04X}"),
         Call::ReadCause { .. } => format!("{text} = {value} -"),
+        Call::Judge { .. } if accepted => format!("{text} = {number} {index} {value}"),
+        Call::Judge { .. } => format!("{text} = {number} {index} -"),
+        Call::List { .. } => format!("{text} = {number} {index} {output}"),
         _ => format!("{text} = {number} {index} {value:04X} {output}"),
     };
     match compare_all(&parse(&line)?, on) {

@@ -1,6 +1,6 @@
 //! The library's functions as C sees them, and safe wrappers on slices.
 
-use crate::model::calls::{Answer, CauseAnswer, Functions, WordAnswer};
+use crate::model::calls::{Answer, CauseAnswer, Functions, JudgeAnswer, WordAnswer};
 
 #[repr(C)]
 #[derive(Clone, Copy)]
@@ -25,6 +25,14 @@ struct PresenceCause {
     index: u32,
     cause: u32,
     row: u32,
+}
+
+#[repr(C)]
+#[derive(Clone, Copy)]
+struct PresenceJudged {
+    number: u32,
+    index: u64,
+    round: u64,
 }
 
 extern "C" {
@@ -81,6 +89,15 @@ extern "C" {
     fn presence_page_write(page: *mut u8, page_len: usize, offset: u32, value: u32) -> PresenceWord;
     fn presence_page_interrupt(page: *const u8, page_len: usize) -> PresenceWord;
     fn presence_read_cause(n: u32, controller: u32, word: u32) -> PresenceCause;
+    fn presence_judge(log: *const u8, log_len: usize) -> PresenceJudged;
+    fn presence_link_list(
+        image: *const u8,
+        image_len: usize,
+        views: *const u8,
+        views_len: usize,
+        out: *mut u8,
+        out_len: usize,
+    ) -> PresenceAnswer;
 }
 
 /// The linked library.
@@ -169,6 +186,22 @@ impl Functions for Library {
     fn read_cause(&self, n: u32, controller: u32, word: u32) -> CauseAnswer {
         let answer = unsafe { presence_read_cause(n, controller, word) };
         CauseAnswer { number: answer.number, index: answer.index, cause: answer.cause, row: answer.row }
+    }
+    fn judge(&self, log: &[u8]) -> JudgeAnswer {
+        let answer = unsafe { presence_judge(log.as_ptr(), log.len()) };
+        JudgeAnswer { number: answer.number, index: answer.index, round: answer.round }
+    }
+    fn link_list(&self, image: &[u8], views: &[u8], out: &mut [u8]) -> Answer {
+        from_c(unsafe {
+            presence_link_list(
+                image.as_ptr(),
+                image.len(),
+                views.as_ptr(),
+                views.len(),
+                out.as_mut_ptr(),
+                out.len(),
+            )
+        })
     }
 }
 

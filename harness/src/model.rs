@@ -1,8 +1,10 @@
 //! Document 01 as plain code: words, setups, states, the step and the calls from C; the register page, the causes, the return counts, the fading
-//! scores, the changes of limits and the adopted views of document 02.
+//! scores, the changes of limits, the adopted views, the judging of logs and the links of document 02.
 
 pub mod calls;
 pub mod change;
+pub mod judge;
+pub mod link;
 pub mod page;
 pub mod setup;
 pub mod state;

@@ -3,6 +3,11 @@
 pub mod changes;
 pub mod damage;
 pub mod doubles;
+pub mod links;
+pub mod links_reached;
+pub mod logs;
+pub mod logs_reached;
+pub mod marks;
 pub mod pages;
 pub mod reached;
 pub mod reads;

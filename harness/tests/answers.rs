@@ -181,9 +181,9 @@ fn the_kind_of_the_second_word_decides_the_length() {
     assert_eq!(run_both(&script(&FADING_SHEET, &[play(1)])), "refused 12 at 10\n");
     assert_eq!(run_both(&script(&FADING_SHEET, &[NO_CAST, play(0)])), "refused 12 at 11\n");
     assert_eq!(run_both(&script(&with(&FADING_SHEET, 1, 0x20000001), &[NO_CAST, play(1)])), "refused 4 at 2\n");
-    // 5, 6 and 7 lie three words further.
+    // 5 and 7 lie three words further.
     assert_eq!(checked(&with(&FADING_SHEET, 8, 0x418A0001)), answer(5, 8));
-    assert_eq!(checked(&with(&FADING_SHEET, 7, 0x41440001)), answer(6, 7));
+    assert_eq!(checked(&with(&FADING_SHEET, 8, 0x41CA0001)), answer(5, 8));
     assert_eq!(saved(&with(&fading_image(), 10, 0xA000000F)), answer(7, 10));
 }
 
@@ -198,15 +198,19 @@ fn number_5() {
     assert_eq!(checked(&with(&SHEET, 5, 0x41880000 + 100_001)), answer(5, 5));
 }
 
+/// Document 02, E12: what it refused is accepted. `retired.rs` has the rest.
 #[test]
-fn number_6() {
-    // Number 2 with a mark and l = 2; l = 1 is accepted.
-    assert_eq!(checked(&with(&SHEET, 4, 0x41440001)), answer(6, 4));
+fn number_6_is_no_longer_given() {
+    // Number 2 with a mark and l = 2, as with l = 1.
+    assert_eq!(checked(&with(&SHEET, 4, 0x41440001)), answer(0, 0));
     assert_eq!(checked(&with(&SHEET, 4, 0x41420001)), answer(0, 0));
+    assert_eq!(checked(&with(&FADING_SHEET, 7, 0x41440001)), answer(0, 0));
     // A mark on 1.
-    assert_eq!(checked(&with(&SHEET, 3, 0x40C00001)), answer(6, 3));
-    // 5 comes before 6, also at a later word.
+    assert_eq!(checked(&with(&SHEET, 3, 0x40C00001)), answer(0, 0));
+    // With it, and behind it, 5 is given as without it.
     assert_eq!(checked(&with(&with(&SHEET, 3, 0x40C00001), 6, 0)), answer(5, 6));
+    assert_eq!(checked(&with(&SHEET, 3, 0x40CA0001)), answer(5, 3));
+    assert_eq!(run_both(&script(&with(&SHEET, 3, 0x40C80001), &[NO_CAST, play(1)])), same_lines(4, &[("1111", "1111", "in")]));
 }
 
 #[test]

@@ -3,15 +3,17 @@
 mod common;
 
 use common::{setup, FADING_SHEET, SHEET};
+use harness::marks::without_marks;
 use harness::model::calls::{Answer, Functions, Model};
 use harness::model::change::{accept, due, next_setup, setup_after, Pending, MOST_LEAD};
-use harness::model::setup::{Form, Limits, Setup};
+use harness::model::setup::{Form, Holds, Limits, Setup};
 use harness::model::state::{fresh, image_length, image_words, read_image, stepped_length, State};
 use harness::model::step::step;
-use harness::model::words::{bytes_of, has, words_of};
+use harness::model::words::{bytes_of, has, words_of, SEND_MARK};
 use harness::model::{refusal, Refusal};
 use harness::random::changes::{more_than_limits, new_limits, pending_state};
 use harness::random::damage::damaged;
+use harness::random::marks::{marked, setup_bytes};
 use harness::random::reads::read;
 use harness::random::setups::lively_setup;
 use harness::random::states::{reached_with_changes, state};
@@ -26,11 +28,11 @@ fn sheet_with(penalty: u32, reward: u32, criticality: u32, return_limit: u32) ->
     setup
 }
 
-/// The same with read places 0, 0, 1, 2 and marks on 2, 3 and 4, so u = 1.
-fn marked(setup: &Setup) -> Setup {
+/// The same with read places 0, 0, 1, 2, so u = 1.
+fn early(setup: &Setup) -> Setup {
     let mut setup = *setup;
-    for (module, (place, send_mark)) in setup.modules.iter_mut().zip([(0, false), (0, true), (1, true), (2, true)]) {
-        (module.place, module.send_mark) = (place, send_mark);
+    for (module, place) in setup.modules.iter_mut().zip([0, 0, 1, 2]) {
+        module.place = place;
     }
     setup
 }
@@ -167,10 +169,10 @@ fn over_1000_or_not_0_with_fading_is_8() {
     }
 }
 
-/// Every single bit of the pending words: accepted exactly if a change to them would be.
+/// Every single bit of the pending words: accepted exactly if a change to them would be. A send mark is, and is not written (document 02, E12).
 #[test]
 fn pending_words_that_a_change_would_be_refused_for_are_8() {
-    let early = marked(&setup(&SHEET)).words();
+    let early = early(&setup(&SHEET)).words();
     for old in [&SHEET[..], &early[..]] {
         let state = fresh(&setup(old), 1);
         let image = image_words(&setup(old), &state);
@@ -183,11 +185,12 @@ fn pending_words_that_a_change_would_be_refused_for_are_8() {
                 let answer = Model.outgoing(&bytes_of(&turned));
                 match changed(&image, &new, 5, 132) {
                     Ok(words) => {
-                        assert_eq!((words, answer.number), (turned, 0));
+                        assert_eq!((words, answer.number), (without_marks(&turned, Holds::State), 0));
                         accepted += 1;
                     }
                     Err(Refusal { number, .. }) => {
-                        assert!([3, 4, 5, 6, 22, 23].contains(&number), "{number}");
+                        assert!([3, 4, 5, 22, 23].contains(&number), "{number}");
+                        assert!(at < 29 || bit != 22);
                         assert_eq!((answer.number, answer.index), (8, at as u32));
                         refused += 1;
                     }
@@ -383,7 +386,7 @@ fn the_numbers_of_a_change_in_their_order() {
         (RAISED[..6].to_vec(), 3, 0),
         (with(&RAISED, 1, 0x20000000), 4, 1),
         (with(&RAISED, 5, 0x418A0001), 5, 5),
-        (with(&RAISED, 3, 0x40C00001), 6, 3),
+        (with(&RAISED, 3, 0x40CA0001), 5, 3),
         (with(&FADING_SHEET, 1, 1), 22, 1),
         (with(&FADING_SHEET, 4, 0x7FF00000), 22, 4),
     ] {
@@ -391,7 +394,7 @@ fn the_numbers_of_a_change_in_their_order() {
         assert_eq!(changed(&image(), &new, 1, 132), Err(refusal(number, index)));
     }
     // 23 before 24 and 9.
-    for new in [with(&RAISED, 0, 0x10000104), with(&RAISED, 4, 0x41060001), FADING_SHEET.to_vec()] {
+    for new in [with(&RAISED, 0, 0x10000104), with(&RAISED, 4, 0x41060001), with(&RAISED, 3, 0x40C00001), FADING_SHEET.to_vec()] {
         assert_eq!(changed(&pending, &new, 0, 0), Err(refusal(23, 0)));
         assert_eq!(changed(&image(), &new, 1, 132), Err(refusal(23, 0)));
     }
@@ -405,7 +408,7 @@ fn the_numbers_of_a_change_in_their_order() {
 
 #[test]
 fn number_23_if_anything_else_differs() {
-    let early = marked(&setup(&SHEET));
+    let early = early(&setup(&SHEET));
     let early_image = image_words(&early, &fresh(&early, 1));
     let early_words = early.words();
     for (image, new) in [
@@ -415,12 +418,19 @@ fn number_23_if_anything_else_differs() {
         (image(), with(&SHEET, 0, 0x10000104)),
         (image(), with(&SHEET, 6, 0x42060001)),
         (image(), FADING_SHEET.to_vec()),
-        // A mark less, a mark more (on 4 with l = 2 there is one), a read place.
-        (early_image.clone(), with(&early_words, 4, early_words[4] & !(1 << 22))),
-        (image_words(&setup(&with(&SHEET, 6, 0x42060001)), &fresh(&setup(&with(&SHEET, 6, 0x42060001)), 1)), with(&SHEET, 6, 0x42460001)),
-        (early_image, with(&early_words, 5, early_words[5] ^ 1 << 17)),
+        (early_image.clone(), with(&early_words, 5, early_words[5] ^ 1 << 17)),
+        // With a mark besides.
+        (early_image.clone(), with(&early_words, 5, early_words[5] ^ 1 << 17 | SEND_MARK)),
     ] {
         assert_eq!(changed(&image, &new, 1, 132), Err(refusal(23, 0)));
+    }
+    // A mark is not compared any more (document 02, E12): on each module, in the image, in the new words, or in both.
+    for at in 3..7 {
+        let [image_marked, new_marked] = [&early_image, &early_words].map(|words| with(words, at, words[at] | SEND_MARK));
+        let wanted = [&early_image[..26], &[1], &early_words[1..]].concat();
+        for (image, new) in [(&early_image, &new_marked), (&image_marked, &early_words), (&image_marked, &new_marked)] {
+            assert_eq!(changed(image, new, 1, 132), Ok(wanted.clone()));
+        }
     }
     // Where either side fades, with the same limits too.
     let fading = image_words(&setup(&FADING_SHEET), &fresh(&setup(&FADING_SHEET), 1));
@@ -450,9 +460,9 @@ fn a_change_is_accepted_exactly_by_its_checks() {
         let new = if random.chance(1, 3) { more_than_limits(&mut random, &setup) } else { new_limits(&mut random, &setup) };
         let lead = random.pick(&[0, 1, 2, 999, MOST_LEAD, MOST_LEAD + 1]);
         let same = (new.n, new.return_limit, new.partitionable) == (setup.n, setup.return_limit, setup.partitionable)
-            && (1..=setup.n).all(|j| (new.module(j).place, new.module(j).send_mark) == (setup.module(j).place, setup.module(j).send_mark));
+            && (1..=setup.n).all(|j| new.module(j).place == setup.module(j).place);
         let counts = setup.form() == Form::Counts && new.form() == Form::Counts;
-        let answer = accept(&setup, &state, &bytes_of(&new.words()), lead);
+        let answer = accept(&setup, &state, &setup_bytes(&mut random, &new), lead);
         let number = answer.map_or_else(|refused| refused.number, |_| 0);
         let wanted = match (same && counts, state.pending, lead) {
             (false, _, _) => 23,
@@ -484,7 +494,8 @@ fn damaged_pending_images_reach_every_place() {
             continue;
         }
         let state = pending_state(&mut random, &setup);
-        let bytes = damaged(&mut random, &image_words(&setup, &state));
+        let words = marked(&mut random, &image_words(&setup, &state), Holds::State);
+        let bytes = damaged(&mut random, &words);
         let left_at = setup.image_length() - 1;
         let name = match read_image(&bytes) {
             Ok((_, state)) => format!("accepted, {}", if state.pending.is_some() { "pending" } else { "without" }),
@@ -500,7 +511,7 @@ fn damaged_pending_images_reach_every_place() {
         *reached.entry(name).or_insert(0) += 1;
     }
     let names = [
-        "accepted, pending", "accepted, without", "1", "2", "3", "4", "5", "6", "7", "8 before", "8 at the rounds left", "8 at P", "8 at R",
+        "accepted, pending", "accepted, without", "1", "2", "3", "4", "5", "7", "8 before", "8 at the rounds left", "8 at P", "8 at R",
         "8 at a module",
     ];
     for name in names {
@@ -536,7 +547,7 @@ fn played(old: &Setup, new: &Setup, lost: u32, offers: [(u32, u32); 4], rounds: 
 #[test]
 fn a_site_raises_p_during_a_scan() {
     let (old, new) = (sheet_with(1, 50, 1, 0), sheet_with(9, 50, 1, 0));
-    for (old, new, u) in [(old, new, 0), (marked(&old), marked(&new), 1)] {
+    for (old, new, u) in [(old, new, 0), (early(&old), early(&new), 1)] {
         assert_eq!(old.u(), u as usize);
         // Unheard in rounds 1 to 4. Round r is judged in step r + 2u + 1; with P = 1 the second charge puts 2 out.
         let leaves = 3 + 2 * u;
@@ -557,7 +568,7 @@ fn a_site_raises_p_during_a_scan() {
 #[test]
 fn a_module_that_misses_the_change() {
     let (old, new) = (sheet_with(1, 50, 1, 0), sheet_with(9, 50, 1, 0));
-    for (old, new) in [(old, new), (marked(&old), marked(&new))] {
+    for (old, new) in [(old, new), (early(&old), early(&new))] {
         let together = played(&old, &new, 4, [(1, 3); 4], 12);
         assert!(together.iter().all(|round| round.iter().all(|of_2| *of_2 == round[0])));
         let left_out = played(&old, &new, 4, [(1, 3), (1, 3), (1, 3), (0, 0)], 12);

@@ -269,8 +269,8 @@ fn damaged_fading_bytes_reach_every_place() {
     }
     let names = [
         "setup accepted, Counts", "setup accepted, Fading", "setup 1", "setup 2", "setup 3", "setup 4", "setup 22 at 1", "setup 22 at 2",
-        "setup 22 at 4", "setup 5", "setup 6", "state accepted, Fading", "state 1", "state 2", "state 3", "state 22 at 1", "state 22 at 2",
-        "state 22 at 4", "state 5", "state 6", "state 7", "state 8, a score", "state 8, before scores", "state 8, behind scores",
+        "setup 22 at 4", "setup 5", "state accepted, Fading", "state 1", "state 2", "state 3", "state 22 at 1", "state 22 at 2",
+        "state 22 at 4", "state 5", "state 7", "state 8, a score", "state 8, before scores", "state 8, behind scores",
     ];
     for name in names {
         assert!(reached.get(name).is_some_and(|&count| count > 0), "{name}: {reached:?}");

@@ -3,11 +3,12 @@
 mod common;
 
 use common::{by_model, loss, play, run_both, script as script_of, setup, NO_CAST};
-use harness::model::setup::Form;
+use harness::model::setup::{Form, Holds};
 use harness::model::state::{fresh, Entry, State};
 use harness::model::step::{step, Outcome};
-use harness::model::words::bytes_of;
+use harness::model::words::{bytes_of, SEND_MARK};
 use harness::random::changes::pending_state;
+use harness::random::marks::marked;
 use harness::random::reads::read;
 use harness::random::scripts::{careful_script, returning_script, script, script_with_u_0};
 use harness::random::Random;
@@ -183,7 +184,7 @@ fn no_part_can_be_left_out() {
     }
 }
 
-/// N = 3, P = 1, R = 3, criticality 1, l = 1 for all, so u = 1; no marks.
+/// N = 3, P = 1, R = 3, criticality 1, l = 1 for all, so u = 1.
 const EARLY: [u32; 6] = [0x10000003, 0x20000001, 0x30000003, 0x40820001, 0x41020001, 0x41820001];
 
 fn swapped() -> Renumbering {
@@ -220,20 +221,41 @@ fn with_u_1_images_differ() {
     assert_eq!([1, 2].map(|j| missing(&rebuilt[0].0, j)), [false, false]);
 }
 
-/// The renumbered setup may be refused: a module with the send mark that becomes module 1.
+/// A module with the send mark may become module 1. Number 6 refused that; now the mark decides nothing, whether it moves with its module or stays
+/// (document 02, E12).
 #[test]
-fn with_u_1_a_send_mark_may_be_refused() {
+fn with_u_1_a_send_mark_is_not_refused() {
     let marked = [0x10000003, 0x20000001, 0x30000003, 0x40800001, 0x41400001, 0x41C20001];
-    let script = check(&script_of(&marked, &[NO_CAST, play(1)])).unwrap();
-    assert_eq!(run_both(&bytes_of(&words(&swapped().script(&script)))), "refused 6 at 3\n");
+    let tail = [NO_CAST, loss(2, 0b111), play(6)];
+    let script = check(&script_of(&marked, &tail)).unwrap();
+    let moved = words(&swapped().script(&script));
+    let printed = swapped().output(&run_both(&script_of(&marked, &tail)));
+    for marks in 0..8 {
+        let mut moved = moved.clone();
+        (0..3).filter(|at| marks >> at & 1 == 1).for_each(|at| moved[3 + at] |= SEND_MARK);
+        assert_eq!(Some(run_both(&bytes_of(&moved))), printed);
+    }
 }
 
-/// What is printed was renumbered in every run with u = 1 that was tried and not refused: a step votes on the rows of round k - 1 whatever its read
-/// place is, and a word holds the syndrome of the round before with a send mark and without. Document 02 does not ask for it.
+/// Where every read place is N marks on any modules, before and after, change nothing of what E8 promises.
 #[test]
-fn with_u_1_lines_are_renumbered_where_the_script_is_accepted() {
+fn send_marks_are_left_out_of_a_renumbering() {
+    let mut random = Random::new(81);
+    for _ in 0..300 {
+        let script = script_with_u_0(&mut random);
+        let renumbering = Renumbering::random(&mut random, script.setup.n);
+        let mut printed = |script: &Script| by_model(&bytes_of(&marked(&mut random, &words(script), Holds::Run)));
+        let before = printed(&script);
+        assert_eq!(renumbering.output(&before), Some(printed(&renumbering.script(&script))));
+    }
+}
+
+/// What is printed was renumbered in every run with u = 1 that was tried: a step votes on the rows of round k - 1 whatever its read place is, and a word
+/// holds the syndrome of the round before. Document 02 does not ask for it.
+#[test]
+fn with_u_1_lines_are_renumbered() {
     let mut random = Random::new(10);
-    let (mut accepted, mut refused) = (0, 0);
+    let mut accepted = 0;
     for at in 0..1_500 {
         let script = [script, careful_script, returning_script][at % 3](&mut random);
         let renumbering = Renumbering::random(&mut random, script.setup.n);
@@ -241,16 +263,9 @@ fn with_u_1_lines_are_renumbered_where_the_script_is_accepted() {
         if script.setup.u() == 0 {
             continue;
         }
-        match check(&moved) {
-            Err(refusal) => {
-                assert_eq!(refusal.number, 6);
-                refused += 1;
-            }
-            Ok(_) => {
-                assert_eq!(renumbering.output(&by_model(&bytes_of(&words(&script)))), Some(by_model(&moved)));
-                accepted += 1;
-            }
-        }
+        assert!(check(&moved).is_ok());
+        assert_eq!(renumbering.output(&by_model(&bytes_of(&words(&script)))), Some(by_model(&moved)));
+        accepted += 1;
     }
-    assert!(accepted > 200 && refused > 200, "{accepted} {refused}");
+    assert!(accepted > 400, "{accepted}");
 }

@@ -155,13 +155,13 @@ fn restarted(setup: &Setup, down: u32, again: &[u32], rounds: u32) -> Vec<([Stat
     held
 }
 
-/// The sheet with this return limit and this penalty limit, with every l at N, at 0, and at several places with marks; and u.
+/// The sheet with this return limit and this penalty limit, with every l at N, at 0, and at several places; and u.
 fn three_setups(q: u32, p: u32) -> [(Setup, u32); 3] {
-    let mut marked = late_with(q);
-    for (module, (place, send_mark)) in marked.modules.iter_mut().zip([(4, false), (1, true), (0, true), (2, false)]) {
-        (module.place, module.send_mark) = (place, send_mark);
+    let mut mixed = late_with(q);
+    for (module, place) in mixed.modules.iter_mut().zip([4, 1, 0, 2]) {
+        module.place = place;
     }
-    [(sheet_with(q), 0), (late_with(q), 1), (marked, 1)].map(|(setup, u)| (Setup { limits: Limits::Counts { penalty: p, reward: 3 }, ..setup }, u))
+    [(sheet_with(q), 0), (late_with(q), 1), (mixed, 1)].map(|(setup, u)| (Setup { limits: Limits::Counts { penalty: p, reward: 3 }, ..setup }, u))
 }
 
 /// A card that is opened anew while it is outside the others' views, and steps with what it hears. If round r is the first in which it is heard

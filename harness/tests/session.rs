@@ -2,8 +2,9 @@
 
 use harness::model::change::next_setup;
 use harness::model::setup::Form;
-use harness::model::words::{bytes_of, has, only};
+use harness::model::words::{has, only};
 use harness::random::changes::{lead, more_than_limits, new_limits};
+use harness::random::marks::setup_bytes;
 use harness::random::scripts::{careful_script, returning_script, script};
 use harness::random::Random;
 use harness::script::backplane::Backplane;
@@ -144,7 +145,7 @@ fn offer(random: &mut Random, backplane: &mut Backplane, followers: &[usize], du
     }
     let setup = *backplane.setup_of(followers[0]);
     let new = if random.chance(1, 8) { more_than_limits(random, &setup) } else { new_limits(random, &setup) };
-    let (new, lead) = (bytes_of(&new.words()), if random.chance(1, 8) { lead(random) } else { random.between(1, 5) });
+    let (new, lead) = (setup_bytes(random, &new), if random.chance(1, 8) { lead(random) } else { random.between(1, 5) });
     let answers: Vec<_> = followers.iter().map(|&j| backplane.offer(j, &new, lead)).collect();
     assert!(answers.iter().all(|answer| *answer == answers[0]));
     if answers[0].is_ok() {

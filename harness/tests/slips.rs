@@ -1,18 +1,19 @@
 //! "Slips a bench run won't show" of document 01, and slips in the return of a module (document 02, E6): each case has another answer under the slip.
+//! Since E12 a module with the send mark is not delayed at all.
 
 mod common;
 
 use common::{setup, SHEET};
 use harness::model::calls::{Functions, Model};
 use harness::model::setup::Setup;
-use harness::model::state::{fresh, image_words, Entry, State};
+use harness::model::state::{fresh, image_words, read_image, Entry, State};
 use harness::model::step::{step, Outcome};
 use harness::model::words::{bytes_of, MAX};
 
 /// N = 2, P = 1, R = 3, criticality 1, all l = 2, so u = 0.
 const TWO: [u32; 5] = [0x10000002, 0x20000001, 0x30000003, 0x40840001, 0x41040001];
 
-/// N = 4, l = 2 for module 1 and 4 for the others, so u = 1; no marks.
+/// N = 4, l = 2 for module 1 and 4 for the others, so u = 1.
 const MIXED: [u32; 7] = [0x10000004, 0x20000001, 0x30000003, 0x40840001, 0x41080001, 0x41880001, 0x42080001];
 
 /// N = 4, l = 0, 0, 1, 2 and marks on 2, 3, 4.
@@ -97,18 +98,25 @@ fn controller_bits_are_aligned_with_words() {
 }
 
 #[test]
-fn a_marked_module_is_delayed_once() {
+fn a_marked_module_is_not_delayed() {
     let setup = setup(&MARKED);
-    // Modules 1 (unmarked) and 2 (marked), each with distinct syndromes in its state.
-    for (own, marked) in [(1, false), (2, true)] {
+    // Modules 1, which had no mark, and 2, which had one, each with distinct syndromes in its state.
+    for own in [1, 2] {
         let state = State { latest: 0b0111, before: 0b1110, ..fresh(&setup, own) };
+        // The image as it was saved with the marks.
+        let image = [&MARKED[..], &image_words(&setup, &state)[7..]].concat();
+        assert_eq!(read_image(&bytes_of(&image)), Ok((setup, state)));
+        assert_eq!(Model.outgoing(&bytes_of(&image)).word, 0x50000007);
         let (outcome, state) = stepped(&setup, state, &[0x5000000F; 4], 0b1101);
         assert_eq!(outcome.syndrome, 0b1101);
-        let wanted = if marked { 0x50000007 } else { 0x5000000D };
-        assert_eq!(outcome.word, wanted);
+        assert_eq!(outcome.word, 0x5000000D);
         assert_eq!((state.latest, state.before), (0b1101, 0b0111));
-        let image = bytes_of(&image_words(&setup, &state));
-        assert_eq!(Model.outgoing(&image).word, wanted);
+        let after = [&MARKED[..], &image_words(&setup, &state)[7..]].concat();
+        assert_eq!(Model.outgoing(&bytes_of(&after)).word, 0x5000000D);
+        let mut out = vec![0; 4 * image.len()];
+        assert_eq!(Model.step(&bytes_of(&image), &bytes_of(&[0x5000000F; 4]), 0b1101, &mut out).number, 0);
+        assert_eq!(out, bytes_of(&image_words(&setup, &state)));
+        assert_eq!(Model.outgoing(&out).word, 0x5000000D);
     }
 }
 

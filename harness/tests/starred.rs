@@ -5,7 +5,7 @@ mod common;
 use common::*;
 use harness::model::state::{fresh, Entry};
 use harness::model::step::{heard_word, read_word, step, vote, Reading};
-use harness::model::words::MAX;
+use harness::model::words::{MAX, SEND_MARK};
 use harness::script::backplane::{add_event, Backplane, Event, NO_EVENTS};
 
 /// The vote on module 4 over rows of modules 1, 2 and 3; module 4's own row and the own syndrome
@@ -54,9 +54,12 @@ fn marks() {
         4 << 28 | 3 << 23 | 1 << 22 | 1 << 17 | 1,
         4 << 28 | 4 << 23 | 1 << 22 | 2 << 17 | 1,
     ];
-    let output = run_both(&script(&setup, &[NO_CAST, loss(2, 15), play(5)]));
-    let good = ("1111", "1111", "in");
-    assert_eq!(output, same_lines(4, &[good, good, good, ("1011", "1111", "in"), good]));
+    // Without the marks, which are read as if they were clear (document 02, E12), it is the same.
+    for setup in [setup, setup.map(|word| if word >> 28 == 4 { word & !SEND_MARK } else { word })] {
+        let output = run_both(&script(&setup, &[NO_CAST, loss(2, 15), play(5)]));
+        let good = ("1111", "1111", "in");
+        assert_eq!(output, same_lines(4, &[good, good, good, ("1011", "1111", "in"), good]));
+    }
 }
 
 #[test]

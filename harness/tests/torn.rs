@@ -27,7 +27,10 @@ use std::collections::BTreeMap;
 /// The sheet with head bit 5.
 const TORN: [u32; 7] = [0x10000024, SHEET[1], SHEET[2], SHEET[3], SHEET[4], SHEET[5], SHEET[6]];
 
-/// The same with read places 0, 0, 1, 2 and marks on 2, 3 and 4, so u = 1.
+/// The same with read places 0, 0, 1, 2, so u = 1.
+const TORN_EARLY: [u32; 7] = [0x10000024, 0x20000001, 0x30000003, 0x40800001, 0x41000001, 0x41820001, 0x42040001];
+
+/// And with send marks on 2, 3 and 4, as it was written before E12.
 const TORN_MARKED: [u32; 7] = [0x10000024, 0x20000001, 0x30000003, 0x40800001, 0x41400001, 0x41C20001, 0x42440001];
 
 /// The sheet's image of 27 words, and 8 words more: view words from 27 on, the latest local view, the one before, the adopted one, out.
@@ -96,7 +99,7 @@ fn chosen_by_head_bit_5() {
 fn its_local_view_as_a_second_word() {
     let torn = setup(&TORN);
     let mut state = fresh(&torn, 1);
-    assert_eq!(handed_out_view(&torn, &state), 0xA000000F);
+    assert_eq!(handed_out_view(&state), 0xA000000F);
     state.penalty[1] = 1;
     // 2 leaves: the word handed out lacks it.
     let outcome = step(&torn, &mut state, &[BAD, [0xA000000F; 4]].concat(), 15).unwrap();
@@ -118,7 +121,7 @@ fn its_local_view_as_a_second_word() {
 
 #[test]
 fn aligned_like_syndromes() {
-    let setup = setup(&TORN_MARKED);
+    let setup = setup(&TORN_EARLY);
     // Module 4 has l = 2: words 1 and 2 come from the read before, 3 and 4 from this one.
     let mut state = fresh(&setup, 4);
     let mut views = views_of(&state);
@@ -136,20 +139,26 @@ fn aligned_like_syndromes() {
     assert!(!views_of(&viewed(&plain, &state, [0xA000000F; 4]).1).out);
 }
 
+/// The step hands out the local view that it leaves, as it does its syndrome, also of a module whose setup had the send mark (document 02, E12).
 #[test]
 fn delayed_like_syndromes() {
-    let setup = setup(&TORN_MARKED);
-    for (own, marked) in [(1, false), (2, true), (3, true), (4, true)] {
-        let mut state = fresh(&setup, own);
-        state.previous[..4].iter_mut().for_each(|entry| entry.row = 0b1101);
-        state.penalty[1] = 1;
-        let read = [BAD, [0xA000000F; 4]].concat();
-        let first = step(&setup, &mut state, &read, 15).unwrap();
-        assert_eq!(state.view, 0b1101);
-        assert_eq!(first.view_word, if marked { 0xA000000F } else { 0xA000000D });
-        let second = step(&setup, &mut state, &read, 15).unwrap();
-        assert_eq!(second.view_word, 0xA000000D);
-        assert_eq!(Model.outgoing_view(&bytes_of(&image_words(&setup, &state))).word, 0xA000000D);
+    for words in [TORN_EARLY, TORN_MARKED] {
+        let setup = setup(&words);
+        for own in 1..=4 {
+            let mut state = fresh(&setup, own);
+            state.previous[..4].iter_mut().for_each(|entry| entry.row = 0b1101);
+            state.penalty[1] = 1;
+            let saved = |state: &State| bytes_of(&[&words[..], &image_words(&setup, state)[7..]].concat());
+            assert_eq!(Model.outgoing_view(&saved(&state)).word, 0xA000000F);
+            let read = [BAD, [0xA000000F; 4]].concat();
+            let first = step(&setup, &mut state, &read, 15).unwrap();
+            assert_eq!((state.view, views_of(&state).earlier), (0b1101, 0b1111));
+            assert_eq!(first.view_word, 0xA000000D);
+            assert_eq!(Model.outgoing_view(&saved(&state)).word, 0xA000000D);
+            let second = step(&setup, &mut state, &read, 15).unwrap();
+            assert_eq!(second.view_word, 0xA000000D);
+            assert_eq!(Model.outgoing_view(&saved(&state)).word, 0xA000000D);
+        }
     }
 }
 
@@ -306,7 +315,7 @@ fn a_told_word_is_followed_by_a_told_view_word() {
 
 #[test]
 fn at_opening_every_view_is_full() {
-    for (words, own) in [(&TORN[..], 1), (&TORN_MARKED[..], 3)] {
+    for (words, own) in [(&TORN[..], 1), (&TORN_EARLY[..], 3), (&TORN_MARKED[..], 3)] {
         let plain = image(&with(words, 0, 0x10000004), own);
         assert_eq!(image(words, own), [&with(&plain, 0, 0x10000024)[..], &[0xA000000F; 4], &[15, 15, 15, 0]].concat());
     }
@@ -525,8 +534,7 @@ fn a_step_adopts_or_goes_out() {
         let outcome = step(&setup, &mut after, &words, controller).unwrap();
         let (was, is) = (views_of(&before), views_of(&after));
         assert_eq!(is.earlier, before.view);
-        let marked = setup.module(before.own).send_mark;
-        assert_eq!(outcome.view_word, view_word(if marked { before.view } else { after.view }));
+        assert_eq!(outcome.view_word, view_word(after.view));
         let name = match (was.out, is.out) {
             (true, out) => {
                 assert!(out && is.adopted == was.adopted);
@@ -623,7 +631,7 @@ fn damaged_images_reach_every_place() {
         *reached.entry(name).or_insert(0) += 1;
     }
     let names = [
-        "accepted, partitionable, pending", "accepted, partitionable, without", "accepted, plain, without", "1", "2", "3", "4", "22", "5", "6", "7",
+        "accepted, partitionable, pending", "accepted, partitionable, without", "accepted, plain, without", "1", "2", "3", "4", "22", "5", "7",
         "8 before", "8 at a view word", "8 at the latest", "8 at the one before", "8 at the adopted", "8 at out",
     ];
     for name in names {
@@ -656,7 +664,7 @@ impl Session {
         let mut events = NO_EVENTS;
         for sender in 1..=n {
             let breaks = has(self.backplane.cast, sender);
-            // With the mark or without it is the local view of the round before.
+            // What is sent is the local view of the round before.
             let honest = view_word(self.backplane.states[sender - 1].view);
             let face = if breaks && random.chance(2, 3) { view_word(random.vector(n)) } else { honest };
             let syndrome = 5 << 28 | self.backplane.states[sender - 1].latest;

@@ -8,8 +8,9 @@ A line holds one statement; everything from a # on is a comment.
     fading factor 0.5 limit 3.0                in place of both: scores that fade; 1e-3 and 0x1.8p-1 are numbers too
     return limit 5                             0 if it is left out: no module comes back into the view
     partitionable                              if it is left out, no view words are sent and none is adopted
-    module 1 x-axis place 4 criticality 1      one line for each module in turn; the name may be left out,
-    module 2 place 1 criticality 1 mark        and may later stand in place of the number; mark is the send mark
+    module 1 x-axis place 4 criticality 1      one line for each module in turn; the name may be left out, and may later
+    module 2 place 1 criticality 1             stand in place of the number
+    module 3 place 4 criticality 1 mark        mark is the send mark of older scripts, which decides nothing any more
     ...
     cast none                                  the rule-breakers: none, all, all but a list, or a list
     loss 2 to all                              in the next round nobody hears module 2
@@ -110,15 +111,20 @@ def line_of(source, refused):
 
 
 def statement(source, tokens):
+    read_statement(source, tokens, FORMS, READERS, "script")
+
+
+def read_statement(source, tokens, forms, readers, what):
+    """A line of a script's text, or of a log's, by the forms and readers of its statements."""
     keyword, rest = tokens[0], tokens[1:]
-    if keyword not in FORMS:
+    if keyword not in forms:
         source.fail(f"'{keyword}' begins no statement")
     if source.rest:
-        source.fail("bytes end a script, and here is more")
+        source.fail(f"bytes end a {what}, and here is more")
     if keyword in ("word", "bytes") and not source.unchecked:
         source.fail(f"a line '{keyword}' needs --unchecked")
-    if not READERS[keyword](source, rest):
-        source.fail(f"the form is: {FORMS[keyword]}")
+    if not readers[keyword](source, rest):
+        source.fail(f"the form is: {forms[keyword]}")
 
 
 # Each reader takes the tokens after its keyword and answers whether they have the statement's form.

@@ -1,5 +1,5 @@
 """The check of a run script: number, index and reason of a refusal, in document 01's order; number 2 as document 02's E6 and E11 have it, 14 as its
-E11 does, 22 after its E9."""
+E11 does, 22 after its E9, and no 6 after its E12."""
 
 import math
 from collections import namedtuple
@@ -8,14 +8,15 @@ from . import words as w
 
 Refusal = namedtuple("Refusal", "number index reason")
 
-# The numbers that the bench can print, in the words of document 01's table.
+# The numbers that the bench can print, in the words of document 01's table; and RETIRED, which only benches from before E12 print.
+RETIRED = 6
 MEANING = {
     1: "the script is empty, or not whole words",
     2: "the first word is no head: its kind, the number of modules, the return limit or a spare bit is wrong",
     3: "the script has fewer words than a setup",
     4: "a limit word is wrong",
     5: "a module word is wrong or out of turn",
-    6: "a send mark on module 1, or with a read place at or above the module's own number",
+    RETIRED: "retired, no longer given from E12 on; it was a send mark on module 1, or with a read place at or above the module's own number",
     12: "a run word is wrong: its kind (the cast stands first and nowhere else), a spare bit, the sender, the mask or the play count",
     13: "a lie by a module outside the cast",
     14: "the cast, a told word or a told view word is missing, or events are never played, or nothing is played",
@@ -35,22 +36,22 @@ def refusal(data):
     return setup_refusal(words) or run_refusal(words)
 
 
-def setup_refusal(words):
-    reason = head_reason(words[0])
+def setup_refusal(words, what="script"):
+    """The refusal of the setup that begins these words, which are a script's or a log's."""
+    reason = head_reason(words[0], what)
     if reason:
         return Refusal(2, 0, reason)
     n, length = w.read_head(words[0]).modules, w.setup_length(words)
     if len(words) < length:
         fading = " with fading" if w.fades(words) else ""
-        return Refusal(3, 0, f"the setup of {n} modules{fading} has {length} words, and the script only {len(words)}")
+        return Refusal(3, 0, f"the setup of {n} modules{fading} has {length} words, and the {what} only {len(words)}")
     refused = fading_refusal(words) if w.fades(words) else limits_refusal(words)
     if refused:
         return refused
-    for number, reason_of in ((5, module_reason), (6, mark_reason)):
-        for j, word in enumerate(words[w.modules_at(words)], 1):
-            reason = reason_of(word, j, n)
-            if reason:
-                return Refusal(number, w.first_module(words) + j - 1, reason)
+    for j, word in enumerate(words[w.modules_at(words)], 1):
+        reason = module_reason(word, j, n)
+        if reason:
+            return Refusal(5, w.first_module(words) + j - 1, reason)
     return None
 
 
@@ -78,10 +79,10 @@ def fading_refusal(words):
     return None
 
 
-def head_reason(word):
+def head_reason(word, what="script"):
     """Why this word is no head (number 2), or None."""
     if w.kind(word) != w.HEAD:
-        return "a script begins with the number of modules"
+        return f"a {what} begins with the number of modules"
     head = w.read_head(word)
     if head.spare:
         return "spare bits are set"
@@ -92,7 +93,7 @@ def head_reason(word):
 
 
 def module_reason(word, due, n):
-    """Why this word is not that of the module that is due (number 5), or None."""
+    """Why this word is not that of the module that is due (number 5), or None. A send mark is not looked at."""
     if w.kind(word) != w.MODULE:
         return f"here module {due} is due"
     module = w.read_module(word)
@@ -102,16 +103,6 @@ def module_reason(word, due, n):
         return f"the read place of module {due} is {module.place}, not within 0 to {n}"
     if not w.in_range("criticality", module.criticality):
         return w.outside("criticality", module.criticality)
-    return None
-
-
-def mark_reason(word, own, n):
-    """Why this module may not have the send mark that it has (number 6), or None."""
-    module = w.read_module(word)
-    if module.mark and own == 1:
-        return "module 1 cannot have the send mark"
-    if module.mark and module.place >= own:
-        return f"module {own} has the send mark, so its read place must be below {own}, not {module.place}"
     return None
 
 

@@ -1,4 +1,4 @@
-"""Arguments and input that runpicture and runsummary share."""
+"""Arguments and input that runpicture, runsummary and logtext share."""
 
 import argparse
 import io
@@ -21,6 +21,11 @@ def parser(prog, description):
 
 def account(args):
     """The Account of what the arguments name; Trouble if it is not bench output or does not fit its script."""
+    return account_and_printed(args)[0]
+
+
+def account_and_printed(args):
+    """The Account, and the run as it was printed."""
     name = "standard input" if args.file == "-" else args.file
     try:
         run = read_run(args.file)
@@ -36,7 +41,7 @@ def account(args):
     if loaded and (loaded.n, loaded.rounds) != (run.n, len(run.rounds)):
         raise Trouble(f"{args.script} is a script of {loaded.n} modules and {loaded.rounds:,} rounds, "
                       f"but {name} has {run.n} modules and {len(run.rounds):,} rounds")
-    return Account(run, loaded)
+    return Account(run, loaded), run
 
 
 def read_run(file):

@@ -25,6 +25,7 @@ class Script:
         # either fading, or both limits of counts
         self.fading = w.read_fading(words) if w.fades(words) else None
         self.penalty_limit, self.reward_limit = (None, None) if self.fading else map(w.value, words[1:3])
+        self.setup = words[:w.setup_length(words)]
         self.modules = [w.read_module(word) for word in words[w.modules_at(words)]]
         self.cast = w.modules_of(w.mask(words[w.setup_length(words)]))
         self.names = {number: name for name, number in (names or {}).items()}

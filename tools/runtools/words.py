@@ -23,6 +23,7 @@ RANGES = {
 
 Head = namedtuple("Head", "return_limit spare partitionable modules")
 Fading = namedtuple("Fading", "factor limit")
+# mark: the send mark, which decides nothing since document 02's E12; it is kept so that a script comes out of the tools as it went in
 ModuleWord = namedtuple("ModuleWord", "number mark place criticality")
 
 

@@ -69,7 +69,7 @@ class Counting(unittest.TestCase):
     def test_every_exported_function_has_its_contract_counted(self):
         lines = believed.contract_lines()
         headers = "".join(pagetools.read("include", name) for name in ("presence.h", "scanlock.h"))
-        self.assertEqual(set(lines), set(re.findall(r"^(?:presence|scanlock)_(?:answer|word|cause) (\w+)\(", headers, re.M)))
+        self.assertEqual(set(lines), set(re.findall(r"^(?:presence|scanlock)_(?:answer|word|cause|judged) (\w+)\(", headers, re.M)))
         self.assertTrue(all(lines.values()))
 
 

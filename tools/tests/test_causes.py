@@ -13,7 +13,7 @@ from runtools.summary import summary
 
 # no module leaves, so that every charge is told
 SETUP = SHEET.split("cast")[0].replace("penalty limit 1", "penalty limit 1000")
-MARKS = SETUP.replace("module 2 place 4", "module 2 place 1").replace("module 3 place 4", "module 3 place 2")
+EARLY = SETUP.replace("module 2 place 4", "module 2 place 1").replace("module 3 place 4", "module 3 place 2")
 
 
 def charged(run, setup=SETUP, output=None):
@@ -109,7 +109,7 @@ class Sentences(unittest.TestCase):
 """)
 
     def test_with_read_places_below_n_the_round_judged_is_three_back(self):
-        self.assertEqual(charged("cast none\nplay 1\nloss 2 to all but 2\nplay 6", MARKS), """\
+        self.assertEqual(charged("cast none\nplay 1\nloss 2 to all but 2\nplay 6", EARLY), """\
   module 2: 1 charge in round 5
     round 5: its word of round 2 was lost to everybody
 """)
@@ -121,7 +121,7 @@ class Sentences(unittest.TestCase):
     rounds 7 to 8: its words of rounds 6 to 7 arrived, but reported otherwise than the vote: module 1 was half heard in rounds 5 to 6 \
 (lost to module 3)
 """)
-        self.assertEqual(charged(alone, MARKS), """\
+        self.assertEqual(charged(alone, EARLY), """\
   module 3: 2 charges in rounds 10 to 11
     rounds 10 to 11: its words of rounds 7 to 8 arrived, but reported otherwise than the vote: module 1 was half heard in rounds 5 to 6 \
 (lost to module 3)

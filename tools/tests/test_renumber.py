@@ -231,6 +231,14 @@ class Refusals(unittest.TestCase):
                     renumber(data, numbers)
                 self.assertEqual(str(caught.exception), wanted + said)
 
+    def test_a_send_mark_goes_with_its_module(self):
+        for sheet in (SHEET, FADING_SHEET):
+            marked = sheet.replace("module 2 place 4 criticality 1", "module 2 place 4 criticality 1 mark")
+            data, text = renumber(assemble(marked).data(), [3, 1, 2, 4]), renumber(marked.encode(), [3, 1, 2, 4]).decode()
+            self.assertEqual(assemble(text).data(), data)
+            self.assertIn("module 1 place 4 criticality 1 mark\n", disassemble(data))
+            self.assertEqual(disassemble(data).count("mark"), 1)
+
     EARLY = SHEET.replace("module 3 place 4", "module 3 place 2").replace("module 4 place 4 criticality 1", "module 4 place 1 criticality 1 mark")
 
     def test_a_read_place_below_n_names_its_line(self):

@@ -142,6 +142,17 @@ class Language(unittest.TestCase):
         setup = SHEET.split("cast")[0].replace("module 4 place 4 criticality 1", "module 4 place 3 criticality 100000 mark")
         self.assertEqual(assemble(setup + "cast none\nplay 1").data()[24:28].hex(), "424786a0")
 
+    def test_a_send_mark_is_taken_on_every_module_and_kept(self):
+        for n, sheet in ((8, SHEET), (11, FADING_SHEET)):
+            for j in range(1, 5):
+                for place in range(5):
+                    line = f"module {j} place {place} criticality 1"
+                    text = sheet.replace(f"module {j} place 4 criticality 1", line + " mark")
+                    data, plain = assemble(text).data(), assemble(text.replace(" mark", "")).data()
+                    at = 4 * (n - 6 + j)
+                    self.assertEqual(data, plain[:at + 1] + bytes([plain[at + 1] | 0x40]) + plain[at + 2:])
+                    self.assertEqual(disassemble(data), text)
+
     def head(self, limit, **options):
         return assemble(SHEET.replace("reward limit 3", f"reward limit 3\n{limit}"), **options).data()[:4].hex().upper()
 
@@ -255,8 +266,9 @@ class Errors(unittest.TestCase):
         ("module 2 place", "module 3 place", 5, "module 3 stands where module 2 is due (refused 5 at 4)"),
         ("module 2 place", "module 2 all place", 5, "'all' cannot be a name"),
         ("module 4 place 4 criticality 1\n", "", 7, "here module 4 is due (refused 5 at 6)"),
-        ("module 1 place 4 criticality 1", "module 1 place 0 criticality 1 mark", 4, "module 1 cannot have the send mark (refused 6 at 3)"),
-        ("module 2 place 4 criticality 1", "module 2 place 4 criticality 1 mark", 5, "must be below 2, not 4 (refused 6 at 4)"),
+        ("module 1 place 4 criticality 1", "module 1 place 5 criticality 1 mark", 4, "the read place is 5, not within 0 to 4"),
+        ("module 2 place 4 criticality 1", "module 3 place 4 criticality 1 mark", 5, "module 3 stands where module 2 is due (refused 5 at 4)"),
+        ("module 2 place 4 criticality 1", "module 2 place 4 mark criticality 1", 5, "the form is: module NUMBER [NAME] place L criticality C [mark]"),
         ("criticality 1\ncast", "criticality 100001\ncast", 7, "not within 1 to 100,000"),
         ("cast none", "cast 5", 8, "the module is 5, not within 1 to 4"),
         ("cast none\n", "", 9, "here the cast is due (refused 12 at 7)"),
@@ -308,7 +320,7 @@ class Errors(unittest.TestCase):
         ("cast none", "return limit 5\ncast none", 7, "the return limit must stand before module 1"),
         ("module 2 place", "module 2 factor place", 4, "'factor' cannot be a name"),
         ("module 2 place", "module 2 fading place", 4, "'fading' cannot be a name"),
-        ("module 2 place 4 criticality 1", "module 2 place 4 criticality 1 mark", 4, "must be below 2, not 4 (refused 6 at 7)"),
+        ("module 2 place 4 criticality 1", "module 3 place 4 criticality 1 mark", 4, "module 3 stands where module 2 is due (refused 5 at 7)"),
         ("module 3 place 4 criticality 1\n", "", 5, "module 4 stands where module 3 is due (refused 5 at 8)"),
         ("play 2", "play 2\nloss 1 to all", 11, "never played (refused 14 at 14)"),
         (FADING_SHEET.split("module 4 ")[1], "place 4 criticality 1\n", 6, "the cast is missing (refused 14 at 10)"),

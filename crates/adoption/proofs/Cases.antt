@@ -18,7 +18,7 @@ use Rattle.words.specs.Table.{updated}
 use Rattle.doubles.specs.Double.{double}
 use Rattle.doubles.specs.Array.{doubles, clear_doubles}
 use Rattle.setup.specs.Setup.{fades_in, limit_list, setup_bytes, blank_setup}
-use Rattle.setup.specs.Check.{module_fits, mark_fits, head_fits, limit_ok, module_ok, mark_ok, module_test, check_words, setup_roomy, room_verdict, setup_verdict}
+use Rattle.setup.specs.Check.{module_fits, head_fits, limit_ok, module_ok, check_words, setup_roomy, room_verdict, setup_verdict}
 use Rattle.image.specs.Words.{own_number_ok, own_ok, syndrome_ok}
 use Rattle.image.specs.Rows.{row_fits, row_ok, rows_roomy}
 use Rattle.image.specs.CounterSection.{counter_ok}
@@ -37,38 +37,38 @@ use Rattle.rules.specs.Hearing.{bus_word, reception_of, is_heard, heard_row, cau
 use Rattle.rules.specs.Alignment.{aligned_of}
 use Rattle.vote.specs.Vote.{decision, tally, vote_of, health_of}
 use Rattle.rules.specs.Accusation.{differs_at, accusation_of, accusations_of}
-use Rattle.rules.specs.Syndrome.{syndrome_of, voters_of, judgement_of, outgoing_of}
+use Rattle.rules.specs.Syndrome.{syndrome_of, voters_of, judgement_of}
 use Rattle.accounts.specs.Account.{charged, rewarded, awaited, accounted}
 use Rattle.accounts.specs.Round.{accounted_by, account_at, accounted_at, counters_of}
 use Rattle.presence.specs.Opening.{fresh, blank, check_opening, open_of}
-use Rattle.presence.specs.Step.{place_of, mark_of, own_syndrome, aligned_for, judgement_for, outgoing_for, voted_views, views_for, outgoing_view, after_round, refused_step, accepted_step, read_step, step_of}
+use Rattle.presence.specs.Step.{place_of, own_syndrome, aligned_for, judgement_for, outgoing_for, voted_views, views_for, outgoing_view, after_round, refused_step, accepted_step, read_step, step_of}
 use Rattle.agreement.specs.Session.{made, Session, size, follows, RuleFollower, bit_in, word_in, view_word_in, hears_view, read_round, state, handed, sent, view_word_handed, view_word_sent}
 use Rattle.agreement.specs.Stars.{right, digits, bound, bound_views}
 use Rattle.adoption.specs.Adopts.{OneFaced}
 use Rattle.adoption.specs.Cases.{one_faced, FacedMeans, torn_cases, present_cases, told_cases, late_cases, few_cases, form_cases, TornCablesRight}
 
 torn-right : right torn_cases ≡ true
-unfolding word_at bytes_of bit pack count any all lowest updated array bounded and_then outcome then_tests run_word runs_of fits to_bits of_int double doubles clear_doubles limit_list setup_bytes blank_setup module_fits mark_fits head_fits limit_ok module_ok mark_ok module_test check_words setup_roomy room_verdict setup_verdict skewed bus_word reception_of is_heard heard_row cause_in entry_of reading_of causes_of aligned_of decision tally vote_of health_of differs_at accusation_of accusations_of syndrome_of voters_of judgement_of outgoing_of charged rewarded awaited accounted accounted_by account_at accounted_at counters_of row_fits own_number_ok own_ok row_ok syndrome_ok rows_roomy counter_ok counters_roomy check_tail roomy state_verdict fresh_views no_views views_roomy fresh blank check_opening open_of place_of mark_of own_syndrome aligned_for judgement_for outgoing_for views_for after_round refused_step accepted_step read_step step_of bit_in word_in read_round state handed sent digits bound left_ok new_test pending_roomy nothing new_word counted_down turned counted books_after made view_word_heard view_entry views_read views_seen aligned_views carriers adoptable adopted_from full_views views_after view_ok voted_views outgoing_view view_word_in hears_view view_word_handed view_word_sent bound_views one_faced fades_in
+unfolding word_at bytes_of bit pack count any all lowest updated array bounded and_then outcome then_tests run_word runs_of fits to_bits of_int double doubles clear_doubles limit_list setup_bytes blank_setup module_fits head_fits limit_ok module_ok check_words setup_roomy room_verdict setup_verdict skewed bus_word reception_of is_heard heard_row cause_in entry_of reading_of causes_of aligned_of decision tally vote_of health_of differs_at accusation_of accusations_of syndrome_of voters_of judgement_of charged rewarded awaited accounted accounted_by account_at accounted_at counters_of row_fits own_number_ok own_ok row_ok syndrome_ok rows_roomy counter_ok counters_roomy check_tail roomy state_verdict fresh_views no_views views_roomy fresh blank check_opening open_of place_of own_syndrome aligned_for judgement_for outgoing_for views_for after_round refused_step accepted_step read_step step_of bit_in word_in read_round state handed sent digits bound left_ok new_test pending_roomy nothing new_word counted_down turned counted books_after made view_word_heard view_entry views_read views_seen aligned_views carriers adoptable adopted_from full_views views_after view_ok voted_views outgoing_view view_word_in hears_view view_word_handed view_word_sent bound_views one_faced fades_in
 torn-right = refl
 
 present-right : right present_cases ≡ true
-unfolding word_at bytes_of bit pack count any all lowest updated array bounded and_then outcome then_tests run_word runs_of fits to_bits of_int double doubles clear_doubles limit_list setup_bytes blank_setup module_fits mark_fits head_fits limit_ok module_ok mark_ok module_test check_words setup_roomy room_verdict setup_verdict skewed bus_word reception_of is_heard heard_row cause_in entry_of reading_of causes_of aligned_of decision tally vote_of health_of differs_at accusation_of accusations_of syndrome_of voters_of judgement_of outgoing_of charged rewarded awaited accounted accounted_by account_at accounted_at counters_of row_fits own_number_ok own_ok row_ok syndrome_ok rows_roomy counter_ok counters_roomy check_tail roomy state_verdict fresh_views no_views views_roomy fresh blank check_opening open_of place_of mark_of own_syndrome aligned_for judgement_for outgoing_for views_for after_round refused_step accepted_step read_step step_of bit_in word_in read_round state handed sent digits bound left_ok new_test pending_roomy nothing new_word counted_down turned counted books_after made view_word_heard view_entry views_read views_seen aligned_views carriers adoptable adopted_from full_views views_after view_ok voted_views outgoing_view view_word_in hears_view view_word_handed view_word_sent bound_views one_faced fades_in
+unfolding word_at bytes_of bit pack count any all lowest updated array bounded and_then outcome then_tests run_word runs_of fits to_bits of_int double doubles clear_doubles limit_list setup_bytes blank_setup module_fits head_fits limit_ok module_ok check_words setup_roomy room_verdict setup_verdict skewed bus_word reception_of is_heard heard_row cause_in entry_of reading_of causes_of aligned_of decision tally vote_of health_of differs_at accusation_of accusations_of syndrome_of voters_of judgement_of charged rewarded awaited accounted accounted_by account_at accounted_at counters_of row_fits own_number_ok own_ok row_ok syndrome_ok rows_roomy counter_ok counters_roomy check_tail roomy state_verdict fresh_views no_views views_roomy fresh blank check_opening open_of place_of own_syndrome aligned_for judgement_for outgoing_for views_for after_round refused_step accepted_step read_step step_of bit_in word_in read_round state handed sent digits bound left_ok new_test pending_roomy nothing new_word counted_down turned counted books_after made view_word_heard view_entry views_read views_seen aligned_views carriers adoptable adopted_from full_views views_after view_ok voted_views outgoing_view view_word_in hears_view view_word_handed view_word_sent bound_views one_faced fades_in
 present-right = refl
 
 told-right : right told_cases ≡ true
-unfolding word_at bytes_of bit pack count any all lowest updated array bounded and_then outcome then_tests run_word runs_of fits to_bits of_int double doubles clear_doubles limit_list setup_bytes blank_setup module_fits mark_fits head_fits limit_ok module_ok mark_ok module_test check_words setup_roomy room_verdict setup_verdict skewed bus_word reception_of is_heard heard_row cause_in entry_of reading_of causes_of aligned_of decision tally vote_of health_of differs_at accusation_of accusations_of syndrome_of voters_of judgement_of outgoing_of charged rewarded awaited accounted accounted_by account_at accounted_at counters_of row_fits own_number_ok own_ok row_ok syndrome_ok rows_roomy counter_ok counters_roomy check_tail roomy state_verdict fresh_views no_views views_roomy fresh blank check_opening open_of place_of mark_of own_syndrome aligned_for judgement_for outgoing_for views_for after_round refused_step accepted_step read_step step_of bit_in word_in read_round state handed sent digits bound left_ok new_test pending_roomy nothing new_word counted_down turned counted books_after made view_word_heard view_entry views_read views_seen aligned_views carriers adoptable adopted_from full_views views_after view_ok voted_views outgoing_view view_word_in hears_view view_word_handed view_word_sent bound_views one_faced fades_in
+unfolding word_at bytes_of bit pack count any all lowest updated array bounded and_then outcome then_tests run_word runs_of fits to_bits of_int double doubles clear_doubles limit_list setup_bytes blank_setup module_fits head_fits limit_ok module_ok check_words setup_roomy room_verdict setup_verdict skewed bus_word reception_of is_heard heard_row cause_in entry_of reading_of causes_of aligned_of decision tally vote_of health_of differs_at accusation_of accusations_of syndrome_of voters_of judgement_of charged rewarded awaited accounted accounted_by account_at accounted_at counters_of row_fits own_number_ok own_ok row_ok syndrome_ok rows_roomy counter_ok counters_roomy check_tail roomy state_verdict fresh_views no_views views_roomy fresh blank check_opening open_of place_of own_syndrome aligned_for judgement_for outgoing_for views_for after_round refused_step accepted_step read_step step_of bit_in word_in read_round state handed sent digits bound left_ok new_test pending_roomy nothing new_word counted_down turned counted books_after made view_word_heard view_entry views_read views_seen aligned_views carriers adoptable adopted_from full_views views_after view_ok voted_views outgoing_view view_word_in hears_view view_word_handed view_word_sent bound_views one_faced fades_in
 told-right = refl
 
 late-right : right late_cases ≡ true
-unfolding word_at bytes_of bit pack count any all lowest updated array bounded and_then outcome then_tests run_word runs_of fits to_bits of_int double doubles clear_doubles limit_list setup_bytes blank_setup module_fits mark_fits head_fits limit_ok module_ok mark_ok module_test check_words setup_roomy room_verdict setup_verdict skewed bus_word reception_of is_heard heard_row cause_in entry_of reading_of causes_of aligned_of decision tally vote_of health_of differs_at accusation_of accusations_of syndrome_of voters_of judgement_of outgoing_of charged rewarded awaited accounted accounted_by account_at accounted_at counters_of row_fits own_number_ok own_ok row_ok syndrome_ok rows_roomy counter_ok counters_roomy check_tail roomy state_verdict fresh_views no_views views_roomy fresh blank check_opening open_of place_of mark_of own_syndrome aligned_for judgement_for outgoing_for views_for after_round refused_step accepted_step read_step step_of bit_in word_in read_round state handed sent digits bound left_ok new_test pending_roomy nothing new_word counted_down turned counted books_after made view_word_heard view_entry views_read views_seen aligned_views carriers adoptable adopted_from full_views views_after view_ok voted_views outgoing_view view_word_in hears_view view_word_handed view_word_sent bound_views one_faced fades_in
+unfolding word_at bytes_of bit pack count any all lowest updated array bounded and_then outcome then_tests run_word runs_of fits to_bits of_int double doubles clear_doubles limit_list setup_bytes blank_setup module_fits head_fits limit_ok module_ok check_words setup_roomy room_verdict setup_verdict skewed bus_word reception_of is_heard heard_row cause_in entry_of reading_of causes_of aligned_of decision tally vote_of health_of differs_at accusation_of accusations_of syndrome_of voters_of judgement_of charged rewarded awaited accounted accounted_by account_at accounted_at counters_of row_fits own_number_ok own_ok row_ok syndrome_ok rows_roomy counter_ok counters_roomy check_tail roomy state_verdict fresh_views no_views views_roomy fresh blank check_opening open_of place_of own_syndrome aligned_for judgement_for outgoing_for views_for after_round refused_step accepted_step read_step step_of bit_in word_in read_round state handed sent digits bound left_ok new_test pending_roomy nothing new_word counted_down turned counted books_after made view_word_heard view_entry views_read views_seen aligned_views carriers adoptable adopted_from full_views views_after view_ok voted_views outgoing_view view_word_in hears_view view_word_handed view_word_sent bound_views one_faced fades_in
 late-right = refl
 
 few-right : right few_cases ≡ true
-unfolding word_at bytes_of bit pack count any all lowest updated array bounded and_then outcome then_tests run_word runs_of fits to_bits of_int double doubles clear_doubles limit_list setup_bytes blank_setup module_fits mark_fits head_fits limit_ok module_ok mark_ok module_test check_words setup_roomy room_verdict setup_verdict skewed bus_word reception_of is_heard heard_row cause_in entry_of reading_of causes_of aligned_of decision tally vote_of health_of differs_at accusation_of accusations_of syndrome_of voters_of judgement_of outgoing_of charged rewarded awaited accounted accounted_by account_at accounted_at counters_of row_fits own_number_ok own_ok row_ok syndrome_ok rows_roomy counter_ok counters_roomy check_tail roomy state_verdict fresh_views no_views views_roomy fresh blank check_opening open_of place_of mark_of own_syndrome aligned_for judgement_for outgoing_for views_for after_round refused_step accepted_step read_step step_of bit_in word_in read_round state handed sent digits bound left_ok new_test pending_roomy nothing new_word counted_down turned counted books_after made view_word_heard view_entry views_read views_seen aligned_views carriers adoptable adopted_from full_views views_after view_ok voted_views outgoing_view view_word_in hears_view view_word_handed view_word_sent bound_views one_faced fades_in
+unfolding word_at bytes_of bit pack count any all lowest updated array bounded and_then outcome then_tests run_word runs_of fits to_bits of_int double doubles clear_doubles limit_list setup_bytes blank_setup module_fits head_fits limit_ok module_ok check_words setup_roomy room_verdict setup_verdict skewed bus_word reception_of is_heard heard_row cause_in entry_of reading_of causes_of aligned_of decision tally vote_of health_of differs_at accusation_of accusations_of syndrome_of voters_of judgement_of charged rewarded awaited accounted accounted_by account_at accounted_at counters_of row_fits own_number_ok own_ok row_ok syndrome_ok rows_roomy counter_ok counters_roomy check_tail roomy state_verdict fresh_views no_views views_roomy fresh blank check_opening open_of place_of own_syndrome aligned_for judgement_for outgoing_for views_for after_round refused_step accepted_step read_step step_of bit_in word_in read_round state handed sent digits bound left_ok new_test pending_roomy nothing new_word counted_down turned counted books_after made view_word_heard view_entry views_read views_seen aligned_views carriers adoptable adopted_from full_views views_after view_ok voted_views outgoing_view view_word_in hears_view view_word_handed view_word_sent bound_views one_faced fades_in
 few-right = refl
 
 forms-right : right form_cases ≡ true
-unfolding word_at bytes_of bit pack count any all lowest updated array bounded and_then outcome then_tests run_word runs_of fits to_bits of_int double doubles clear_doubles limit_list setup_bytes blank_setup module_fits mark_fits head_fits limit_ok module_ok mark_ok module_test check_words setup_roomy room_verdict setup_verdict skewed bus_word reception_of is_heard heard_row cause_in entry_of reading_of causes_of aligned_of decision tally vote_of health_of differs_at accusation_of accusations_of syndrome_of voters_of judgement_of outgoing_of charged rewarded awaited accounted accounted_by account_at accounted_at counters_of row_fits own_number_ok own_ok row_ok syndrome_ok rows_roomy counter_ok counters_roomy check_tail roomy state_verdict fresh_views no_views views_roomy fresh blank check_opening open_of place_of mark_of own_syndrome aligned_for judgement_for outgoing_for views_for after_round refused_step accepted_step read_step step_of bit_in word_in read_round state handed sent digits bound left_ok new_test pending_roomy nothing new_word counted_down turned counted books_after made view_word_heard view_entry views_read views_seen aligned_views carriers adoptable adopted_from full_views views_after view_ok voted_views outgoing_view view_word_in hears_view view_word_handed view_word_sent bound_views one_faced fades_in
+unfolding word_at bytes_of bit pack count any all lowest updated array bounded and_then outcome then_tests run_word runs_of fits to_bits of_int double doubles clear_doubles limit_list setup_bytes blank_setup module_fits head_fits limit_ok module_ok check_words setup_roomy room_verdict setup_verdict skewed bus_word reception_of is_heard heard_row cause_in entry_of reading_of causes_of aligned_of decision tally vote_of health_of differs_at accusation_of accusations_of syndrome_of voters_of judgement_of charged rewarded awaited accounted accounted_by account_at accounted_at counters_of row_fits own_number_ok own_ok row_ok syndrome_ok rows_roomy counter_ok counters_roomy check_tail roomy state_verdict fresh_views no_views views_roomy fresh blank check_opening open_of place_of own_syndrome aligned_for judgement_for outgoing_for views_for after_round refused_step accepted_step read_step step_of bit_in word_in read_round state handed sent digits bound left_ok new_test pending_roomy nothing new_word counted_down turned counted books_after made view_word_heard view_entry views_read views_seen aligned_views carriers adoptable adopted_from full_views views_after view_ok voted_views outgoing_view view_word_in hears_view view_word_handed view_word_sent bound_views one_faced fades_in
 forms-right = refl
 
 pub torn-cables-right : TornCablesRight

@@ -32,7 +32,7 @@ use Rattle.views.specs.Views.{no_views, fresh_views}
 use Rattle.image.specs.Counters.{zero_counters}
 use Rattle.presence.specs.Valid.{state_verdict}
 use Rattle.presence.specs.Opening.{fresh}
-use Rattle.presence.specs.Step.{place_of, mark_of, own_syndrome, aligned_for, judgement_for, outgoing_for, books_of, views_for, after_round}
+use Rattle.presence.specs.Step.{place_of, own_syndrome, aligned_for, judgement_for, outgoing_for, books_of, views_for, after_round}
 use Rattle.presence.specs.Change.{new_verdict, change_verdict, with_pending, change_of}
 use Rattle.presence.specs.declared.State.{State}
 use Rattle.presence.proofs.ValidLaws.{StateFits, fits-valid}
@@ -47,12 +47,12 @@ use Rattle.adoption.specs.SyndromesAlone.{bit_turned, offers_turned, syndromes_a
 -- a setup with this head bit 5
 abbrev with_bit : Bool → Setup → Setup
 with_bit b s =
-    record { n = s.n; q = s.q; partitionable = b; limits = s.limits; marks = s.marks; places = s.places; criticality = s.criticality }
+    record { n = s.n; q = s.q; partitionable = b; limits = s.limits; places = s.places; criticality = s.criticality }
 
 fits-either : (b : Bool) (s : Setup) → SetupFits s → SetupFits (with_bit b s)
 unfolding setup_roomy
 fits-either b s f =
-    record { least = f.least; most = f.most; q-most = f.q-most; limits = f.limits; each = f.each; roomy = f.roomy; marks = f.marks }
+    record { least = f.least; most = f.most; q-most = f.q-most; limits = f.limits; each = f.each; roomy = f.roomy }
 
 accepted-either : (b : Bool) (s : Setup) → (setup_verdict s).number ≡ 0 → (setup_verdict (with_bit b s)).number ≡ 0
 accepted-either b s z = ap (λ (v : Verdict). v.number) (setup-accepted (with_bit b s) (fits-either b s (verdict-fits s z)))
@@ -250,7 +250,7 @@ module _ (S : Session) (ok : Accepted S) (set : Partitionable S) where
         ∙ sym (health-suc S ok i below k)
 
     handed-alone : (st : State) (this : Reading) → outgoing_for (local_side st) this ≡ outgoing_for st this
-    unfolding outgoing_for judgement_for aligned_for own_syndrome place_of mark_of
+    unfolding outgoing_for judgement_for aligned_for own_syndrome place_of
     handed-alone st this = refl
 
     words : (k : ℕ) → handed A i k ≡ handed S i k

@@ -22,7 +22,7 @@ pub record Adoption : Type 0 where
   pub stays : (S : Session) → Accepted S → Partitionable S → (i k m : ℕ) → i < size S → is_out S i k ≡ true → k ≤ m
       → (is_out S i m ≡ true) × (adopted_view S i m ≡ adopted_view S i (k - 1))
   -- "Each module also sends its local view as a second word" and "Out, it still steps and sends": the view word sent in round k + 1 holds the local view
-  -- after step k, out or not, with the send mark and without (lemma 12 of document 002)
+  -- after step k, out or not (lemma 12 of document 002)
   pub sends : (S : Session) → Accepted S → Partitionable S → (i k : ℕ) → i < size S → view_word_sent S i (suc k) ≡ view_word (view_of S i k)
   -- "If no sender gives two rule-followers different view words, then no two of them that were opened before round 1 adopt different views in a round,
   -- however much is lost." The round is k, in whose step they adopt; of the view words it is enough that those of round k - u, adopted from, are so.

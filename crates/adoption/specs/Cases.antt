@@ -22,7 +22,7 @@ use Rattle.adoption.specs.Adopts.{is_out, adopted_view, OneFaced}
 -- a partitionable setup of five modules, with this read place for all
 abbrev pub five_at : ℕ → Setup
 five_at place =
-    record { n = 5; q = 0; partitionable = true; limits = Counts 1 3; marks = 0; places = array 5 (λ j. place); criticality = array 5 (λ j. 1) }
+    record { n = 5; q = 0; partitionable = true; limits = Counts 1 3; places = array 5 (λ j. place); criticality = array 5 (λ j. 1) }
 
 -- the rule-breakers; who hears whom, by round, receiver and sender; the row sent, by round and sender; the view told, by round, receiver and sender
 abbrev pub torn_session : Setup → ℕ → (ℕ → ℕ → ℕ → Bool) → (ℕ → ℕ → ℕ) → (ℕ → ℕ → ℕ → ℕ) → Session

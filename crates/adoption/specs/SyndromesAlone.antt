@@ -13,7 +13,6 @@ bit_turned s = record {
   q = s.q;
   partitionable = not s.partitionable;
   limits = s.limits;
-  marks = s.marks;
   places = s.places;
   criticality = s.criticality;
 }

@@ -12,17 +12,16 @@ use borrow.Author.Tests.{lt-ltb, eqb-true, not-false}
 use Rattle.words.specs.Word.{word_at}
 use Rattle.words.specs.Bits.{bit, full}
 use Rattle.words.specs.Count.{any}
-use Rattle.words.proofs.Truth.{which, cond-true, cond-false}
+use Rattle.words.proofs.Truth.{which}
 use Rattle.words.proofs.BitLaws.{bit-pack, bit-full, full-lt}
 use Rattle.words.proofs.CountLaws.{any_none}
 use Rattle.words.proofs.ArrayLaws.{array_at}
 use Rattle.rules.specs.Lag.{skewed}
 use Rattle.rules.specs.Hearing.{bus_word, entry_of}
 use Rattle.rules.specs.Alignment.{from_previous}
-use Rattle.rules.specs.Syndrome.{outgoing_of}
 use Rattle.views.specs.ViewWord.{view_word}
 use Rattle.presence.specs.Opening.{fresh}
-use Rattle.presence.specs.Step.{skew_of, place_of, mark_of, own_syndrome, aligned_for, outgoing_for, outgoing_view, after_round}
+use Rattle.presence.specs.Step.{skew_of, place_of, own_syndrome, aligned_for, outgoing_for, outgoing_view, after_round}
 use Rattle.rules.specs.declared.Entry.{Entry}
 use Rattle.presence.specs.declared.State.{State}
 use Rattle.rules.proofs.ReceptionLaws.{below-kind, row-of-bus, bus-heard, entry_row, reading-heard, reading-row}
@@ -165,64 +164,31 @@ module _ (S : Session) (ok : Accepted S) where
 
     -- ---- rule 7: a word sent in a round holds the syndrome of the round before (lemma 3 of document 002)
 
-    own-mark : (k : ℕ) → mark_of (state S i k) ≡ bit S.setup.marks i
-    unfolding mark_of
-    own-mark k =
-        let h = held S ok i below k in
-        let e : i + 1 - 1 ≡ i = omega arith in
-        ap₂ (λ (m o : ℕ). bit m (o - 1)) h.marks-are h.own ∙ ap (λ (m : ℕ). bit S.setup.marks m) e
-
-    handed-is : (k : ℕ) → handed S i (suc k)
-        ≡ bus_word (cond (bit S.setup.marks i) (state S i k).latest (state S i (suc k)).latest)
-    unfolding outgoing_for outgoing_of
-    handed-is k =
-        let m = own-mark k in
-        let l = syndrome-suc S ok i below k in
-        handed-suc S ok i below k ∙ (cc)
-
-    unmarked : (k : ℕ) → bit S.setup.marks i ≡ false → handed S i k ≡ bus_word (state S i k).latest
-    unfolding handed fresh
-    unmarked zero f = sym (ap (λ (st : State). bus_word st.latest) (state-zero S ok i below))
-    unmarked (suc k) f = handed-is k ∙ (cc)
+    handed-is : (k : ℕ) → handed S i k ≡ bus_word (state S i k).latest
+    unfolding handed fresh outgoing_for
+    handed-is zero = sym (ap (λ (st : State). bus_word st.latest) (state-zero S ok i below))
+    handed-is (suc k) = handed-suc S ok i below k ∙ ap bus_word (sym (syndrome-suc S ok i below k))
 
     pub sent_is : (k : ℕ) → sent S i (suc k) ≡ bus_word (state S i k).latest
     unfolding sent
     sent_is k =
         let e : suc k - 1 ≡ k = omega arith in
-        ⊎_elim
-        (λ (t : bit S.setup.marks i ≡ true). let h = handed-is k in cc)
-        (λ (f : bit S.setup.marks i ≡ false). let h = unmarked k f in cc)
-        (which _)
+        ap (handed S i) e ∙ handed-is k
 
     -- ---- a view word sent in a round holds the local view of the round before (lemma 12 of document 002); without head bit 5 it is 0
 
     abbrev held_word : ℕ → ℕ
     held_word k = cond S.setup.partitionable (view_word (view_of S i k)) 0
 
-    view-handed-is : (k : ℕ) → view_word_handed S i (suc k) ≡ cond (bit S.setup.marks i) (held_word k) (held_word (suc k))
-    unfolding outgoing_view
-    view-handed-is k =
-        let m = own-mark k in
-        let p = (held S ok i below k).partitionable-is in
-        view-handed-suc S ok i below k ∙ go _ _ p _ _ m
-      where
-        go : (b b' : Bool) → b ≡ b' → (m m' : Bool) → m ≡ m'
-            → cond b (view_word (cond m (view_of S i k) (view_of S i (suc k)))) 0 ≡ cond m' (cond b' (view_word (view_of S i k)) 0) (cond b' (view_word (view_of S i (suc k))) 0)
-        go b true e m true f = rw (e, f)
-        go b true e m false f = rw (e, f)
-        go b false e m true f = rw e
-        go b false e m false f = rw e
-
-    view-unmarked : (k : ℕ) → bit S.setup.marks i ≡ false → view_word_handed S i k ≡ held_word k
-    unfolding view_word_handed fresh
-    view-unmarked zero f = sym (ap (λ (st : State). cond S.setup.partitionable (view_word st.counters.view) 0) (state-zero S ok i below))
-    view-unmarked (suc k) f = view-handed-is k ∙ cond-false _ _ f
+    view-handed-is : (k : ℕ) → view_word_handed S i k ≡ held_word k
+    unfolding view_word_handed fresh outgoing_view
+    view-handed-is zero = sym (ap (λ (st : State). cond S.setup.partitionable (view_word st.counters.view) 0) (state-zero S ok i below))
+    view-handed-is (suc k) =
+        view-handed-suc S ok i below k
+        ∙ ap (λ (b : Bool). cond b (view_word (view_of S i (suc k))) 0) (held S ok i below k).partitionable-is
 
     pub view-sent-is : (k : ℕ) → view_word_sent S i (suc k) ≡ held_word k
     unfolding view_word_sent
     view-sent-is k =
         let e : suc k - 1 ≡ k = omega arith in
-        ⊎_elim
-        (λ (t : bit S.setup.marks i ≡ true). cond-true _ _ t ∙ view-handed-is k ∙ cond-true _ _ t)
-        (λ (f : bit S.setup.marks i ≡ false). cond-false _ _ f ∙ ap (view_word_handed S i) e ∙ view-unmarked k f)
-        (which _)
+        ap (view_word_handed S i) e ∙ view-handed-is k

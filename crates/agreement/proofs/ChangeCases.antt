@@ -12,7 +12,7 @@ use Rattle.words.specs.Table.{updated}
 use Rattle.doubles.specs.Double.{double}
 use Rattle.doubles.specs.Array.{doubles, clear_doubles}
 use Rattle.setup.specs.Setup.{fades_in, limits_in, limit_list, setup_of, setup_bytes, blank_setup}
-use Rattle.setup.specs.Check.{module_fits, mark_fits, whole, head_fits, head_ok, limit_ok, module_ok, mark_ok, module_test, check_head, check_words, check_setup, setup_roomy, room_verdict, setup_verdict}
+use Rattle.setup.specs.Check.{module_fits, whole, head_fits, head_ok, limit_ok, module_ok, check_head, check_words, check_setup, setup_roomy, room_verdict, setup_verdict}
 use Rattle.image.specs.Words.{own_number_ok, own_ok, syndrome_ok}
 use Rattle.image.specs.Rows.{row_fits, row_ok, rows_roomy}
 use Rattle.image.specs.CounterSection.{counter_ok}
@@ -31,12 +31,12 @@ use Rattle.rules.specs.Hearing.{bus_word, reception_of, is_heard, heard_row, cau
 use Rattle.rules.specs.Alignment.{aligned_of}
 use Rattle.vote.specs.Vote.{decision, tally, vote_of, health_of}
 use Rattle.rules.specs.Accusation.{differs_at, accusation_of, accusations_of}
-use Rattle.rules.specs.Syndrome.{syndrome_of, voters_of, judgement_of, outgoing_of}
+use Rattle.rules.specs.Syndrome.{syndrome_of, voters_of, judgement_of}
 use Rattle.accounts.specs.Account.{charged, rewarded, awaited, accounted}
 use Rattle.accounts.specs.Round.{accounted_by, account_at, accounted_at, counters_of}
 use Rattle.presence.specs.Change.{new_verdict, change_verdict, change_of}
 use Rattle.presence.specs.Opening.{fresh, blank, check_opening, open_of}
-use Rattle.presence.specs.Step.{place_of, mark_of, own_syndrome, aligned_for, judgement_for, outgoing_for, views_for, after_round, refused_step, accepted_step, read_step, step_of, found_view}
+use Rattle.presence.specs.Step.{place_of, own_syndrome, aligned_for, judgement_for, outgoing_for, views_for, after_round, refused_step, accepted_step, read_step, step_of, found_view}
 use Rattle.agreement.specs.Fault.{differ, half, heard, half_in, breaker_in, unheard_in, within, kept_over, limit}
 use Rattle.agreement.specs.Session.{made, bit_in, word_in, read_round, state, health, handed, sent, kept_by}
 use Rattle.agreement.specs.Stars.{digits, bound, kept_to}
@@ -44,39 +44,39 @@ use Rattle.agreement.specs.ChangeCases.{plain_run_cases, raised_run_cases, refus
 use Rattle.agreement.specs.Stars.{right}
 
 plain-right : right plain_run_cases ≡ true
-unfolding word_at bytes_of bit pack count any all lowest updated array bounded and_then outcome then_tests run_word runs_of fits to_bits of_int double doubles clear_doubles fades_in limits_in limit_list setup_bytes setup_of blank_setup module_fits mark_fits whole head_fits head_ok limit_ok module_ok mark_ok module_test check_head check_words check_setup setup_roomy room_verdict setup_verdict skewed bus_word reception_of is_heard heard_row cause_in entry_of reading_of causes_of aligned_of decision tally vote_of health_of differs_at accusation_of accusations_of syndrome_of voters_of judgement_of outgoing_of charged rewarded awaited accounted accounted_by account_at accounted_at counters_of row_fits own_number_ok own_ok row_ok syndrome_ok rows_roomy counter_ok counters_roomy check_tail roomy state_verdict fresh_views no_views views_roomy fresh blank check_opening open_of place_of mark_of own_syndrome aligned_for judgement_for outgoing_for views_for after_round refused_step accepted_step read_step step_of differ half heard half_in breaker_in unheard_in within kept_over limit bit_in word_in read_round state health handed sent kept_by digits bound kept_to left_ok new_test pending_roomy nothing new_word counted_down turned counted books_after made new_module_ok forgiven fitted settled adjusted adjusted_at adjusted_of pending_of same_frame may_follow frame_verdict new_verdict change_verdict change_of found_view
+unfolding word_at bytes_of bit pack count any all lowest updated array bounded and_then outcome then_tests run_word runs_of fits to_bits of_int double doubles clear_doubles fades_in limits_in limit_list setup_bytes setup_of blank_setup module_fits whole head_fits head_ok limit_ok module_ok check_head check_words check_setup setup_roomy room_verdict setup_verdict skewed bus_word reception_of is_heard heard_row cause_in entry_of reading_of causes_of aligned_of decision tally vote_of health_of differs_at accusation_of accusations_of syndrome_of voters_of judgement_of charged rewarded awaited accounted accounted_by account_at accounted_at counters_of row_fits own_number_ok own_ok row_ok syndrome_ok rows_roomy counter_ok counters_roomy check_tail roomy state_verdict fresh_views no_views views_roomy fresh blank check_opening open_of place_of own_syndrome aligned_for judgement_for outgoing_for views_for after_round refused_step accepted_step read_step step_of differ half heard half_in breaker_in unheard_in within kept_over limit bit_in word_in read_round state health handed sent kept_by digits bound kept_to left_ok new_test pending_roomy nothing new_word counted_down turned counted books_after made new_module_ok forgiven fitted settled adjusted adjusted_at adjusted_of pending_of same_frame may_follow frame_verdict new_verdict change_verdict change_of found_view
 plain-right = refl
 
 raised-right : right raised_run_cases ≡ true
-unfolding word_at bytes_of bit pack count any all lowest updated array bounded and_then outcome then_tests run_word runs_of fits to_bits of_int double doubles clear_doubles fades_in limits_in limit_list setup_bytes setup_of blank_setup module_fits mark_fits whole head_fits head_ok limit_ok module_ok mark_ok module_test check_head check_words check_setup setup_roomy room_verdict setup_verdict skewed bus_word reception_of is_heard heard_row cause_in entry_of reading_of causes_of aligned_of decision tally vote_of health_of differs_at accusation_of accusations_of syndrome_of voters_of judgement_of outgoing_of charged rewarded awaited accounted accounted_by account_at accounted_at counters_of row_fits own_number_ok own_ok row_ok syndrome_ok rows_roomy counter_ok counters_roomy check_tail roomy state_verdict fresh_views no_views views_roomy fresh blank check_opening open_of place_of mark_of own_syndrome aligned_for judgement_for outgoing_for views_for after_round refused_step accepted_step read_step step_of differ half heard half_in breaker_in unheard_in within kept_over limit bit_in word_in read_round state health handed sent kept_by digits bound kept_to left_ok new_test pending_roomy nothing new_word counted_down turned counted books_after made new_module_ok forgiven fitted settled adjusted adjusted_at adjusted_of pending_of same_frame may_follow frame_verdict new_verdict change_verdict change_of found_view
+unfolding word_at bytes_of bit pack count any all lowest updated array bounded and_then outcome then_tests run_word runs_of fits to_bits of_int double doubles clear_doubles fades_in limits_in limit_list setup_bytes setup_of blank_setup module_fits whole head_fits head_ok limit_ok module_ok check_head check_words check_setup setup_roomy room_verdict setup_verdict skewed bus_word reception_of is_heard heard_row cause_in entry_of reading_of causes_of aligned_of decision tally vote_of health_of differs_at accusation_of accusations_of syndrome_of voters_of judgement_of charged rewarded awaited accounted accounted_by account_at accounted_at counters_of row_fits own_number_ok own_ok row_ok syndrome_ok rows_roomy counter_ok counters_roomy check_tail roomy state_verdict fresh_views no_views views_roomy fresh blank check_opening open_of place_of own_syndrome aligned_for judgement_for outgoing_for views_for after_round refused_step accepted_step read_step step_of differ half heard half_in breaker_in unheard_in within kept_over limit bit_in word_in read_round state health handed sent kept_by digits bound kept_to left_ok new_test pending_roomy nothing new_word counted_down turned counted books_after made new_module_ok forgiven fitted settled adjusted adjusted_at adjusted_of pending_of same_frame may_follow frame_verdict new_verdict change_verdict change_of found_view
 raised-right = refl
 
 refused-right : right refused_run_cases ≡ true
-unfolding word_at bytes_of bit pack count any all lowest updated array bounded and_then outcome then_tests run_word runs_of fits to_bits of_int double doubles clear_doubles fades_in limits_in limit_list setup_bytes setup_of blank_setup module_fits mark_fits whole head_fits head_ok limit_ok module_ok mark_ok module_test check_head check_words check_setup setup_roomy room_verdict setup_verdict skewed bus_word reception_of is_heard heard_row cause_in entry_of reading_of causes_of aligned_of decision tally vote_of health_of differs_at accusation_of accusations_of syndrome_of voters_of judgement_of outgoing_of charged rewarded awaited accounted accounted_by account_at accounted_at counters_of row_fits own_number_ok own_ok row_ok syndrome_ok rows_roomy counter_ok counters_roomy check_tail roomy state_verdict fresh_views no_views views_roomy fresh blank check_opening open_of place_of mark_of own_syndrome aligned_for judgement_for outgoing_for views_for after_round refused_step accepted_step read_step step_of differ half heard half_in breaker_in unheard_in within kept_over limit bit_in word_in read_round state health handed sent kept_by digits bound kept_to left_ok new_test pending_roomy nothing new_word counted_down turned counted books_after made new_module_ok forgiven fitted settled adjusted adjusted_at adjusted_of pending_of same_frame may_follow frame_verdict new_verdict change_verdict change_of found_view
+unfolding word_at bytes_of bit pack count any all lowest updated array bounded and_then outcome then_tests run_word runs_of fits to_bits of_int double doubles clear_doubles fades_in limits_in limit_list setup_bytes setup_of blank_setup module_fits whole head_fits head_ok limit_ok module_ok check_head check_words check_setup setup_roomy room_verdict setup_verdict skewed bus_word reception_of is_heard heard_row cause_in entry_of reading_of causes_of aligned_of decision tally vote_of health_of differs_at accusation_of accusations_of syndrome_of voters_of judgement_of charged rewarded awaited accounted accounted_by account_at accounted_at counters_of row_fits own_number_ok own_ok row_ok syndrome_ok rows_roomy counter_ok counters_roomy check_tail roomy state_verdict fresh_views no_views views_roomy fresh blank check_opening open_of place_of own_syndrome aligned_for judgement_for outgoing_for views_for after_round refused_step accepted_step read_step step_of differ half heard half_in breaker_in unheard_in within kept_over limit bit_in word_in read_round state health handed sent kept_by digits bound kept_to left_ok new_test pending_roomy nothing new_word counted_down turned counted books_after made new_module_ok forgiven fitted settled adjusted adjusted_at adjusted_of pending_of same_frame may_follow frame_verdict new_verdict change_verdict change_of found_view
 refused-right = refl
 
 lowered-right : right lowered_run_cases ≡ true
-unfolding word_at bytes_of bit pack count any all lowest updated array bounded and_then outcome then_tests run_word runs_of fits to_bits of_int double doubles clear_doubles fades_in limits_in limit_list setup_bytes setup_of blank_setup module_fits mark_fits whole head_fits head_ok limit_ok module_ok mark_ok module_test check_head check_words check_setup setup_roomy room_verdict setup_verdict skewed bus_word reception_of is_heard heard_row cause_in entry_of reading_of causes_of aligned_of decision tally vote_of health_of differs_at accusation_of accusations_of syndrome_of voters_of judgement_of outgoing_of charged rewarded awaited accounted accounted_by account_at accounted_at counters_of row_fits own_number_ok own_ok row_ok syndrome_ok rows_roomy counter_ok counters_roomy check_tail roomy state_verdict fresh_views no_views views_roomy fresh blank check_opening open_of place_of mark_of own_syndrome aligned_for judgement_for outgoing_for views_for after_round refused_step accepted_step read_step step_of differ half heard half_in breaker_in unheard_in within kept_over limit bit_in word_in read_round state health handed sent kept_by digits bound kept_to left_ok new_test pending_roomy nothing new_word counted_down turned counted books_after made new_module_ok forgiven fitted settled adjusted adjusted_at adjusted_of pending_of same_frame may_follow frame_verdict new_verdict change_verdict change_of found_view
+unfolding word_at bytes_of bit pack count any all lowest updated array bounded and_then outcome then_tests run_word runs_of fits to_bits of_int double doubles clear_doubles fades_in limits_in limit_list setup_bytes setup_of blank_setup module_fits whole head_fits head_ok limit_ok module_ok check_head check_words check_setup setup_roomy room_verdict setup_verdict skewed bus_word reception_of is_heard heard_row cause_in entry_of reading_of causes_of aligned_of decision tally vote_of health_of differs_at accusation_of accusations_of syndrome_of voters_of judgement_of charged rewarded awaited accounted accounted_by account_at accounted_at counters_of row_fits own_number_ok own_ok row_ok syndrome_ok rows_roomy counter_ok counters_roomy check_tail roomy state_verdict fresh_views no_views views_roomy fresh blank check_opening open_of place_of own_syndrome aligned_for judgement_for outgoing_for views_for after_round refused_step accepted_step read_step step_of differ half heard half_in breaker_in unheard_in within kept_over limit bit_in word_in read_round state health handed sent kept_by digits bound kept_to left_ok new_test pending_roomy nothing new_word counted_down turned counted books_after made new_module_ok forgiven fitted settled adjusted adjusted_at adjusted_of pending_of same_frame may_follow frame_verdict new_verdict change_verdict change_of found_view
 lowered-right = refl
 
 forgiven-right : right forgiven_run_cases ≡ true
-unfolding word_at bytes_of bit pack count any all lowest updated array bounded and_then outcome then_tests run_word runs_of fits to_bits of_int double doubles clear_doubles fades_in limits_in limit_list setup_bytes setup_of blank_setup module_fits mark_fits whole head_fits head_ok limit_ok module_ok mark_ok module_test check_head check_words check_setup setup_roomy room_verdict setup_verdict skewed bus_word reception_of is_heard heard_row cause_in entry_of reading_of causes_of aligned_of decision tally vote_of health_of differs_at accusation_of accusations_of syndrome_of voters_of judgement_of outgoing_of charged rewarded awaited accounted accounted_by account_at accounted_at counters_of row_fits own_number_ok own_ok row_ok syndrome_ok rows_roomy counter_ok counters_roomy check_tail roomy state_verdict fresh_views no_views views_roomy fresh blank check_opening open_of place_of mark_of own_syndrome aligned_for judgement_for outgoing_for views_for after_round refused_step accepted_step read_step step_of differ half heard half_in breaker_in unheard_in within kept_over limit bit_in word_in read_round state health handed sent kept_by digits bound kept_to left_ok new_test pending_roomy nothing new_word counted_down turned counted books_after made new_module_ok forgiven fitted settled adjusted adjusted_at adjusted_of pending_of same_frame may_follow frame_verdict new_verdict change_verdict change_of found_view
+unfolding word_at bytes_of bit pack count any all lowest updated array bounded and_then outcome then_tests run_word runs_of fits to_bits of_int double doubles clear_doubles fades_in limits_in limit_list setup_bytes setup_of blank_setup module_fits whole head_fits head_ok limit_ok module_ok check_head check_words check_setup setup_roomy room_verdict setup_verdict skewed bus_word reception_of is_heard heard_row cause_in entry_of reading_of causes_of aligned_of decision tally vote_of health_of differs_at accusation_of accusations_of syndrome_of voters_of judgement_of charged rewarded awaited accounted accounted_by account_at accounted_at counters_of row_fits own_number_ok own_ok row_ok syndrome_ok rows_roomy counter_ok counters_roomy check_tail roomy state_verdict fresh_views no_views views_roomy fresh blank check_opening open_of place_of own_syndrome aligned_for judgement_for outgoing_for views_for after_round refused_step accepted_step read_step step_of differ half heard half_in breaker_in unheard_in within kept_over limit bit_in word_in read_round state health handed sent kept_by digits bound kept_to left_ok new_test pending_roomy nothing new_word counted_down turned counted books_after made new_module_ok forgiven fitted settled adjusted adjusted_at adjusted_of pending_of same_frame may_follow frame_verdict new_verdict change_verdict change_of found_view
 forgiven-right = refl
 
 outside-right : right outside_run_cases ≡ true
-unfolding word_at bytes_of bit pack count any all lowest updated array bounded and_then outcome then_tests run_word runs_of fits to_bits of_int double doubles clear_doubles fades_in limits_in limit_list setup_bytes setup_of blank_setup module_fits mark_fits whole head_fits head_ok limit_ok module_ok mark_ok module_test check_head check_words check_setup setup_roomy room_verdict setup_verdict skewed bus_word reception_of is_heard heard_row cause_in entry_of reading_of causes_of aligned_of decision tally vote_of health_of differs_at accusation_of accusations_of syndrome_of voters_of judgement_of outgoing_of charged rewarded awaited accounted accounted_by account_at accounted_at counters_of row_fits own_number_ok own_ok row_ok syndrome_ok rows_roomy counter_ok counters_roomy check_tail roomy state_verdict fresh_views no_views views_roomy fresh blank check_opening open_of place_of mark_of own_syndrome aligned_for judgement_for outgoing_for views_for after_round refused_step accepted_step read_step step_of differ half heard half_in breaker_in unheard_in within kept_over limit bit_in word_in read_round state health handed sent kept_by digits bound kept_to left_ok new_test pending_roomy nothing new_word counted_down turned counted books_after made new_module_ok forgiven fitted settled adjusted adjusted_at adjusted_of pending_of same_frame may_follow frame_verdict new_verdict change_verdict change_of found_view
+unfolding word_at bytes_of bit pack count any all lowest updated array bounded and_then outcome then_tests run_word runs_of fits to_bits of_int double doubles clear_doubles fades_in limits_in limit_list setup_bytes setup_of blank_setup module_fits whole head_fits head_ok limit_ok module_ok check_head check_words check_setup setup_roomy room_verdict setup_verdict skewed bus_word reception_of is_heard heard_row cause_in entry_of reading_of causes_of aligned_of decision tally vote_of health_of differs_at accusation_of accusations_of syndrome_of voters_of judgement_of charged rewarded awaited accounted accounted_by account_at accounted_at counters_of row_fits own_number_ok own_ok row_ok syndrome_ok rows_roomy counter_ok counters_roomy check_tail roomy state_verdict fresh_views no_views views_roomy fresh blank check_opening open_of place_of own_syndrome aligned_for judgement_for outgoing_for views_for after_round refused_step accepted_step read_step step_of differ half heard half_in breaker_in unheard_in within kept_over limit bit_in word_in read_round state health handed sent kept_by digits bound kept_to left_ok new_test pending_roomy nothing new_word counted_down turned counted books_after made new_module_ok forgiven fitted settled adjusted adjusted_at adjusted_of pending_of same_frame may_follow frame_verdict new_verdict change_verdict change_of found_view
 outside-right = refl
 
 returns-right : right returns_run_cases ≡ true
-unfolding word_at bytes_of bit pack count any all lowest updated array bounded and_then outcome then_tests run_word runs_of fits to_bits of_int double doubles clear_doubles fades_in limits_in limit_list setup_bytes setup_of blank_setup module_fits mark_fits whole head_fits head_ok limit_ok module_ok mark_ok module_test check_head check_words check_setup setup_roomy room_verdict setup_verdict skewed bus_word reception_of is_heard heard_row cause_in entry_of reading_of causes_of aligned_of decision tally vote_of health_of differs_at accusation_of accusations_of syndrome_of voters_of judgement_of outgoing_of charged rewarded awaited accounted accounted_by account_at accounted_at counters_of row_fits own_number_ok own_ok row_ok syndrome_ok rows_roomy counter_ok counters_roomy check_tail roomy state_verdict fresh_views no_views views_roomy fresh blank check_opening open_of place_of mark_of own_syndrome aligned_for judgement_for outgoing_for views_for after_round refused_step accepted_step read_step step_of differ half heard half_in breaker_in unheard_in within kept_over limit bit_in word_in read_round state health handed sent kept_by digits bound kept_to left_ok new_test pending_roomy nothing new_word counted_down turned counted books_after made new_module_ok forgiven fitted settled adjusted adjusted_at adjusted_of pending_of same_frame may_follow frame_verdict new_verdict change_verdict change_of found_view
+unfolding word_at bytes_of bit pack count any all lowest updated array bounded and_then outcome then_tests run_word runs_of fits to_bits of_int double doubles clear_doubles fades_in limits_in limit_list setup_bytes setup_of blank_setup module_fits whole head_fits head_ok limit_ok module_ok check_head check_words check_setup setup_roomy room_verdict setup_verdict skewed bus_word reception_of is_heard heard_row cause_in entry_of reading_of causes_of aligned_of decision tally vote_of health_of differs_at accusation_of accusations_of syndrome_of voters_of judgement_of charged rewarded awaited accounted accounted_by account_at accounted_at counters_of row_fits own_number_ok own_ok row_ok syndrome_ok rows_roomy counter_ok counters_roomy check_tail roomy state_verdict fresh_views no_views views_roomy fresh blank check_opening open_of place_of own_syndrome aligned_for judgement_for outgoing_for views_for after_round refused_step accepted_step read_step step_of differ half heard half_in breaker_in unheard_in within kept_over limit bit_in word_in read_round state health handed sent kept_by digits bound kept_to left_ok new_test pending_roomy nothing new_word counted_down turned counted books_after made new_module_ok forgiven fitted settled adjusted adjusted_at adjusted_of pending_of same_frame may_follow frame_verdict new_verdict change_verdict change_of found_view
 returns-right = refl
 
 vote-right : right vote_run_cases ≡ true
-unfolding word_at bytes_of bit pack count any all lowest updated array bounded and_then outcome then_tests run_word runs_of fits to_bits of_int double doubles clear_doubles fades_in limits_in limit_list setup_bytes setup_of blank_setup module_fits mark_fits whole head_fits head_ok limit_ok module_ok mark_ok module_test check_head check_words check_setup setup_roomy room_verdict setup_verdict skewed bus_word reception_of is_heard heard_row cause_in entry_of reading_of causes_of aligned_of decision tally vote_of health_of differs_at accusation_of accusations_of syndrome_of voters_of judgement_of outgoing_of charged rewarded awaited accounted accounted_by account_at accounted_at counters_of row_fits own_number_ok own_ok row_ok syndrome_ok rows_roomy counter_ok counters_roomy check_tail roomy state_verdict fresh_views no_views views_roomy fresh blank check_opening open_of place_of mark_of own_syndrome aligned_for judgement_for outgoing_for views_for after_round refused_step accepted_step read_step step_of differ half heard half_in breaker_in unheard_in within kept_over limit bit_in word_in read_round state health handed sent kept_by digits bound kept_to left_ok new_test pending_roomy nothing new_word counted_down turned counted books_after made new_module_ok forgiven fitted settled adjusted adjusted_at adjusted_of pending_of same_frame may_follow frame_verdict new_verdict change_verdict change_of found_view
+unfolding word_at bytes_of bit pack count any all lowest updated array bounded and_then outcome then_tests run_word runs_of fits to_bits of_int double doubles clear_doubles fades_in limits_in limit_list setup_bytes setup_of blank_setup module_fits whole head_fits head_ok limit_ok module_ok check_head check_words check_setup setup_roomy room_verdict setup_verdict skewed bus_word reception_of is_heard heard_row cause_in entry_of reading_of causes_of aligned_of decision tally vote_of health_of differs_at accusation_of accusations_of syndrome_of voters_of judgement_of charged rewarded awaited accounted accounted_by account_at accounted_at counters_of row_fits own_number_ok own_ok row_ok syndrome_ok rows_roomy counter_ok counters_roomy check_tail roomy state_verdict fresh_views no_views views_roomy fresh blank check_opening open_of place_of own_syndrome aligned_for judgement_for outgoing_for views_for after_round refused_step accepted_step read_step step_of differ half heard half_in breaker_in unheard_in within kept_over limit bit_in word_in read_round state health handed sent kept_by digits bound kept_to left_ok new_test pending_roomy nothing new_word counted_down turned counted books_after made new_module_ok forgiven fitted settled adjusted adjusted_at adjusted_of pending_of same_frame may_follow frame_verdict new_verdict change_verdict change_of found_view
 vote-right = refl
 
 apart-right : right apart_run_cases ≡ true
-unfolding word_at bytes_of bit pack count any all lowest updated array bounded and_then outcome then_tests run_word runs_of fits to_bits of_int double doubles clear_doubles fades_in limits_in limit_list setup_bytes setup_of blank_setup module_fits mark_fits whole head_fits head_ok limit_ok module_ok mark_ok module_test check_head check_words check_setup setup_roomy room_verdict setup_verdict skewed bus_word reception_of is_heard heard_row cause_in entry_of reading_of causes_of aligned_of decision tally vote_of health_of differs_at accusation_of accusations_of syndrome_of voters_of judgement_of outgoing_of charged rewarded awaited accounted accounted_by account_at accounted_at counters_of row_fits own_number_ok own_ok row_ok syndrome_ok rows_roomy counter_ok counters_roomy check_tail roomy state_verdict fresh_views no_views views_roomy fresh blank check_opening open_of place_of mark_of own_syndrome aligned_for judgement_for outgoing_for views_for after_round refused_step accepted_step read_step step_of differ half heard half_in breaker_in unheard_in within kept_over limit bit_in word_in read_round state health handed sent kept_by digits bound kept_to left_ok new_test pending_roomy nothing new_word counted_down turned counted books_after made new_module_ok forgiven fitted settled adjusted adjusted_at adjusted_of pending_of same_frame may_follow frame_verdict new_verdict change_verdict change_of found_view
+unfolding word_at bytes_of bit pack count any all lowest updated array bounded and_then outcome then_tests run_word runs_of fits to_bits of_int double doubles clear_doubles fades_in limits_in limit_list setup_bytes setup_of blank_setup module_fits whole head_fits head_ok limit_ok module_ok check_head check_words check_setup setup_roomy room_verdict setup_verdict skewed bus_word reception_of is_heard heard_row cause_in entry_of reading_of causes_of aligned_of decision tally vote_of health_of differs_at accusation_of accusations_of syndrome_of voters_of judgement_of charged rewarded awaited accounted accounted_by account_at accounted_at counters_of row_fits own_number_ok own_ok row_ok syndrome_ok rows_roomy counter_ok counters_roomy check_tail roomy state_verdict fresh_views no_views views_roomy fresh blank check_opening open_of place_of own_syndrome aligned_for judgement_for outgoing_for views_for after_round refused_step accepted_step read_step step_of differ half heard half_in breaker_in unheard_in within kept_over limit bit_in word_in read_round state health handed sent kept_by digits bound kept_to left_ok new_test pending_roomy nothing new_word counted_down turned counted books_after made new_module_ok forgiven fitted settled adjusted adjusted_at adjusted_of pending_of same_frame may_follow frame_verdict new_verdict change_verdict change_of found_view
 apart-right = refl
 
 pub changes-right : ChangeRunsRight

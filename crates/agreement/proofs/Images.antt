@@ -26,7 +26,6 @@ use Rattle.views.specs.Views.{full_views, fresh_views}
 use Rattle.image.specs.Layout.{image_length}
 use Rattle.image.specs.Check.{left_in, image_length_in, check_image}
 use Rattle.presence.specs.Opening.{fresh, open_of}
-use Rattle.presence.specs.Step.{mark_of}
 use Rattle.presence.specs.Change.{with_pending, change_of}
 use Rattle.presence.specs.Image.{image_of, state_of, state_length, room_for}
 use Rattle.calls.specs.Calls.{Called, handed_out, view_handed_out, open_call, step_call, change_call, outgoing_call, outgoing_view_call}
@@ -49,19 +48,10 @@ use Rattle.agreement.specs.Images.{ImageLife, opens as image-opens, steps as ima
 use Rattle.agreement.proofs.Steps.{reading, read_length_lem, Held, ready_held, state-zero, taken, life, life-held}
 use Rattle.agreement.proofs.Demand.{when-between, demand-3}
 
--- the view word of a fresh module is that of the full view, marked or not
-full-either : (mark : Bool) (n : ℕ) → cond mark (full n) (full n) ≡ full n
-full-either true n = refl
-full-either false n = refl
-
-full-handed : (b mark : Bool) (n : ℕ) → cond b (view_word (cond mark (fresh_views b n).earlier (full n))) 0 ≡ cond b (view_word (full n)) 0
-unfolding fresh_views full_views
-full-handed true mark n = ap view_word (full-either mark n)
-full-handed false mark n = refl
-
+-- the view word of a fresh module is that of the full view
 fresh-view : (s : Setup) (own : ℕ) → view_handed_out (fresh s own) ≡ cond s.partitionable (view_word (full s.n)) 0
 unfolding view_handed_out fresh
-fresh-view s own = full-handed s.partitionable (mark_of (fresh s own)) s.n
+fresh-view s own = refl
 
 module _ (S : Session) (setup : List ℕ) (set-up : SetUp S setup) where
   pub ok : Accepted S
@@ -177,7 +167,6 @@ module _ (S : Session) (setup : List ℕ) (set-up : SetUp S setup) where
     unfolding state handed handed_out fresh
     handed-is zero =
         ap handed_out (state-zero S ok i below)
-        ∙ ap bus_word (cond_both (λ v. v ≡ full (size S)) (mark_of (fresh S.setup (i + 1))) (full (size S)) (full (size S)) refl refl)
     handed-is (suc k) =
         let e = taken S ok i below (suc k) (ready S i k) (ready_held S ok i below k) in
         ap (λ (t : Stepped). handed_out t.state) e ∙ sym (handed_out_lem (ready S i k) (reading S i (suc k)) _ _) ∙ ap (λ (t : Stepped). t.word) (sym e)
@@ -192,12 +181,12 @@ module _ (S : Session) (setup : List ℕ) (set-up : SetUp S setup) where
         ∙ ap (λ (t : Stepped). t.second) (sym e)
 
     view-same : (st : State) (p : Pending) → view_handed_out (with_pending st p) ≡ view_handed_out st
-    unfolding view_handed_out mark_of
+    unfolding view_handed_out
     view-same st p = refl
 
     -- what is pending has no part in it
     handed-same : (st : State) (p : Pending) → handed_out (with_pending st p) ≡ handed_out st
-    unfolding handed_out mark_of
+    unfolding handed_out
     handed-same st p = refl
 
     module _ (k h : ℕ) (os : List Offer) (image : List ℕ) (l : ImageLife S setup i k os image h) where

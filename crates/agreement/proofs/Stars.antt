@@ -21,7 +21,7 @@ use Rattle.words.specs.Table.{updated}
 use Rattle.doubles.specs.Double.{double}
 use Rattle.doubles.specs.Array.{doubles, clear_doubles}
 use Rattle.setup.specs.Setup.{fades_in, limits_in, limit_list, setup_of, setup_bytes, blank_setup}
-use Rattle.setup.specs.Check.{module_fits, mark_fits, whole, head_fits, head_ok, limit_ok, module_ok, mark_ok, module_test, check_head, check_words, check_setup, setup_roomy, room_verdict, setup_verdict}
+use Rattle.setup.specs.Check.{module_fits, whole, head_fits, head_ok, limit_ok, module_ok, check_head, check_words, check_setup, setup_roomy, room_verdict, setup_verdict}
 use Rattle.image.specs.Words.{own_number_ok, own_ok, syndrome_ok}
 use Rattle.image.specs.Rows.{row_fits, row_ok, rows_roomy}
 use Rattle.image.specs.CounterSection.{counter_ok}
@@ -38,29 +38,29 @@ use Rattle.rules.specs.Hearing.{bus_word, reception_of, is_heard, heard_row, cau
 use Rattle.rules.specs.Alignment.{aligned_of}
 use Rattle.vote.specs.Vote.{decision, tally, vote_of, health_of}
 use Rattle.rules.specs.Accusation.{differs_at, accusation_of, accusations_of}
-use Rattle.rules.specs.Syndrome.{syndrome_of, voters_of, judgement_of, outgoing_of}
+use Rattle.rules.specs.Syndrome.{syndrome_of, voters_of, judgement_of}
 use Rattle.accounts.specs.Account.{charged, rewarded, awaited, accounted}
 use Rattle.accounts.specs.Round.{accounted_by, account_at, accounted_at, counters_of}
 use Rattle.presence.specs.Opening.{fresh, blank, check_opening, open_of}
-use Rattle.presence.specs.Step.{place_of, mark_of, own_syndrome, aligned_for, judgement_for, outgoing_for, views_for, after_round, refused_step, accepted_step, read_step, step_of}
+use Rattle.presence.specs.Step.{place_of, own_syndrome, aligned_for, judgement_for, outgoing_for, views_for, after_round, refused_step, accepted_step, read_step, step_of}
 use Rattle.agreement.specs.Fault.{differ, half, heard, half_in, breaker_in, unheard_in, within, kept_over, limit}
 use Rattle.agreement.specs.Session.{made, Session, Partitionable, RuleFollower, Bound, BoundViews, size, u, follows, round, bit_in, word_in, view_word_in, hears_view, read_round, state, health, handed, sent, view_word_sent, kept_by, kept}
 use Rattle.agreement.specs.Stars.{right, digits, bound, bound_views, kept_to, TestsMean, starred, empty_cases, own_row_cases, bound_cases, limit_cases, struck_cases, StarsRight}
 
 starred-right : right starred ≡ true
-unfolding word_at bytes_of bit pack count any all lowest updated array bounded and_then outcome then_tests run_word runs_of fits to_bits of_int double doubles clear_doubles fades_in limits_in limit_list setup_bytes setup_of blank_setup module_fits mark_fits whole head_fits head_ok limit_ok module_ok mark_ok module_test check_head check_words check_setup setup_roomy room_verdict setup_verdict skewed bus_word reception_of is_heard heard_row cause_in entry_of reading_of causes_of aligned_of decision tally vote_of health_of differs_at accusation_of accusations_of syndrome_of voters_of judgement_of outgoing_of charged rewarded awaited accounted accounted_by account_at accounted_at counters_of row_fits own_number_ok own_ok row_ok syndrome_ok rows_roomy counter_ok counters_roomy check_tail roomy state_verdict fresh_views no_views views_roomy fresh blank check_opening open_of place_of mark_of own_syndrome aligned_for judgement_for outgoing_for views_for after_round refused_step accepted_step read_step step_of differ half heard half_in breaker_in unheard_in within kept_over limit bit_in word_in read_round state health handed sent kept_by digits bound kept_to left_ok new_test pending_roomy nothing new_word counted_down turned counted books_after made
+unfolding word_at bytes_of bit pack count any all lowest updated array bounded and_then outcome then_tests run_word runs_of fits to_bits of_int double doubles clear_doubles fades_in limits_in limit_list setup_bytes setup_of blank_setup module_fits whole head_fits head_ok limit_ok module_ok check_head check_words check_setup setup_roomy room_verdict setup_verdict skewed bus_word reception_of is_heard heard_row cause_in entry_of reading_of causes_of aligned_of decision tally vote_of health_of differs_at accusation_of accusations_of syndrome_of voters_of judgement_of charged rewarded awaited accounted accounted_by account_at accounted_at counters_of row_fits own_number_ok own_ok row_ok syndrome_ok rows_roomy counter_ok counters_roomy check_tail roomy state_verdict fresh_views no_views views_roomy fresh blank check_opening open_of place_of own_syndrome aligned_for judgement_for outgoing_for views_for after_round refused_step accepted_step read_step step_of differ half heard half_in breaker_in unheard_in within kept_over limit bit_in word_in read_round state health handed sent kept_by digits bound kept_to left_ok new_test pending_roomy nothing new_word counted_down turned counted books_after made
 starred-right = refl
 
 others-right : right (empty_cases ++ (own_row_cases ++ bound_cases)) ≡ true
-unfolding word_at bytes_of bit pack count any all lowest updated array bounded and_then outcome then_tests run_word runs_of fits to_bits of_int double doubles clear_doubles fades_in limits_in limit_list setup_bytes setup_of blank_setup module_fits mark_fits whole head_fits head_ok limit_ok module_ok mark_ok module_test check_head check_words check_setup setup_roomy room_verdict setup_verdict skewed bus_word reception_of is_heard heard_row cause_in entry_of reading_of causes_of aligned_of decision tally vote_of health_of differs_at accusation_of accusations_of syndrome_of voters_of judgement_of outgoing_of charged rewarded awaited accounted accounted_by account_at accounted_at counters_of row_fits own_number_ok own_ok row_ok syndrome_ok rows_roomy counter_ok counters_roomy check_tail roomy state_verdict fresh_views no_views views_roomy fresh blank check_opening open_of place_of mark_of own_syndrome aligned_for judgement_for outgoing_for views_for after_round refused_step accepted_step read_step step_of differ half heard half_in breaker_in unheard_in within kept_over limit bit_in word_in read_round state health handed sent kept_by digits bound kept_to left_ok new_test pending_roomy nothing new_word counted_down turned counted books_after made
+unfolding word_at bytes_of bit pack count any all lowest updated array bounded and_then outcome then_tests run_word runs_of fits to_bits of_int double doubles clear_doubles fades_in limits_in limit_list setup_bytes setup_of blank_setup module_fits whole head_fits head_ok limit_ok module_ok check_head check_words check_setup setup_roomy room_verdict setup_verdict skewed bus_word reception_of is_heard heard_row cause_in entry_of reading_of causes_of aligned_of decision tally vote_of health_of differs_at accusation_of accusations_of syndrome_of voters_of judgement_of charged rewarded awaited accounted accounted_by account_at accounted_at counters_of row_fits own_number_ok own_ok row_ok syndrome_ok rows_roomy counter_ok counters_roomy check_tail roomy state_verdict fresh_views no_views views_roomy fresh blank check_opening open_of place_of own_syndrome aligned_for judgement_for outgoing_for views_for after_round refused_step accepted_step read_step step_of differ half heard half_in breaker_in unheard_in within kept_over limit bit_in word_in read_round state health handed sent kept_by digits bound kept_to left_ok new_test pending_roomy nothing new_word counted_down turned counted books_after made
 others-right = refl
 
 limits-right : right limit_cases ≡ true
-unfolding word_at bytes_of bit pack count any all lowest updated array bounded and_then outcome then_tests run_word runs_of fits to_bits of_int double doubles clear_doubles fades_in limits_in limit_list setup_bytes setup_of blank_setup module_fits mark_fits whole head_fits head_ok limit_ok module_ok mark_ok module_test check_head check_words check_setup setup_roomy room_verdict setup_verdict skewed bus_word reception_of is_heard heard_row cause_in entry_of reading_of causes_of aligned_of decision tally vote_of health_of differs_at accusation_of accusations_of syndrome_of voters_of judgement_of outgoing_of charged rewarded awaited accounted accounted_by account_at accounted_at counters_of row_fits own_number_ok own_ok row_ok syndrome_ok rows_roomy counter_ok counters_roomy check_tail roomy state_verdict fresh_views no_views views_roomy fresh blank check_opening open_of place_of mark_of own_syndrome aligned_for judgement_for outgoing_for views_for after_round refused_step accepted_step read_step step_of differ half heard half_in breaker_in unheard_in within kept_over limit bit_in word_in read_round state health handed sent kept_by digits bound kept_to left_ok new_test pending_roomy nothing new_word counted_down turned counted books_after made
+unfolding word_at bytes_of bit pack count any all lowest updated array bounded and_then outcome then_tests run_word runs_of fits to_bits of_int double doubles clear_doubles fades_in limits_in limit_list setup_bytes setup_of blank_setup module_fits whole head_fits head_ok limit_ok module_ok check_head check_words check_setup setup_roomy room_verdict setup_verdict skewed bus_word reception_of is_heard heard_row cause_in entry_of reading_of causes_of aligned_of decision tally vote_of health_of differs_at accusation_of accusations_of syndrome_of voters_of judgement_of charged rewarded awaited accounted accounted_by account_at accounted_at counters_of row_fits own_number_ok own_ok row_ok syndrome_ok rows_roomy counter_ok counters_roomy check_tail roomy state_verdict fresh_views no_views views_roomy fresh blank check_opening open_of place_of own_syndrome aligned_for judgement_for outgoing_for views_for after_round refused_step accepted_step read_step step_of differ half heard half_in breaker_in unheard_in within kept_over limit bit_in word_in read_round state health handed sent kept_by digits bound kept_to left_ok new_test pending_roomy nothing new_word counted_down turned counted books_after made
 limits-right = refl
 
 struck-right : right struck_cases ≡ true
-unfolding word_at bytes_of bit pack count any all lowest updated array bounded and_then outcome then_tests run_word runs_of fits to_bits of_int double doubles clear_doubles fades_in limits_in limit_list setup_bytes setup_of blank_setup module_fits mark_fits whole head_fits head_ok limit_ok module_ok mark_ok module_test check_head check_words check_setup setup_roomy room_verdict setup_verdict skewed bus_word reception_of is_heard heard_row cause_in entry_of reading_of causes_of aligned_of decision tally vote_of health_of differs_at accusation_of accusations_of syndrome_of voters_of judgement_of outgoing_of charged rewarded awaited accounted accounted_by account_at accounted_at counters_of row_fits own_number_ok own_ok row_ok syndrome_ok rows_roomy counter_ok counters_roomy check_tail roomy state_verdict fresh_views no_views views_roomy fresh blank check_opening open_of place_of mark_of own_syndrome aligned_for judgement_for outgoing_for views_for after_round refused_step accepted_step read_step step_of differ half heard half_in breaker_in unheard_in within kept_over limit bit_in word_in read_round state health handed sent kept_by digits bound kept_to left_ok new_test pending_roomy nothing new_word counted_down turned counted books_after made
+unfolding word_at bytes_of bit pack count any all lowest updated array bounded and_then outcome then_tests run_word runs_of fits to_bits of_int double doubles clear_doubles fades_in limits_in limit_list setup_bytes setup_of blank_setup module_fits whole head_fits head_ok limit_ok module_ok check_head check_words check_setup setup_roomy room_verdict setup_verdict skewed bus_word reception_of is_heard heard_row cause_in entry_of reading_of causes_of aligned_of decision tally vote_of health_of differs_at accusation_of accusations_of syndrome_of voters_of judgement_of charged rewarded awaited accounted accounted_by account_at accounted_at counters_of row_fits own_number_ok own_ok row_ok syndrome_ok rows_roomy counter_ok counters_roomy check_tail roomy state_verdict fresh_views no_views views_roomy fresh blank check_opening open_of place_of own_syndrome aligned_for judgement_for outgoing_for views_for after_round refused_step accepted_step read_step step_of differ half heard half_in breaker_in unheard_in within kept_over limit bit_in word_in read_round state health handed sent kept_by digits bound kept_to left_ok new_test pending_roomy nothing new_word counted_down turned counted books_after made
 struck-right = refl
 
 pub stars-right : StarsRight

@@ -13,11 +13,11 @@ use Rattle.setup.specs.Limits.{fades}
 use Rattle.setup.proofs.SetupLaws.{SetupFits, verdict-fits}
 use Rattle.rules.specs.Hearing.{reading_of, causes_of}
 use Rattle.changes.specs.Books.{counted, books_after}
-use Rattle.changes.proofs.TurnLaws.{turned-size, turned-q, turned-partitionable, turned-marks, turned-places, turned-fades}
+use Rattle.changes.proofs.TurnLaws.{turned-size, turned-q, turned-partitionable, turned-places, turned-fades}
 use Rattle.views.specs.ViewWord.{read_words, views_seen}
 use Rattle.presence.specs.Valid.{Valid}
 use Rattle.presence.specs.Opening.{fresh, open_of}
-use Rattle.presence.specs.Step.{place_of, mark_of, own_syndrome, read_length, aligned_for, judgement_for, outgoing_for, books_of, voted_views, views_for, outgoing_view, after_round, accepted_step}
+use Rattle.presence.specs.Step.{place_of, own_syndrome, read_length, aligned_for, judgement_for, outgoing_for, books_of, voted_views, views_for, outgoing_view, after_round, accepted_step}
 use Rattle.presence.specs.Change.{with_pending, change_of}
 use Rattle.rules.specs.declared.Reading.{Reading}
 use Rattle.presence.specs.declared.State.{State}
@@ -73,7 +73,6 @@ pub record Held (S : Session) (i : ℕ) (st : State) : Type 0 where
   pub q-is : st.setup.q ≡ S.setup.q
   pub partitionable-is : st.setup.partitionable ≡ S.setup.partitionable
   pub fades-is : fades st.setup.limits ≡ fades S.setup.limits
-  pub marks-are : st.setup.marks ≡ S.setup.marks
   pub places-are : st.setup.places ≡ S.setup.places
   pub own : st.own ≡ i + 1
 
@@ -115,7 +114,6 @@ module _ (S : Session) (ok : Accepted S) where
           q-is = turned-q (books_of st) ∙ h.q-is;
           partitionable-is = turned-partitionable (books_of st) ∙ h.partitionable-is;
           fades-is = turned-fades (books_of st) h.fits.pending ∙ h.fades-is;
-          marks-are = turned-marks (books_of st) ∙ h.marks-are;
           places-are = turned-places (books_of st) ∙ h.places-are;
           own = h.own;
         }
@@ -129,7 +127,6 @@ module _ (S : Session) (ok : Accepted S) where
           q-is = ap (λ (x : State). x.setup.q) e ∙ h.q-is;
           partitionable-is = ap (λ (x : State). x.setup.partitionable) e ∙ h.partitionable-is;
           fades-is = ap (λ (x : State). fades x.setup.limits) e ∙ h.fades-is;
-          marks-are = ap (λ (x : State). x.setup.marks) e ∙ h.marks-are;
           places-are = ap (λ (x : State). x.setup.places) e ∙ h.places-are;
           own = ap (λ (x : State). x.own) e ∙ h.own;
         }
@@ -149,7 +146,6 @@ module _ (S : Session) (ok : Accepted S) where
           q-is = refl;
           partitionable-is = refl;
           fades-is = refl;
-          marks-are = refl;
           places-are = refl;
           own = refl;
         })
@@ -180,7 +176,7 @@ module _ (S : Session) (ok : Accepted S) where
       health-suc = ap (λ (t : Stepped). t.health) step_is
 
       pub handed-suc : handed S i (suc k) ≡ outgoing_for (state S i k) (reading S i (suc k))
-      unfolding handed accepted_step judgement_for aligned_for own_syndrome place_of outgoing_for mark_of
+      unfolding handed accepted_step judgement_for aligned_for own_syndrome place_of outgoing_for
       handed-suc = ap (λ (t : Stepped). t.word) step_is
 
       -- and neither does what is made of the view words
@@ -189,7 +185,7 @@ module _ (S : Session) (ok : Accepted S) where
       views-suc = ap (λ (st : State). st.views) state-suc
 
       pub view-handed-suc : view_word_handed S i (suc k) ≡ outgoing_view (state S i k) (view_of S i (suc k))
-      unfolding view_word_handed accepted_step outgoing_view mark_of
+      unfolding view_word_handed accepted_step outgoing_view
       view-handed-suc =
           ap (λ (t : Stepped). t.second) step_is
           ∙ ap (λ (st : State). outgoing_view (state S i k) st.counters.view) (sym state-suc)

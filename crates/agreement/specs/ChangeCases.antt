@@ -18,7 +18,7 @@ use Rattle.agreement.specs.Stars.{Case, case, test, right, digits, bound, kept_t
 -- these Q, P and R, and a criticality for every module
 abbrev pub four_with : ℕ → ℕ → ℕ → ℕ → Setup
 four_with q p r k =
-    record { n = 4; q = q; partitionable = false; limits = Counts p r; marks = 0; places = array 4 (λ j. 4); criticality = array 4 (λ j. k) }
+    record { n = 4; q = q; partitionable = false; limits = Counts p r; places = array 4 (λ j. 4); criticality = array 4 (λ j. k) }
 
 -- a change to this setup, so many rounds ahead
 abbrev pub offer_of : Setup → ℕ → Offer

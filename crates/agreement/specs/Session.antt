@@ -160,9 +160,9 @@ module _ (S : Session) where
   handed i zero = bus_word (full size)
   handed i (suc k) = (answer_at i (suc k) (ready i k)).word
 
-  -- the word that module i sends in round k: handed out in that round's step with the send mark, else in the step of the round before
+  -- the word that module i sends in round k: handed out in the step of the round before
   unfoldable pub sent : ℕ → ℕ → ℕ
-  sent i k = cond (bit S.setup.marks i) (handed i k) (handed i (k - 1))
+  sent i k = handed i (k - 1)
 
   -- The one thing that binds a session, up to round `last`: a heard word of a rule-follower is the one it handed out for that round.
   abbrev pub Bound : ℕ → Type 0
@@ -176,7 +176,7 @@ module _ (S : Session) where
 
   -- the view word that module i sends in round k, handed out in the same step as its word
   unfoldable pub view_word_sent : ℕ → ℕ → ℕ
-  view_word_sent i k = cond (bit S.setup.marks i) (view_word_handed i k) (view_word_handed i (k - 1))
+  view_word_sent i k = view_word_handed i (k - 1)
 
   -- The same of view words, where the setup is partitionable: a heard view word of a rule-follower is the one it handed out for that round. Neither demand
   -- 3 nor what is promised of adopted views asks for it.

@@ -56,10 +56,10 @@ sheet_bytes =
 abbrev pub sheet : Setup
 sheet = setup_of sheet_bytes
 
--- the sheet's limits and criticality with other send marks and read places, for n modules
-abbrev pub like : ℕ → ℕ → List ℕ → Setup
-like n marks places =
-    record { n = n; q = 0; partitionable = false; limits = Counts 1 3; marks = marks; places = array n (λ j. get_or places j 0); criticality = array n (λ j. 1) }
+-- the sheet's limits and criticality with other read places, for n modules
+abbrev pub like : ℕ → List ℕ → Setup
+like n places =
+    record { n = n; q = 0; partitionable = false; limits = Counts 1 3; places = array n (λ j. get_or places j 0); criticality = array n (λ j. 1) }
 
 -- the rule-breakers, as a vector; who hears whom by round, receiver and sender; and the row sent by round and sender; no change is offered
 abbrev pub cast_session : ℕ → Setup → (ℕ → ℕ → ℕ → Bool) → (ℕ → ℕ → ℕ) → Session
@@ -134,14 +134,21 @@ sheet_cases =
     ∷ healths sheet_run 2 1011 ++ (views sheet_run 2 1111 ++ (test (kept_to sheet_run 2) true ∷ []))))
 
 -- ---- * sheet limits, l = 0,0,1,2, marks on 2, 3, 4; module 2 unheard by all in round 1: health 1111 in rounds 1 to 3, 1011 in 4
+-- The marks are retired (document 02, E12): the words hold them, and the setup that is read is the one without.
+abbrev pub marked_bytes : List ℕ
+marked_bytes =
+    bytes_of 7
+    (λ i. get_or (0x1000_0004 ∷ 0x2000_0001 ∷ 0x3000_0003 ∷ 0x4080_0001 ∷ 0x4140_0001 ∷ 0x41c2_0001 ∷ 0x4244_0001 ∷ []) i 0)
+
 abbrev pub marked_run : Session
 marked_run =
-    session (like 4 14 (0 ∷ 0 ∷ 1 ∷ 2 ∷ [])) (λ k i j. not (eqb k 1 && eqb j 1)) (λ k j. get_or (15 ∷ 15 ∷ 15 ∷ 13 ∷ []) k 15)
+    session (setup_of marked_bytes) (λ k i j. not (eqb k 1 && eqb j 1)) (λ k j. get_or (15 ∷ 15 ∷ 15 ∷ 13 ∷ []) k 15)
 
 -- the session is bound; the health vectors of rounds 1 to 4
 abbrev pub marked_cases : List Case
 marked_cases =
-    test (bound marked_run 4) true
+    case (check_setup marked_bytes).number 0
+    ∷ test (bound marked_run 4) true
     ∷ healths marked_run 1 1111 ++ (healths marked_run 2 1111 ++ (healths marked_run 3 1111 ++ healths marked_run 4 1011))
 
 -- ---- * sheet setup, module 3 alone misses 1 in round 1: health 1111, 1111, 1101, 1111
@@ -192,7 +199,7 @@ word_cases =
 
 -- ---- * N = 3, u = 0, one sender half heard: out; N = 4: in
 abbrev pub half_run : ℕ → Session
-half_run n = session (like n 0 (replicate 16 n)) (λ k i j. not (eqb i 1 && eqb j 0)) (λ k j. full n)
+half_run n = session (like n (replicate 16 n)) (λ k i j. not (eqb i 1 && eqb j 0)) (λ k j. full n)
 
 -- round 1, for three modules and for four
 abbrev pub half_cases : List Case
@@ -201,7 +208,7 @@ half_cases = test (kept (half_run 3) 1) false ∷ test (kept (half_run 4) 1) tru
 -- ---- not starred: u = 1, nobody heard in rounds 2 and 3; the empty votes of step 4 fall back on the syndromes of round 2, all ones, and not
 -- on those of round 3, all zeros
 abbrev pub empty_run : Session
-empty_run = session (like 4 0 (0 ∷ 0 ∷ 0 ∷ 0 ∷ [])) (λ k i j. not (eqb k 2) && not (eqb k 3)) (λ k j. cond (leb 4 k) 0 15)
+empty_run = session (like 4 (0 ∷ 0 ∷ 0 ∷ 0 ∷ [])) (λ k i j. not (eqb k 2) && not (eqb k 3)) (λ k j. cond (leb 4 k) 0 15)
 
 -- the session is bound; module 1's syndromes of rounds 3 and 2; the health vectors of step 4, and of step 5, by rows of zeros
 abbrev pub empty_cases : List Case
@@ -219,7 +226,7 @@ own_row_cases = test (vote_of 4 15 (1 ∷ 1 ∷ 0 ∷ 0 ∷ []) 15 0) false ∷ 
 -- in step 1, for it votes on rows of ones and judges a faultless round.
 abbrev pub two_rounds : ℕ → ℕ → (ℕ → ℕ → ℕ → Bool) → Session
 two_rounds n cast hears =
-    cast_session cast (like n 0 (replicate 16 n)) hears (λ k j. cond (leb k 1) (full n) (pack n (hears (k - 1) j)))
+    cast_session cast (like n (replicate 16 n)) hears (λ k j. cond (leb k 1) (full n) (pack n (hears (k - 1) j)))
 
 -- such a session is bound, and the limit in round 2 is kept, or is not
 abbrev pub limit_case : ℕ → ℕ → (ℕ → ℕ → ℕ → Bool) → Bool → List Case
@@ -284,7 +291,7 @@ two_half_cases =
 -- Modules 1 and 2 break the rules: in round 2 each tells module 3 another word than the rest.
 abbrev pub two_words : Session
 two_words = record {
-  setup = like 16 0 (replicate 16 16);
+  setup = like 16 (replicate 16 16);
   cast = 3;
   controller = all_heard;
   word = λ k i j. bus_word (cond (eqb k 2 && (eqb i 2 && leb j 1)) 0 (full 16));
@@ -308,7 +315,7 @@ bound_cases = test (bound (zeros_run 1) 1) true ∷ test (bound (zeros_run 0) 1)
 
 -- ---- not starred: u = 1, modules 1 and 2 half heard in round 3, so a = 2 in round 3, over rounds 3 and 1, and in round 5, over rounds 5 and 3
 abbrev pub late_run : Session
-late_run = session (like 4 0 (0 ∷ 0 ∷ 0 ∷ 0 ∷ [])) (λ k i j. missed 2 0 3 k i j && missed 2 1 3 k i j) (λ k j. 15)
+late_run = session (like 4 (0 ∷ 0 ∷ 0 ∷ 0 ∷ [])) (λ k i j. missed 2 0 3 k i j && missed 2 1 3 k i j) (λ k j. 15)
 
 -- The session is bound; rounds 1 to 5 one by one; up to round 3 the limit is not kept, and for step 3, which votes on round 2, it is; for step 4 not.
 abbrev pub late_cases : List Case
@@ -337,7 +344,7 @@ struck_off_cases =
 -- step 3. Besides somebody may not hear somebody in round 4 (`hears`). The words of a round say who was heard in the round before.
 abbrev pub struck_run : ℕ → ℕ → ℕ → ℕ → (ℕ → ℕ → ℕ → Bool) → Session
 struck_run n cast off m hears =
-    cast_session cast (like n 0 (replicate 16 n)) (λ k i j. not (bit off j && leb k m) && hears k i j)
+    cast_session cast (like n (replicate 16 n)) (λ k i j. not (bit off j && leb k m) && hears k i j)
     (λ k j. cond (leb 2 k && leb k (m + 1)) (full n - off) (full n))
 
 -- such a session is bound, the view after round 3 lacks those modules, and the limit in round 4 is kept, or is not
@@ -364,7 +371,7 @@ left_cases =
 -- of round 5 are counted by the view at the end of round 5, so three are left; by that of round 4 it were four.
 abbrev pub leaves_run : Session
 leaves_run =
-    session (like 4 0 (0 ∷ 0 ∷ 0 ∷ 0 ∷ [])) (λ k i j. not (eqb j 1 && leb k 2) && missed 2 0 5 k i j)
+    session (like 4 (0 ∷ 0 ∷ 0 ∷ 0 ∷ [])) (λ k i j. not (eqb j 1 && leb k 2) && missed 2 0 5 k i j)
     (λ k j. get_or (15 ∷ 15 ∷ 15 ∷ 13 ∷ 13 ∷ []) k 15)
 
 -- the session is bound; the views after rounds 4 and 5; the limit is kept up to round 4 and not in round 5

@@ -16,7 +16,7 @@ use Rattle.words.specs.Runs.{runs_of, run_word}
 use Rattle.doubles.specs.Double.{double}
 use Rattle.doubles.specs.Array.{doubles, clear_doubles}
 use Rattle.setup.specs.Setup.{fades_in, limits_in, limit_list, setup_of, setup_bytes, blank_setup}
-use Rattle.setup.specs.Check.{module_fits, mark_fits, whole, head_fits, head_ok, limit_ok, module_ok, mark_ok, module_test, check_head, check_words, check_front, setup_part, check_setup, setup_roomy, room_verdict, setup_verdict, read_setup}
+use Rattle.setup.specs.Check.{module_fits, whole, head_fits, head_ok, limit_ok, module_ok, check_head, check_words, check_front, setup_part, check_setup, setup_roomy, room_verdict, setup_verdict, read_setup}
 use Rattle.image.specs.Words.{own_number_ok, own_ok, syndrome_ok}
 use Rattle.image.specs.Rows.{row_fits, row_ok, rows_roomy}
 use Rattle.image.specs.CounterSection.{counter_ok}
@@ -35,12 +35,12 @@ use Rattle.rules.specs.Hearing.{bus_word, reception_of, is_heard, heard_row, cau
 use Rattle.rules.specs.Alignment.{aligned_of}
 use Rattle.vote.specs.Vote.{decision, tally, vote_of, health_of}
 use Rattle.rules.specs.Accusation.{differs_at, accusation_of, accusations_of}
-use Rattle.rules.specs.Syndrome.{syndrome_of, voters_of, judgement_of, outgoing_of}
+use Rattle.rules.specs.Syndrome.{syndrome_of, voters_of, judgement_of}
 use Rattle.accounts.specs.Account.{charged, rewarded, awaited, accounted}
 use Rattle.accounts.specs.Round.{accounted_by, account_at, accounted_at, counters_of}
 use Rattle.presence.specs.Opening.{fresh, blank, check_opening, open_of}
 use Rattle.presence.specs.Shown.{shown_view}
-use Rattle.presence.specs.Step.{place_of, mark_of, own_syndrome, aligned_for, judgement_for, outgoing_for, found_view, voted_views, views_for, outgoing_view, after_round, refused_step, accepted_step, read_step, step_of}
+use Rattle.presence.specs.Step.{place_of, own_syndrome, aligned_for, judgement_for, outgoing_for, found_view, voted_views, views_for, outgoing_view, after_round, refused_step, accepted_step, read_step, step_of}
 use Rattle.script.specs.Words.{cast_ok, event_ok, play_ok, due_after, is_play}
 use Rattle.script.specs.Check.{play_refusal, event_refusal, word_refusal, scanned, finished, scan, check_cast, check_play, check_script}
 use Rattle.script.specs.Events.{none, concerns, with_event}
@@ -79,9 +79,9 @@ output-from s m a r =
     cond-true _ _ a ∙ ap (lines_to s) (r ∙ e) ∙ lines-from s 0 m
 
 torn-written : output_of (script_of torn_words) ≡ text_of torn_lines
-unfolding word_at bytes_of bit pack count any all lowest array bounded updated table and_then outcome then_tests run_word runs_of fits to_bits of_int double doubles clear_doubles fades_in limits_in limit_list setup_bytes setup_of blank_setup module_fits mark_fits whole head_fits head_ok limit_ok module_ok mark_ok module_test check_head check_words check_front setup_part check_setup setup_roomy room_verdict setup_verdict read_setup skewed bus_word reception_of is_heard heard_row cause_in entry_of reading_of causes_of aligned_of decision tally vote_of health_of differs_at accusation_of accusations_of syndrome_of voters_of judgement_of outgoing_of charged rewarded awaited accounted accounted_by account_at accounted_at counters_of row_fits own_number_ok own_ok row_ok syndrome_ok rows_roomy counter_ok counters_roomy check_tail roomy state_verdict fresh blank check_opening open_of place_of mark_of own_syndrome aligned_for judgement_for outgoing_for after_round refused_step accepted_step read_step step_of cast_ok event_ok play_ok play_refusal event_refusal word_refusal scanned finished scan check_cast check_play check_script none concerns with_event due_after is_play told_view_of events_after gather start advanced last_scan rounds_of differ half heard half_in breaker_in unheard_in within kept_over numeral vector line_with lines_of refused_line round_of faultless arrived words_read bits_read followers_view counting_view hearing_of opened_states opened sent_words sent_views step_at stepped_states answered_health earlier played begun goes_on next_of later printed lines_to output_of left_ok new_test pending_roomy nothing new_word counted_down turned counted books_after view_word_heard view_entry views_read views_seen aligned_views carriers adoptable adopted_from full_views no_views fresh_views views_after view_ok views_roomy found_view voted_views views_for outgoing_view shown_view lines_from
+unfolding word_at bytes_of bit pack count any all lowest array bounded updated table and_then outcome then_tests run_word runs_of fits to_bits of_int double doubles clear_doubles fades_in limits_in limit_list setup_bytes setup_of blank_setup module_fits whole head_fits head_ok limit_ok module_ok check_head check_words check_front setup_part check_setup setup_roomy room_verdict setup_verdict read_setup skewed bus_word reception_of is_heard heard_row cause_in entry_of reading_of causes_of aligned_of decision tally vote_of health_of differs_at accusation_of accusations_of syndrome_of voters_of judgement_of charged rewarded awaited accounted accounted_by account_at accounted_at counters_of row_fits own_number_ok own_ok row_ok syndrome_ok rows_roomy counter_ok counters_roomy check_tail roomy state_verdict fresh blank check_opening open_of place_of own_syndrome aligned_for judgement_for outgoing_for after_round refused_step accepted_step read_step step_of cast_ok event_ok play_ok play_refusal event_refusal word_refusal scanned finished scan check_cast check_play check_script none concerns with_event due_after is_play told_view_of events_after gather start advanced last_scan rounds_of differ half heard half_in breaker_in unheard_in within kept_over numeral vector line_with lines_of refused_line round_of faultless arrived words_read bits_read followers_view counting_view hearing_of opened_states opened sent_words sent_views step_at stepped_states answered_health earlier played begun goes_on next_of later printed lines_to output_of left_ok new_test pending_roomy nothing new_word counted_down turned counted books_after view_word_heard view_entry views_read views_seen aligned_views carriers adoptable adopted_from full_views no_views fresh_views views_after view_ok views_roomy found_view voted_views views_for outgoing_view shown_view lines_from
 torn-written = output-from (script_of torn_words) 11 refl refl ∙ refl
 
 pub written : SheetWritten
-unfolding word_at bytes_of bit pack count any all lowest array bounded updated table and_then outcome then_tests run_word runs_of fits to_bits of_int double doubles clear_doubles fades_in limits_in limit_list setup_bytes setup_of blank_setup module_fits mark_fits whole head_fits head_ok limit_ok module_ok mark_ok module_test check_head check_words check_front setup_part check_setup setup_roomy room_verdict setup_verdict read_setup skewed bus_word reception_of is_heard heard_row cause_in entry_of reading_of causes_of aligned_of decision tally vote_of health_of differs_at accusation_of accusations_of syndrome_of voters_of judgement_of outgoing_of charged rewarded awaited accounted accounted_by account_at accounted_at counters_of row_fits own_number_ok own_ok row_ok syndrome_ok rows_roomy counter_ok counters_roomy check_tail roomy state_verdict fresh blank check_opening open_of place_of mark_of own_syndrome aligned_for judgement_for outgoing_for after_round refused_step accepted_step read_step step_of cast_ok event_ok play_ok play_refusal event_refusal word_refusal scanned finished scan check_cast check_play check_script none concerns with_event due_after is_play told_view_of events_after gather start advanced last_scan rounds_of differ half heard half_in breaker_in unheard_in within kept_over numeral vector line_with lines_of refused_line round_of faultless arrived words_read bits_read followers_view counting_view hearing_of opened_states opened sent_words sent_views step_at stepped_states answered_health earlier played begun goes_on next_of later printed lines_to output_of left_ok new_test pending_roomy nothing new_word counted_down turned counted books_after view_word_heard view_entry views_read views_seen aligned_views carriers adoptable adopted_from full_views no_views fresh_views views_after view_ok views_roomy found_view voted_views views_for outgoing_view shown_view
+unfolding word_at bytes_of bit pack count any all lowest array bounded updated table and_then outcome then_tests run_word runs_of fits to_bits of_int double doubles clear_doubles fades_in limits_in limit_list setup_bytes setup_of blank_setup module_fits whole head_fits head_ok limit_ok module_ok check_head check_words check_front setup_part check_setup setup_roomy room_verdict setup_verdict read_setup skewed bus_word reception_of is_heard heard_row cause_in entry_of reading_of causes_of aligned_of decision tally vote_of health_of differs_at accusation_of accusations_of syndrome_of voters_of judgement_of charged rewarded awaited accounted accounted_by account_at accounted_at counters_of row_fits own_number_ok own_ok row_ok syndrome_ok rows_roomy counter_ok counters_roomy check_tail roomy state_verdict fresh blank check_opening open_of place_of own_syndrome aligned_for judgement_for outgoing_for after_round refused_step accepted_step read_step step_of cast_ok event_ok play_ok play_refusal event_refusal word_refusal scanned finished scan check_cast check_play check_script none concerns with_event due_after is_play told_view_of events_after gather start advanced last_scan rounds_of differ half heard half_in breaker_in unheard_in within kept_over numeral vector line_with lines_of refused_line round_of faultless arrived words_read bits_read followers_view counting_view hearing_of opened_states opened sent_words sent_views step_at stepped_states answered_health earlier played begun goes_on next_of later printed lines_to output_of left_ok new_test pending_roomy nothing new_word counted_down turned counted books_after view_word_heard view_entry views_read views_seen aligned_views carriers adoptable adopted_from full_views no_views fresh_views views_after view_ok views_roomy found_view voted_views views_for outgoing_view shown_view
 written = record { sheet = refl; refused = refl; half-heard = refl; torn = torn-written }

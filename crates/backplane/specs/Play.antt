@@ -52,13 +52,13 @@ opened s cast =
       kept = true;
     }
 
--- Rule 7: all words of a round hold the syndromes of the round before, those of marked modules too. (A syndrome has no bit at 28 or above; the
+-- Rule 7: all words of a round hold the syndromes of the round before. (A syndrome has no bit at 28 or above; the
 -- remainder keeps the sum a word whatever a state holds.)
 unfoldable pub sent_words : ℕ → List State → List ℕ
 sent_words n states = array n (λ j. bus_word ((state_at states j).latest % kind_unit))
 
--- "Each module also sends its local view as a second word, .. delayed like syndromes": the view words of a round hold the local views of the round before,
--- those of marked modules too. Where the setup is not partitionable nobody reads them. (A view has no bit at 28 or above either.)
+-- "Each module also sends its local view as a second word, .. delayed like syndromes": the view words of a round hold the local views of the round before.
+-- Where the setup is not partitionable nobody reads them. (A view has no bit at 28 or above either.)
 unfoldable pub sent_views : ℕ → List State → List ℕ
 sent_views n states = array n (λ j. view_word ((state_at states j).counters.view % kind_unit))
 

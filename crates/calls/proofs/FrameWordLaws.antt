@@ -1,5 +1,5 @@
--- Two setups in words: whether all but P, R and the criticalities is the same, by their heads and by what stands above the criticalities.
-use mathlib.Core.Path.{◌≡◌, refl, ap, ◌∙◌, sym}
+-- Two setups in words: whether all but P, R and the criticalities is the same, by their heads and by what, but for send marks, stands above the criticalities.
+use mathlib.Core.Path.{◌≡◌, refl, ap, ap₂, ◌∙◌, sym}
 use mathlib.Core.Bool.{Bool, true, false, ◌||◌, true≢false}
 use mathlib.Core.Logic.{⊎_elim}
 use mathlib.Core.List.{List}
@@ -9,21 +9,21 @@ use lib.ListN.{get_or, length}
 use lib.Dec.{eqb}
 use borrow.Author.Tests.{eqb-true, eq-eqb}
 use Rattle.words.specs.Word.{word_at, number_unit}
-use Rattle.words.specs.Bits.{bit, pack}
 use Rattle.words.specs.Count.{all}
-use Rattle.words.proofs.Truth.{iff-eq, or_cases, or-false-l, or-false-r}
+use Rattle.words.proofs.Truth.{which, iff-eq, or_cases, or-false-l, or-false-r}
 use Rattle.words.proofs.BitLaws.{bit-pack, pack-ext}
 use Rattle.words.proofs.ArrayLaws.{array_at}
 use Rattle.words.proofs.CountLaws.{all-at, all-intro}
 use Rattle.setup.specs.Layout.{front_words}
-use Rattle.setup.specs.Setup.{head_word, return_limit_in, partitionable_in, size_in, place_unit, mark_in, place_in, criticality_in, fades_in, front_in, setup_of}
+use Rattle.setup.specs.SendMark.{unmarked}
+use Rattle.setup.specs.Setup.{head_word, return_limit_in, partitionable_in, size_in, place_unit, place_in, criticality_in, fades_in, front_in, setup_of}
 use Rattle.setup.specs.Check.{check_setup}
 use Rattle.setup.specs.declared.Setup.{Setup}
 use Rattle.setup.proofs.WordFields.{head-made}
 use Rattle.setup.proofs.BoundLaws.{read-fades}
 use Rattle.setup.proofs.SetupCheckLaws.{WordsFit, BytesFit, setup-pass}
 use Rattle.changes.specs.Frame.{same_frame}
-use Rattle.changes.proofs.NewMeaning.{upper-place, upper-mark, upper-same, number_is}
+use Rattle.changes.proofs.NewMeaning.{upper-place, upper-same, number_is}
 use Rattle.changes.proofs.PendingLaws.{frame_same, same-frame}
 use Rattle.image.specs.Check.{check_image}
 use Rattle.image.proofs.TailLaws.{ImageFits, image-pass}
@@ -40,12 +40,6 @@ module _ (y : List ℕ) (few : size_in (word_at y 0) ≤ 16) (counts : fades_in 
   place_of j h =
       array_at (size_in (word_at y 0)) (λ i. place_in (word_at y (front_in (word_at y) + i))) j h few
       ∙ ap (λ (b : Bool). place_in (word_at y (front_words b + j))) counts
-
-  pub mark_of : (j : ℕ) → j < size_in (word_at y 0) → bit (setup_of y).marks j ≡ mark_in (word_at y (3 + j))
-  unfolding setup_of
-  mark_of j h =
-      bit-pack (size_in (word_at y 0)) (λ i. mark_in (word_at y (front_in (word_at y) + i))) j h
-      ∙ ap (λ (b : Bool). mark_in (word_at y (front_words b + j))) counts
 
   pub criticality-of : (j : ℕ) → j < size_in (word_at y 0) → get_or (setup_of y).criticality j 0 ≡ criticality_in (word_at y (3 + j))
   unfolding setup_of
@@ -107,27 +101,18 @@ module _ (s x : List ℕ) (ok : (check_image s).number ≡ 0) (good : (check_set
     in-new j h = omega (arith, size)
 
     abbrev upper : ℕ → Bool
-    upper j = eqb (word_at s (3 + j) / place_unit) (word_at x (3 + j) / place_unit)
-
-    marks-same : ((j : ℕ) → j < n → word_at s (3 + j) / place_unit ≡ word_at x (3 + j) / place_unit) → old.marks ≡ new.marks
-    unfolding setup_of
-    marks-same f =
-        pack-ext n (λ j. mark_in (word_at s (front_in (word_at s) + j))) (λ j. mark_in (word_at x (front_in (word_at x) + j)))
-        (λ j h. ap (λ (b : Bool). mark_in (word_at s (front_words b + j))) fs ∙ upper-mark (word_at x (3 + j)) (word_at s (3 + j)) (f j h)
-        ∙ ap (λ (b : Bool). mark_in (word_at x (front_words b + j))) (sym fx))
-        ∙ ap (λ (m : ℕ). pack m (λ j. mark_in (word_at x (front_in (word_at x) + j)))) size
+    upper j = eqb (unmarked (word_at s (3 + j)) / place_unit) (unmarked (word_at x (3 + j)) / place_unit)
 
     same_then : all n upper ≡ true → same_frame old new ≡ true
     unfolding setup_of
     same_then t =
-        let f : (j : ℕ) → j < n → word_at s (3 + j) / place_unit ≡ word_at x (3 + j) / place_unit = λ j h. eqb-true _ _ (all-at n upper t j h) in
+        let f : (j : ℕ) → j < n → unmarked (word_at s (3 + j)) / place_unit ≡ unmarked (word_at x (3 + j)) / place_unit = λ j h. eqb-true _ _ (all-at n upper t j h) in
         same-frame old new (record {
           counts = read-fades (fades_in (word_at s)) (word_at s) ∙ fs;
           counts-new = read-fades (fades_in (word_at x)) (word_at x) ∙ fx;
           size = size;
           q = ap return_limit_in head;
           partitionable = ap partitionable_in head;
-          marks = marks-same f;
           places = λ j h.
               place_of s held.front.most fs j h ∙ upper-place (word_at x (3 + j)) (word_at s (3 + j)) (f j h) ∙ sym (place_of x few fx j (in-new j h));
         })
@@ -139,8 +124,7 @@ module _ (s x : List ℕ) (ok : (check_image s).number ≡ 0) (good : (check_set
         all-intro n upper (λ j h.
         eq-eqb _ _ (upper-same (word_at x (3 + j)) (word_at s (3 + j))
         (number_of s held.front.most fs held.words j h ∙ sym (number_of x few fx asked.words j (in-new j h)))
-        (sym (place_of s held.front.most fs j h) ∙ f.places j h ∙ place_of x few fx j (in-new j h))
-        (sym (mark_of s held.front.most fs j h) ∙ ap (λ (m : ℕ). bit m j) f.marks ∙ mark_of x few fx j (in-new j h))))
+        (sym (place_of s held.front.most fs j h) ∙ f.places j h ∙ place_of x few fx j (in-new j h))))
 
     frame-upper : all n upper ≡ same_frame old new
     frame-upper = iff-eq (all n upper) (same_frame old new) same_then then_same
@@ -156,7 +140,7 @@ module _ (s x : List ℕ) (ok : (check_image s).number ≡ 0) (good : (check_set
       (omega arith, omega (arith, held.size, fs), omega (arith, asked.size, fx, size))
 
   pub frame-words : {a b r : Bool} {u v m : ℕ} → a ≡ fades_in (word_at s) → b ≡ fades_in (word_at x) → a || b ≡ false → u ≡ word_at s 0 → v ≡ word_at x 0 → u ≡ v
-      → m ≡ size_in (word_at s 0) → r ≡ all m (λ j. eqb (word_at s (3 + j) / place_unit) (word_at x (3 + j) / place_unit)) → r ≡ same_frame old new
+      → m ≡ size_in (word_at s 0) → r ≡ all m (λ j. eqb (unmarked (word_at s (3 + j)) / place_unit) (unmarked (word_at x (3 + j)) / place_unit)) → r ≡ same_frame old new
   frame-words {a} {b} ea eb f eu ev e em er =
-      er ∙ ap (λ (m : ℕ). all m (λ j. eqb (word_at s (3 + j) / place_unit) (word_at x (3 + j) / place_unit))) em
+      er ∙ ap (λ (m : ℕ). all m (λ j. eqb (unmarked (word_at s (3 + j)) / place_unit) (unmarked (word_at x (3 + j)) / place_unit))) em
       ∙ frame-upper (sym ea ∙ or-false-l a b f) (sym eb ∙ or-false-r a b f) (sym eu ∙ e ∙ ev)

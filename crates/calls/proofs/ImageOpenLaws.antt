@@ -2,7 +2,7 @@
 use mathlib.Core.Path.{◌≡◌, refl, ap, ap₂, ◌∙◌, sym}
 use mathlib.Core.Bool.{Bool, true, false, cond, ◌||◌}
 use mathlib.Core.List.{List, [], ◌∷◌, ◌++◌}
-use Prim.Native.Nat.{ℕ, ◌+◌, ◌*◌, ◌^◌, ◌<◌, ◌≤◌}
+use Prim.Native.Nat.{ℕ, ◌+◌, ◌-◌, ◌*◌, ◌^◌, ◌<◌, ◌≤◌}
 use native.Mathlib.Omega.{arith}
 use lib.Pow.{pow_mono}
 use lib.Dec.{ltb}
@@ -29,6 +29,7 @@ use Rattle.setup.specs.Check.{check_setup}
 use Rattle.setup.specs.declared.Setup.{Setup}
 use Rattle.setup.proofs.BoundLaws.{read-fades}
 use Rattle.setup.proofs.SetupCheckLaws.{BytesFit, setup-pass}
+use Rattle.setup.specs.SendMark.{unmarked_from}
 use Rattle.setup.proofs.FrontLaws.{setup-written}
 use Rattle.changes.specs.Pending.{nothing}
 use Rattle.changes.specs.Words.{change_runs}
@@ -154,10 +155,10 @@ module _ (s : List ℕ) (ok : (check_setup s).number ≡ 0) where
         unfolding setup_of
         parted-is = et
 
-        bytes-are : ((i : ℕ) → get_or s i 0 < 256) → setup_bytes (setup_of s) ≡ bytes_of (setup_words (front_of (setup_of s)) (setup_of s).n) (word_at s)
+        bytes-are : ((i : ℕ) → get_or s i 0 < 256) → setup_bytes (setup_of s) ≡ bytes_of (setup_words (front_of (setup_of s)) (setup_of s).n) (unmarked_from (front_of (setup_of s)) (setup_of s).n (word_at s))
         bytes-are small =
             setup-written s fits.front fits.words (omega (arith, fits.size)) small
-            ∙ ap₂ (λ (k m : ℕ). bytes_of (setup_words k m) (word_at s)) (sym (read-front s)) (sym en ∙ size_is)
+            ∙ ap₂ (λ (k m : ℕ). bytes_of (setup_words k m) (unmarked_from k m (word_at s))) (sym (read-front s)) (sym en ∙ size_is)
 
         -- nothing is pending: the rounds left are 0
         none_left : (o : List ℕ) → put_runs o (left_at (front_words b) (setup_of s).n) (change_runs (setup_of s) nothing) ≡ put_word o (left_at (front_words b) (setup_of s).n) 0
@@ -190,7 +191,7 @@ module _ (s : List ℕ) (ok : (check_setup s).number ≡ 0) where
             (ap (λ (q : List ℕ). put_runs q (views_at (front_words b) (setup_of s).n 0) (views_of st)) (sym (none_left _)) ∙ lent-state st form-is (first-zeros (setup_of s) own few b) (second-zeros (setup_of s) own few b) few o₁)
 
         pub open_made : {r : Answer} {v k i : ℕ} {rows o₁ o₂ o₃ o₄ : List ℕ} → ((i : ℕ) → get_or s i 0 < 256) → length out ≡ image_length front n 0 t → v ≡ full n
-            → rows ≡ array n (λ j. v) → k ≡ setup_words front n → o₁ ≡ put_run out 0 k (word_at s)
+            → rows ≡ array n (λ j. v) → k ≡ setup_words front n → o₁ ≡ put_run out 0 k (unmarked_from front (k - front) (word_at s))
             → o₂ ≡ put_runs o₁ (own_at (front_words b) n) (one (own_word own v) ∷ row_run n (record { heard = v; rows = rows }) ∷ one (syndrome_word v) ∷ one (syndrome_word v)
             ∷ lent_runs b n (replicate 16 0) (replicate 16 0) (replicate 16 0))
             → i ≡ left_at front n → o₃ ≡ put_word o₂ i 0 → o₄ ≡ put_runs o₃ (views_at front n 0) (views_of st) → r ≡ answer 0 0 0 → called r o₄ ≡ open_call s own out
@@ -199,9 +200,11 @@ module _ (s : List ℕ) (ok : (check_setup s).number ≡ 0) where
             let m = setup_words (front_of (setup_of s)) (setup_of s).n in
             let words : k ≡ m = ek ∙ ap₂ setup_words front-is size_is in
             let room : length out ≡ image_length (front_of (setup_of s)) (setup_of s).n 0 (setup_of s).partitionable = long ∙ (λ i. image_length (front-is i) (size_is i) 0 (parted-is i)) in
-            let put : put_run out 0 m (word_at s) ≡ bytes_of m (word_at s) ++ drop (m * 4) out = put-run [] out 0 m (word_at s) refl (omega arith) in
+            let w = unmarked_from (front_of (setup_of s)) (setup_of s).n (word_at s) in
+            let rest : k - front ≡ (setup_of s).n = omega (arith, ek, size_is) in
+            let put : put_run out 0 m w ≡ bytes_of m w ++ drop (m * 4) out = put-run [] out 0 m w refl (omega arith) in
             let copied : o₁ ≡ setup_bytes (setup_of s) ++ drop (setup_length (front_of (setup_of s)) (setup_of s).n) out =
-            e₁ ∙ ap (λ (i : ℕ). put_run out 0 i (word_at s)) words ∙ put ∙ ap (λ (x : List ℕ). x ++ drop (m * 4) out) (sym (bytes-are small))
+            e₁ ∙ (λ i. put_run out 0 (words i) (unmarked_from (front-is i) (rest i) (word_at s))) ∙ put ∙ ap (λ (x : List ℕ). x ++ drop (m * 4) out) (sym (bytes-are small))
             in
             let written : o₄ ≡ put_runs o₁ (own_at (front_of (setup_of s)) (setup_of s).n) (state_runs st) = sections o₁ e₂ ei e₃ e₄ ev er in
             let image : o₄ ≡ image_of st =

@@ -3,8 +3,10 @@
 use mathlib.Core.Path.{◌≡◌, refl, ap, ap₂, ◌∙◌, sym, subst}
 use mathlib.Core.Bool.{Bool, false, cond, ◌&&◌}
 use mathlib.Core.List.{List, [], ◌++◌, append-nil, append_assoc}
+use mathlib.Core.Logic.{⊎_elim}
 use Prim.Native.Nat.{ℕ, zero, suc, ◌+◌, ◌-◌, ◌*◌, ◌<◌, ◌≤◌}
 use native.Mathlib.Omega.{arith}
+use native.Mathlib.Nat.{eq-zero-or-pos}
 use lib.Dec.{eqb, leb}
 use lib.ListN.{get_or, length, drop, replicate, get_or-replicate, length-drop}
 use lib.Seq.{drop-drop}
@@ -23,7 +25,7 @@ use Rattle.setup.specs.Setup.{head_word, limit_in, module_word, criticality_in, 
 use Rattle.setup.specs.declared.Setup.{Setup}
 use Rattle.setup.specs.declared.Limits.{Limits}
 use Rattle.setup.specs.declared.Limits.TheVariants.{Counts}
-use Rattle.setup.proofs.BoundLaws.{front-most}
+use Rattle.setup.proofs.BoundLaws.{front-least, front-most}
 use Rattle.setup.proofs.SetupWords.{stands}
 use Rattle.setup.proofs.FrontLaws.{setup-written}
 use Rattle.accounts.specs.Account.{counts}
@@ -38,7 +40,12 @@ use Rattle.changes.specs.declared.Pending.{Pending}
 use Rattle.changes.specs.declared.Books.{Books}
 use Rattle.changes.proofs.AdjustLaws.{adjusted-by}
 use Rattle.changes.proofs.NewWords.{first_word, second_word_lem, later-word}
+use Rattle.changes.specs.Words.{unmarked_words}
 use Rattle.changes.proofs.ChangeWords.{change-same}
+use Rattle.setup.specs.SendMark.{unmarked_from}
+use Rattle.words.specs.Count.{any}
+use Rattle.setup.proofs.SendMarkLaws.{front-unmarked, none_found, copied-setup-all}
+use Rattle.image.proofs.UnmarkedLaws.{new-run, without}
 use Rattle.changes.proofs.TurnLaws.{turned-changed, turned-unchanged, turned_left}
 use Rattle.image.specs.Layout.{left_at}
 use Rattle.image.specs.Check.{left_in, check_image}
@@ -126,7 +133,7 @@ unfolding setup_bytes runs_of limit_list
 renewed-bytes s c =
     let e : s.n + 2 ≡ 2 + s.n = omega arith in
     let limits : bytes_of 2 (λ i. get_or (limit_list (Counts c.p c.r)) i 0) ≡ bytes_of 2 (new_word s c) = bytes-ext 2 _ _ two in
-    let later : bytes_of s.n (λ j. module_word j (bit s.marks j) (get_or s.places j 0) (get_or c.criticality j 0)) ≡ bytes_of s.n (λ j. new_word s c (2 + j)) =
+    let later : bytes_of s.n (λ j. module_word j (get_or s.places j 0) (get_or c.criticality j 0)) ≡ bytes_of s.n (λ j. new_word s c (2 + j)) =
     bytes-ext s.n _ _ (λ j h. after j)
     in
     ap (λ (x : List ℕ). bytes_of 1 (λ _. head_word s.q s.partitionable s.n) ++ x)
@@ -137,11 +144,11 @@ renewed-bytes s c =
     two (suc zero) h = second_word_lem s c 1 refl
     two (suc (suc i)) h = absurd (omega arith)
 
-    after : (j : ℕ) → module_word j (bit s.marks j) (get_or s.places j 0) (get_or c.criticality j 0) ≡ new_word s c (2 + j)
+    after : (j : ℕ) → module_word j (get_or s.places j 0) (get_or c.criticality j 0) ≡ new_word s c (2 + j)
     after j =
         let e : j ≡ 2 + j - 2 = omega arith in
-        later-word s c (2 + j) (λ z. omega arith) (λ z. omega arith) refl
-        (ap (λ (i : ℕ). module_word i (bit s.marks i) (get_or s.places i 0) (get_or c.criticality i 0)) e)
+        later-word s c (2 + j) (λ z. omega arith) (λ z. omega arith)
+        (ap (λ (i : ℕ). module_word i (get_or s.places i 0) (get_or c.criticality i 0)) e)
 
 -- the new words are the same, however many rounds are left
 same-words : (s : Setup) (c : Pending) (left i : ℕ) → new_word s c i ≡ new_word s (record { left = left; p = c.p; r = c.r; criticality = c.criticality }) i
@@ -215,15 +222,23 @@ module _ (s : List ℕ) (ok : (check_image s).number ≡ 0) where
   place_is : left_at start size ≡ left_at (front_in (word_at s)) (size_in (word_at s 0))
   place_is = ap₂ left_at start_is size_is
 
-  -- the new words of the image are those that the change is written as
-  new_is : (j : ℕ) → j < new_count size st.pending.left → word_at s (left_at start size + 1 + j) ≡ new_word st.setup st.pending j
-  unfolding state_of setup_of Follows
-  new_is j h =
-      ap (λ (i : ℕ). word_at s (i + 1 + j)) place_is
-      ∙ (change-same s (left_at (front_in (word_at s)) (size_in (word_at s 0))) (image-pass s ok).words (image-pass s ok).front.most (image-pass s ok).tail.change).1.0 j h
-
   some-new : (st.pending.left ≡ 0 → ⊥) → new_count size st.pending.left ≡ size + 2
   some-new f = cond-false _ _ (ne_eqb st.pending.left 0 f)
+
+  -- the new words of the image, without their marks, are those that the change is written as
+  new_is : (st.pending.left ≡ 0 → ⊥) → (j : ℕ) → j < size + 2
+      → unmarked_from 2 size (λ i. word_at s (left_at start size + 1 + i)) j ≡ new_word st.setup st.pending j
+  unfolding state_of setup_of Follows
+  new_is f j h =
+      let k = left_at (front_in (word_at s)) (size_in (word_at s 0)) in
+      let left : st.pending.left ≡ word_at s k = left_is s in
+      ap (λ (i : ℕ). unmarked_from 2 size (λ l. word_at s (i + 1 + l)) j) place_is
+      ∙ sym (new-run (front_in (word_at s)) (size_in (word_at s 0)) (word_at s) (some left) j h)
+      ∙ (change-same s k (unmarked_words (front_in (word_at s)) (size_in (word_at s 0)) k (word_at s)) (image-pass s ok).words (image-pass s ok).front.most (image-pass s ok).tail.change (without s)).1.0 j
+      (omega (arith, some-new f))
+    where
+      some : {k : ℕ} → st.pending.left ≡ k → 0 < k
+      some {k} e = ⊎_elim (λ (z : k ≡ 0). absurd (f (e ∙ z))) (λ (pos : 0 < k). pos) (eq-zero-or-pos k)
 
   -- sizes of an accepted image, and the room of its new words
   pub sizes : {front n : ℕ} → n ≡ size → front ≡ start → (front ≤ 6) × (n ≤ 16)
@@ -275,49 +290,62 @@ module _ (s : List ℕ) (ok : (check_image s).number ≡ 0) where
       one en h.q h.returns e₀ e₁ e₂ e₃
 
   module _ (small : (i : ℕ) → get_or s i 0 < 256) where
-    own-bytes : setup_bytes st.setup ≡ bytes_of (setup_words start size) (word_at s)
+    own-bytes : setup_bytes st.setup ≡ bytes_of (setup_words start size) (unmarked_from start size (word_at s))
     unfolding state_of setup_of
     own-bytes =
         setup-written s (image-pass s ok).front (image-pass s ok).words (omega (arith, (image-pass s ok).size)) small
-        ∙ ap (λ (k : ℕ). bytes_of (setup_words k size) (word_at s)) (sym start_is)
+        ∙ ap (λ (k : ℕ). bytes_of (setup_words k size) (unmarked_from k size (word_at s))) (sym start_is)
 
     head-is : word_at s 0 ≡ head_word st.setup.q st.setup.partitionable size
     head-is =
-        sym (word_of (setup_words start size) (word_at s) 0 (omega (arith, fits.setup.least)))
+        sym (front-unmarked start size (word_at s) 0 (omega (arith, front-least (fades st.setup.limits))))
+        ∙ sym (word_of (setup_words start size) (unmarked_from start size (word_at s)) 0 (omega (arith, fits.setup.least)))
         ∙ ap (λ (x : List ℕ). word_at x 0) (sym own-bytes) ∙ (stands st.setup).head
 
     module _ {front n left : ℕ} (o : List ℕ) (en : n ≡ size) (ef : front ≡ start) (el : left ≡ st.pending.left) where
       -- the setup's own words are copied
-      pub own-copied : {k : ℕ} {o₁ : List ℕ} → (left ≡ 1 → ⊥) → setup_length front n ≤ length o → k ≡ setup_words front n → o₁ ≡ put_run o 0 k (word_at s)
-          → o₁ ≡ setup_bytes (turned books).setup ++ drop (setup_length front n) o
+      pub own-copied : {k : ℕ} {o₁ : List ℕ} → (left ≡ 1 → ⊥) → setup_length front n ≤ length o → k ≡ setup_words front n
+          → o₁ ≡ put_run o 0 k (unmarked_from front (k - front) (word_at s)) → o₁ ≡ setup_bytes (turned books).setup ++ drop (setup_length front n) o
       own-copied {k} f room ek e =
           let m = setup_words front n in
-          let put : put_run o 0 m (word_at s) ≡ bytes_of m (word_at s) ++ drop (m * 4) o = put-run [] o 0 m (word_at s) refl (omega arith) in
-          let same : bytes_of m (word_at s) ≡ setup_bytes (turned books).setup =
-          ap₂ (λ (x y : ℕ). bytes_of (setup_words x y) (word_at s)) ef en ∙ sym own-bytes
+          let w = unmarked_from front n (word_at s) in
+          let rest : k - front ≡ n = omega (arith, ek) in
+          let put : put_run o 0 m w ≡ bytes_of m w ++ drop (m * 4) o = put-run [] o 0 m w refl (omega arith) in
+          let same : bytes_of m w ≡ setup_bytes (turned books).setup =
+          ap₂ (λ (x y : ℕ). bytes_of (setup_words x y) (unmarked_from x y (word_at s))) ef en ∙ sym own-bytes
           ∙ ap (λ (t : Books). setup_bytes t.setup) (sym (turned-unchanged books (λ z. f (el ∙ z))))
           in
-          e ∙ ap (λ (i : ℕ). put_run o 0 i (word_at s)) ek ∙ put ∙ ap (λ (x : List ℕ). x ++ drop (m * 4) o) same
+          e ∙ ap₂ (λ (i j : ℕ). put_run o 0 i (unmarked_from front j (word_at s))) ek rest ∙ put ∙ ap (λ (x : List ℕ). x ++ drop (m * 4) o) same
+
+      -- and where none has the mark, all of them at once
+      pub own-copied-all : {k : ℕ} {marked : Bool} {o₁ : List ℕ} → (left ≡ 1 → ⊥) → setup_length front n ≤ length o → marked ≡ any n (λ j. bit (word_at s (front + j)) 22)
+          → marked ≡ false → k ≡ setup_words front n → o₁ ≡ put_run o 0 k (word_at s) → o₁ ≡ setup_bytes (turned books).setup ++ drop (setup_length front n) o
+      own-copied-all {k} f room em none ek e =
+          let rest : k - front ≡ n = omega (arith, ek) in
+          own-copied f room ek
+          (copied-setup-all o front k (word_at s) (omega (arith, ek)) (λ j h. none_found n (λ i. word_at s (front + i)) em none j (omega (arith, rest))) e)
 
       -- the head is copied, and the new words after it
       pub new-copied : {at : ℕ} {o₁ o₂ : List ℕ} → left ≡ 1 → setup_length front n ≤ length o → at ≡ left_at front n → o₁ ≡ put_run o 0 1 (word_at s)
-          → o₂ ≡ put_run o₁ 1 (n + 2) (λ j. word_at s (at + 1 + j)) → o₂ ≡ setup_bytes (turned books).setup ++ drop (setup_length front n) o
+          → o₂ ≡ put_run o₁ 1 (2 + n) (unmarked_from 2 n (λ j. word_at s (at + 1 + j))) → o₂ ≡ setup_bytes (turned books).setup ++ drop (setup_length front n) o
       new-copied {at} due room ea e₁ e₂ =
           let pos : 0 < st.pending.left = omega (arith, el) in
           let three : front ≡ 3 = three-front ef el due in
           let long : (n + 2 + 1) * 4 ≡ setup_length front n = omega (arith, three) in
           let place : at ≡ left_at start size = ea ∙ ap₂ left_at ef en in
-          let words : bytes_of (n + 2) (λ j. word_at s (at + 1 + j)) ≡ bytes_of (size + 2) (new_word st.setup st.pending) =
-          ap₂ (λ (x m : ℕ). bytes_of (m + 2) (λ j. word_at s (x + 1 + j))) place en
-          ∙ bytes-ext (size + 2) _ _ (λ j h. new_is j (omega (arith, some-new (λ z. omega arith))))
+          let new = unmarked_from 2 n (λ j. word_at s (at + 1 + j)) in
+          let turn : 2 + n ≡ n + 2 = omega arith in
+          let words : bytes_of (n + 2) new ≡ bytes_of (size + 2) (new_word st.setup st.pending) =
+          ap₂ (λ (x m : ℕ). bytes_of (m + 2) (unmarked_from 2 m (λ j. word_at s (x + 1 + j)))) place en
+          ∙ bytes-ext (size + 2) _ _ (λ j h. new_is (λ z. omega arith) j h)
           in
           let head : bytes_of 1 (word_at s) ≡ bytes_of 1 (λ _. head_word st.setup.q st.setup.partitionable size) = bytes-ext 1 _ _ first in
-          let same : bytes_of 1 (word_at s) ++ bytes_of (n + 2) (λ j. word_at s (at + 1 + j)) ≡ setup_bytes (turned books).setup =
+          let same : bytes_of 1 (word_at s) ++ bytes_of (n + 2) new ≡ setup_bytes (turned books).setup =
           ap₂ (λ (x y : List ℕ). x ++ y) head words ∙ sym (renewed-bytes st.setup st.pending)
           ∙ ap (λ (t : Books). setup_bytes t.setup) (sym (turned-changed books (sym el ∙ due)))
           in
-          e₂ ∙ ap (λ (x : List ℕ). put_run x 1 (n + 2) (λ j. word_at s (at + 1 + j))) e₁
-          ∙ two-put o (n + 2) (word_at s) (λ j. word_at s (at + 1 + j)) (omega arith)
+          e₂ ∙ ap₂ (λ (x : List ℕ) (m : ℕ). put_run x 1 m new) e₁ turn
+          ∙ two-put o (n + 2) (word_at s) new (omega arith)
           ∙ ap₂ (λ (x : List ℕ) (m : ℕ). x ++ drop m o) same long
         where
           first : (i : ℕ) → i < 1 → word_at s i ≡ head_word st.setup.q st.setup.partitionable size
@@ -332,7 +360,7 @@ module _ (s : List ℕ) (ok : (check_image s).number ≡ 0) where
         e ∙ ap (λ (i : ℕ). put_word o i 0) ea ∙ sym (none-put (turned books).setup (turned books).pending o (left_at front n) z)
 
     -- one round less, and the new words again
-    pub one_less : {o₁ o₂ : List ℕ} → 2 ≤ left → o₁ ≡ put_word o at (left - 1) → o₂ ≡ put_run o₁ (at + 1) (n + 2) (λ j. word_at s (at + 1 + j))
+    pub one_less : {o₁ o₂ : List ℕ} → 2 ≤ left → o₁ ≡ put_word o at (left - 1) → o₂ ≡ put_run o₁ (at + 1) (2 + n) (unmarked_from 2 n (λ j. word_at s (at + 1 + j)))
         → o₂ ≡ put_runs o (left_at front n) (change_runs (turned books).setup (turned books).pending)
     one_less {o₁} {o₂} many e₁ e₂ =
         let c = st.pending in
@@ -340,9 +368,11 @@ module _ (s : List ℕ) (ok : (check_image s).number ≡ 0) where
         let down : counted_down c ≡ next = down_is c (omega (arith, el)) in
         let put = less-put st.setup c o at (c.left - 1) (λ z. omega (arith, el)) in
         let place : at ≡ left_at start size = ea ∙ ap₂ left_at ef en in
-        let words : put_run o₁ (at + 1) (n + 2) (λ j. word_at s (at + 1 + j)) ≡ put_run o₁ (at + 1) (n + 2) (new_word st.setup c) =
-        put-ext o₁ (at + 1) (n + 2) _ _
-        (λ j h. ap (λ (x : ℕ). word_at s (x + 1 + j)) place ∙ new_is j (omega (arith, some-new (λ z. omega (arith, el)))))
+        let turn : 2 + n ≡ n + 2 = omega arith in
+        let words : put_run o₁ (at + 1) (2 + n) (unmarked_from 2 n (λ j. word_at s (at + 1 + j))) ≡ put_run o₁ (at + 1) (n + 2) (new_word st.setup c) =
+        ap (λ (m : ℕ). put_run o₁ (at + 1) m (unmarked_from 2 n (λ j. word_at s (at + 1 + j)))) turn
+        ∙ put-ext o₁ (at + 1) (n + 2) _ _
+        (λ j h. ap₂ (λ (x m : ℕ). unmarked_from 2 m (λ i. word_at s (x + 1 + i)) j) place en ∙ new_is (λ z. omega (arith, el)) j (omega (arith, en)))
         in
         e₂ ∙ words ∙ ap₂ (λ (x : List ℕ) (m : ℕ). put_run x (at + 1) (m + 2) (new_word st.setup c)) (e₁ ∙ ap (λ (l : ℕ). put_word o at (l - 1)) el) en
         ∙ put ∙ ap (λ (i : ℕ). put_runs o i (change_runs st.setup next)) ea

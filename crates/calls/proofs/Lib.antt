@@ -7,9 +7,11 @@ pub mod Refusals
 pub mod ImageOpenLaws
 pub mod FrameWordLaws
 pub mod ChangedImageLaws
+pub mod SavedImageLaws
 pub mod ChangeCallLaws
 pub mod OutgoingImage
 pub mod ReturnCases
 pub mod Cases
 pub mod NewLimitCases
 pub mod TornCases
+pub mod MarkCases

@@ -5,41 +5,35 @@ use mathlib.Core.List.{List}
 use Prim.Native.Nat.{ℕ, ◌+◌, ◌-◌, ◌*◌, ◌^◌, ◌≤◌, ◌<◌}
 use native.Mathlib.Omega.{arith}
 use lib.Dec.{eqb, ltb}
-use lib.ListN.{length, get_or}
+use lib.ListN.{length, get_or, take, drop}
 use lib.Pow.{pow_mono}
 use borrow.Author.Tests.{eq-eqb, ne_eqb, eqb-true, eqb-false, not-true, not-false, lt-ltb, le-ltb}
 use Rattle.words.specs.Word.{word_at}
-use Rattle.words.specs.Bits.{bit, pack}
-use Rattle.words.proofs.BitLaws.{bit-pack}
+use Rattle.words.specs.Bits.{bit}
 use Rattle.rules.specs.Hearing.{bus_word, reception_of, heard_row, cause_in}
 use Rattle.rules.specs.declared.Reading.{Reading}
+use Rattle.rules.proofs.ReceptionLaws.{below-kind}
 use Rattle.rules.specs.declared.Reception.{Reception}
-use Rattle.rules.specs.Syndrome.{outgoing_of}
 use Rattle.words.proofs.Truth.{cond-true, cond-false, cond_both}
 use Rattle.words.specs.Verdict.{is_accepted, between, all_right}
 use Rattle.setup.specs.Layout.{front_words}
 use Rattle.setup.specs.Limits.{fades}
-use Rattle.setup.specs.Setup.{size_in, partitionable_in, mark_in, fades_in, front_in, front_of, setup_of}
+use Rattle.setup.specs.Setup.{size_in, partitionable_in, fades_in, front_in, front_of, setup_of}
 use Rattle.setup.proofs.BoundLaws.{front-most, read-fades}
-use Rattle.words.proofs.VerdictLaws.{Passed, between-of}
+use Rattle.words.proofs.VerdictLaws.{between-of}
 use Rattle.setup.specs.Check.{check_setup}
 use Rattle.words.specs.declared.Verdict.{Verdict}
 use Rattle.changes.specs.Books.{counted, books_after}
-use Rattle.changes.proofs.TurnLaws.{turned-partitionable, turned-marks}
+use Rattle.changes.proofs.TurnLaws.{turned-partitionable}
 use Rattle.changes.proofs.ChangeWords.{read_left}
-use Rattle.changes.proofs.SectionTests.{new-most}
 use Rattle.views.specs.ViewWord.{view_word, read_words}
-use Rattle.views.specs.Views.{no_views, views_after}
-use Rattle.views.specs.Section.{view_tests, views_in}
-use Rattle.views.specs.declared.Views.{Views}
-use Rattle.views.proofs.ViewWords.{ViewWordsRight, passed-right}
-use Rattle.image.specs.Layout.{own_at, latest_at, earlier_at, left_at, before_left, views_at, image_length}
-use Rattle.image.specs.Words.{own_in, syndrome_in}
+use Rattle.image.specs.Layout.{own_at, latest_at, left_at, before_left, image_length}
+use Rattle.image.specs.Words.{view_in, syndrome_in}
 use Rattle.image.specs.Check.{left_in, image_tests, image_size, check_image}
 use Rattle.image.proofs.ImageAnswers.{size_fits, by-words}
 use Rattle.image.proofs.TailLaws.{ImageFits, image-pass, image-zero}
 use Rattle.presence.specs.Valid.{Valid}
-use Rattle.presence.specs.Step.{mark_of, read_length, judgement_for, outgoing_for, books_of, voted_views, views_for, outgoing_view, after_round, accepted_step, step_of}
+use Rattle.presence.specs.Step.{read_length, judgement_for, outgoing_for, books_of, voted_views, views_for, outgoing_view, after_round, accepted_step, step_of}
 use Rattle.presence.specs.Image.{image_of, state_of, state_length, room_for, room_after}
 use Rattle.calls.specs.Calls.{answer, called, refused_call, wrote, open_call, step_call, save_call, handed_out, outgoing_call, view_handed_out, outgoing_view_call, refused_cause, cause_call}
 use Rattle.presence.specs.declared.State.{State}
@@ -49,7 +43,6 @@ use Rattle.calls.specs.declared.CauseAnswer.{CauseAnswer}
 use Rattle.presence.specs.declared.Stepped.{Stepped}
 use Rattle.presence.proofs.StateRoundLaws.{not-between, is-between}
 use Rattle.presence.proofs.ImageState.{view_in_lem, image-state, load-valid}
-use Rattle.presence.proofs.RoundTrip.{written_read}
 
 -- a refusal by the verdict v, answered by what was found of it
 refused-by : {v w : Verdict} (out : List ℕ) → v ≡ w → called (answer v.number v.index 0) out ≡ refused_call w.number w.index out
@@ -105,24 +98,16 @@ read-long s en et ek = ap (λ (m : ℕ). m * 4) (ek ∙ ap₂ read_words et (sym
 
 -- ---- the word to put on the bus
 
--- The word that a step hands out is told by the state that it leaves: a marked module delays its syndrome once.
+-- the word that a step hands out is told by the state that it leaves
 pub handed_out_lem : (st : State) (this : Reading) (seen causes : List ℕ) → (accepted_step st this seen causes).word ≡ handed_out (accepted_step st this seen causes).state
-unfolding accepted_step outgoing_for outgoing_of handed_out after_round books_after counted mark_of
-handed_out_lem st this seen causes =
-    ap (λ (marks : ℕ). bus_word (cond (bit marks (st.own - 1)) st.latest (judgement_for st this).syndrome)) (sym (turned-marks (books_of st)))
+unfolding accepted_step outgoing_for handed_out after_round
+handed_out_lem st this seen causes = refl
 
 -- and so is its view word
-delayed : (t mark : Bool) (v : Views) (view : ℕ) → cond t (view_word (cond mark v.earlier view)) 0 ≡ cond t (view_word (cond mark (cond t v no_views).earlier view)) 0
-delayed true mark v view = refl
-delayed false mark v view = refl
-
 pub view-handed-out : (st : State) (this : Reading) (seen causes : List ℕ) → (accepted_step st this seen causes).second ≡ view_handed_out (accepted_step st this seen causes).state
-unfolding accepted_step outgoing_view view_handed_out after_round books_after counted mark_of views_for views_after
+unfolding accepted_step outgoing_view view_handed_out after_round books_after counted
 view-handed-out st this seen causes =
-    let next = after_round st this seen in
-    delayed st.setup.partitionable (bit st.setup.marks (st.own - 1)) (views_after st.setup.n st.views (voted_views st seen) seen st.counters.view) next.counters.view
-    ∙ ap₂ (λ (t : Bool) (marks : ℕ). cond t (view_word (cond (bit marks (st.own - 1)) next.views.earlier next.counters.view)) 0)
-    (sym (turned-partitionable (books_of st))) (sym (turned-marks (books_of st)))
+    ap (λ (t : Bool). cond t (view_word (after_round st this seen).counters.view) 0) (sym (turned-partitionable (books_of st)))
 
 -- the words before those of the modules, by the second word
 pub front_by : {b : Bool} {front : ℕ} (s : List ℕ) → b ≡ fades_in (word_at s) → front ≡ front_words b → front ≡ front_in (word_at s)
@@ -135,85 +120,36 @@ section-asked s f e most n = (most, omega (arith, f.front.most), omega (arith, f
 
 -- n is the size
 module _ (s : List ℕ) (f : ImageFits s) {n front : ℕ} (en : n ≡ size_in (word_at s 0)) (ef : front ≡ front_in (word_at s)) where
-  -- own is the own number, and wm the word of the module itself
-  module _ {own : ℕ} (eo : own ≡ own_in (word_at s (own_at front n))) where
-    own_is : own ≡ own_in (word_at s (own_at (front_in (word_at s)) (size_in (word_at s 0))))
-    own_is = eo ∙ ap₂ (λ (k m : ℕ). own_in (word_at s (own_at k m))) ef en
+  -- wl is the latest syndrome
+  latest-is : {wl : ℕ} → wl ≡ syndrome_in (word_at s (latest_at front n)) → wl ≡ (state_of s).latest
+  unfolding state_of
+  latest-is el = el ∙ ap₂ (λ (k m : ℕ). syndrome_in (word_at s (latest_at k m))) ef en
 
-    pub own-in-range : (1 ≤ own) × (own ≤ n)
-    unfolding state_of setup_of
-    own-in-range =
-        let g = image-state s f in
-        (omega (arith, own_is, g.first), omega (arith, own_is, g.last, en))
+  pub latest-small : {wl : ℕ} → wl ≡ syndrome_in (word_at s (latest_at front n)) → wl < 2 ^ 28
+  unfolding state_of setup_of
+  latest-small el =
+      let g = image-state s f in
+      subst (λ (x : ℕ). x < 2 ^ 28) (sym (latest-is el)) (below-kind (size_in (word_at s 0)) _ f.front.most g.latest)
 
-    -- the mark of a module, as its own word in the image has it
-    pub mark_made : {wm : ℕ} {mark : Bool} → wm ≡ word_at s (front + own - 1) → mark ≡ bit wm 22 → mark ≡ mark_of (state_of s)
-    unfolding mark_of state_of setup_of
-    mark_made em eb =
-        let r = own-in-range in
-        let i : front + own - 1 ≡ front_in (word_at s) + (own - 1) = omega (arith, r.0, ef) in
-        let h : own - 1 < size_in (word_at s 0) = omega (arith, r.0, r.1, en) in
-        eb ∙ ap (λ (w : ℕ). bit w 22) (em ∙ ap (word_at s) i)
-        ∙ sym (bit-pack (size_in (word_at s 0)) (λ j. mark_in (word_at s (front_in (word_at s) + j))) (own - 1) h)
-        ∙ ap (λ (k : ℕ). bit (pack (size_in (word_at s 0)) (λ j. mark_in (word_at s (front_in (word_at s) + j)))) (k - 1)) own_is
+  pub word_made : {wl r : ℕ} → wl ≡ syndrome_in (word_at s (latest_at front n)) → r ≡ bus_word wl → r ≡ handed_out (state_of s)
+  unfolding handed_out
+  word_made el h = h ∙ ap bus_word (latest-is el)
 
-  -- we and wl are the two syndromes
-  pub word_made : {we wl r : ℕ} {mark : Bool} → mark ≡ mark_of (state_of s) → we ≡ syndrome_in (word_at s (earlier_at front n))
-      → wl ≡ syndrome_in (word_at s (latest_at front n)) → r ≡ outgoing_of mark we wl → r ≡ handed_out (state_of s)
-  unfolding handed_out outgoing_of state_of
-  word_made {mark = mark} b ee el h =
-      h
-      ∙ ap₂ (λ (x y : ℕ). bus_word (cond mark x y)) (ee ∙ ap₂ (λ (k m : ℕ). syndrome_in (word_at s (earlier_at k m))) ef en)
-      (el ∙ ap₂ (λ (k m : ℕ). syndrome_in (word_at s (latest_at k m))) ef en)
-      ∙ ap (λ (x : Bool). bus_word (cond x (state_of s).earlier (state_of s).latest)) b
+  -- wv is the latest local view
+  view-is : {wv : ℕ} → wv ≡ view_in (word_at s (own_at front n)) → wv ≡ (state_of s).counters.view
+  unfolding state_of
+  view-is ev = ev ∙ ap₂ (λ (k m : ℕ). view_in (word_at s (own_at k m))) ef en ∙ sym (view_in_lem (fades_in (word_at s)) s (size_in (word_at s 0)))
 
-  -- ---- the view word
+  pub view-small : {wv : ℕ} → wv ≡ view_in (word_at s (own_at front n)) → wv < 2 ^ 28
+  unfolding state_of setup_of
+  view-small ev =
+      let g = image-state s f in
+      subst (λ (x : ℕ). x < 2 ^ 28) (sym (view-is ev)) (below-kind (size_in (word_at s 0)) _ f.front.most g.view)
 
-  -- of a setup with head bit 5: the views stand from `at` on
-  module _ {left at : ℕ} (parted : partitionable_in (word_at s 0) ≡ true) (el : left ≡ word_at s (left_at front n)) (ea : at ≡ views_at front n left) where
-    at-is : at ≡ views_at (front_in (word_at s)) (size_in (word_at s 0)) (left_in s)
-    at-is = ea ∙ (λ i. views_at (ef i) (en i) ((el ∙ ap₂ (λ (k m : ℕ). word_at s (left_at k m)) ef en) i))
-
-    right : ViewWordsRight (word_at s) n (state_of s).counters.view at
-    unfolding state_of
-    right =
-        subst (λ (m : ℕ). ViewWordsRight (word_at s) m (state_of s).counters.view at) (sym en)
-        (subst (λ (k : ℕ). ViewWordsRight (word_at s) (size_in (word_at s 0)) (state_of s).counters.view k) (sym at-is)
-        (passed-right (word_at s) (size_in (word_at s 0)) _ _
-        (subst (λ (b : Bool). Passed (view_tests b (word_at s) (size_in (word_at s 0)) (state_of s).counters.view (views_at (front_in (word_at s)) (size_in (word_at s 0)) (left_in s)))) parted
-        (subst (λ (v : ℕ). Passed (view_tests (partitionable_in (word_at s 0)) (word_at s) (size_in (word_at s 0)) v (views_at (front_in (word_at s)) (size_in (word_at s 0)) (left_in s))))
-        (sym (view_in_lem (fades_in (word_at s)) s (size_in (word_at s 0)))) f.tail.views))))
-
-    -- there are so many words
-    pub views-room : (at < 2 ^ 16) × ((at + n + 4) * 4 ≤ length s)
-    views-room =
-        let long : length s ≡ image_length (front_in (word_at s)) (size_in (word_at s 0)) (left_in s) true =
-        f.size ∙ ap (image_length (front_in (word_at s)) (size_in (word_at s 0)) (left_in s)) parted
-        in (
-          omega (arith, at-is, new-most (size_in (word_at s 0)) (left_in s), front-most (fades_in (word_at s)), f.front.most),
-          omega (arith, at-is, long, en),
-        )
-
-    pub view-small : {v we wl : ℕ} (mark : Bool) → we ≡ word_at s (at + n + 1) → wl ≡ word_at s (at + n) → v ≡ cond mark we wl → v < 2 ^ 28
-    unfolding state_of setup_of
-    view-small {v} {we} {wl} mark ee el' h =
-        let small = pow_mono {i = n} {j = 28} (omega (arith, en, f.front.most)) in
-        let r = right in
-        let g = (image-state s f).view in
-        let low : word_at s (at + n) < 2 ^ n = rw (r.newest, en) g in
-        subst (λ (x : ℕ). x < 2 ^ 28) (sym h)
-        (cond_both (λ (x : ℕ). x < 2 ^ 28) mark we wl (omega (arith, ee, r.earlier)) (omega (arith, el')))
-
-    pub view_made : {we wl v r : ℕ} {mark : Bool} → mark ≡ mark_of (state_of s) → we ≡ word_at s (at + n + 1)
-        → wl ≡ word_at s (at + n) → v ≡ cond mark we wl → r ≡ view_word v → r ≡ view_handed_out (state_of s)
-    unfolding view_handed_out state_of views_in
-    view_made {mark = mark} b ee el' ev h =
-        let earlier : word_at s (at + n + 1) ≡ (state_of s).views.earlier =
-        ap₂ (λ (k m : ℕ). word_at s (k + m + 1)) at-is en
-        ∙ sym (ap (λ (b : Bool). (views_in b s (size_in (word_at s 0)) (views_at (front_in (word_at s)) (size_in (word_at s 0)) (left_in s))).earlier) parted)
-        in
-        h ∙ ap view_word (ev ∙ ap₂ (λ (x y : ℕ). cond mark x y) (ee ∙ earlier) (el' ∙ right.newest) ∙ ap (λ (x : Bool). cond x (state_of s).views.earlier (state_of s).counters.view) b)
-        ∙ sym (cond-true _ _ (read-parted s ∙ parted))
+  -- of a setup with head bit 5
+  pub view_made : {wv r : ℕ} → partitionable_in (word_at s 0) ≡ true → wv ≡ view_in (word_at s (own_at front n)) → r ≡ view_word wv → r ≡ view_handed_out (state_of s)
+  unfolding view_handed_out
+  view_made parted ev h = h ∙ ap view_word (view-is ev) ∙ sym (cond-true _ _ (read-parted s ∙ parted))
 
 -- a setup without head bit 5 has none
 pub no-view-made : (s : List ℕ) → partitionable_in (word_at s 0) ≡ false → 0 ≡ view_handed_out (state_of s)
@@ -355,11 +291,10 @@ module _ (image out : List ℕ) (z : (check_image image).number ≡ 0) where
   unfolding room_after
   after-no-room e f = ne_eqb (length out) _ (λ l. f (l ∙ sym e))
 
-  -- saving copies the bytes
-  pub copy-wrote : {v : Verdict} {r : Answer} {b : List ℕ} → v ≡ check_image image → r ≡ answer 0 0 0 → ((i : ℕ) → get_or image i 0 < 256)
-      → length out ≡ length image → b ≡ image → called r b ≡ save_call image out
-  copy-wrote {v} {r} {b} e q small l w =
-      save-wrote image out e q (ap (λ (x : Verdict). x.number) e ∙ z) (same-room l) (w ∙ sym (written_read image z small))
+  -- saving writes its state again
+  pub saved : {v : Verdict} {r : Answer} {b : List ℕ} → v ≡ check_image image → r ≡ answer 0 0 0 → length out ≡ length image → b ≡ image_of (state_of image)
+      → called r b ≡ save_call image out
+  saved e q l w = save-wrote image out e q (ap (λ (x : Verdict). x.number) e ∙ z) (same-room l) w
 
 -- ---- reading one word
 
@@ -374,7 +309,7 @@ module _ (n controller word : ℕ) where
         let (h, l) = is-between 2 16 n f in
         between-of 2 16 n h l
 
-    pub cause-small : n < 32
+    pub cause-small : n ≤ 28
     cause-small =
         let (h, l) = is-between 2 16 n f in
         omega arith

@@ -15,7 +15,6 @@ use Rattle.rules.proofs.Causes.{zero-heard}
 use Rattle.setup.specs.Setup.{partitionable_in, setup_of}
 use Rattle.views.specs.ViewWord.{view_word, view_word_heard}
 use Rattle.image.specs.Check.{check_image}
-use Rattle.presence.specs.Step.{mark_of}
 use Rattle.presence.specs.Image.{state_of}
 use Rattle.presence.specs.declared.State.{State}
 use Rattle.presence.proofs.ValidLaws.{StateFits, valid-fits}
@@ -44,8 +43,7 @@ module _ (image : List ℕ) (z : (outgoing_call image).number ≡ 0) where
   handed : word_heard st.setup.n (handed_out st) ≡ true
   unfolding handed_out
   handed =
-      bus-heard st.setup.n _ fits.setup.most
-      (cond_both (λ v. v < 2 ^ st.setup.n) (mark_of st) st.earlier st.latest fits.earlier fits.latest)
+      bus-heard st.setup.n _ fits.setup.most fits.latest
 
   word-is : (outgoing_call image).word ≡ handed_out st
   unfolding outgoing_call
@@ -79,8 +77,7 @@ module _ (image : List ℕ) where
   heard-view t z =
       let v = load-valid image z in
       ap (view_word_heard (size_of image)) (view-is z ∙ cond-true _ _ t)
-      ∙ cond_both (λ (w : ℕ). view_word_heard (size_of image) (view_word w) ≡ true) (mark_of held) held.views.earlier held.counters.view
-      (outgoing-words.view-earlier held t v) (outgoing-words.view-latest held v)
+      ∙ outgoing-words.view-latest held v
 
   without-view : partitionable_in (word_at image 0) ≡ false → (outgoing_view_call image).word ≡ 0
   unfolding outgoing_view_call view_handed_out state_of setup_of

@@ -441,7 +441,7 @@ module _ (ns : List ℕ) where
     head : (fits : Bool) → all_among ns (head_tests s fits) ≡ true
     counts : all_among ns (limit_tests false (word_at s)) ≡ true
     fading : all_among ns (limit_tests true (word_at s)) ≡ true
-    modules : (front n : ℕ) → all_among ns (module_tests (word_at s) front n 5 ∷ module_tests (word_at s) front n 6 ∷ []) ≡ true
+    modules : (front n : ℕ) → all_among ns (module_tests (word_at s) front n ∷ []) ≡ true
 
   limit-numbers : (s : List ℕ) → Numbers s → (b : Bool) → all_among ns (limit_tests b (word_at s)) ≡ true
   limit-numbers s h true = h.fading
@@ -450,7 +450,7 @@ module _ (ns : List ℕ) where
   word-numbers : (s : List ℕ) → Numbers s → (n : ℕ) → all_among ns (word_tests s n) ≡ true
   word-numbers s h n =
       let b = fades_in (word_at s) in
-      among-join (limit_tests b (word_at s)) (module_tests (word_at s) (front_words b) n 5 ∷ module_tests (word_at s) (front_words b) n 6 ∷ []) (limit-numbers s h b) (h.modules (front_words b) n)
+      among-join (limit_tests b (word_at s)) (module_tests (word_at s) (front_words b) n ∷ []) (limit-numbers s h b) (h.modules (front_words b) n)
 
   among-setup : (s : List ℕ) → Numbers s → Among (check_setup s).number
   unfolding check_setup check_head check_words
@@ -473,37 +473,37 @@ numbered : (ns : List ℕ) {c : Called} (v : Verdict) (health : ℕ) (st : State
     → one_of ns v.number ≡ true → one_of ns c.answer.number ≡ true
 numbered ns v health st out e h = ap (λ (c : Called). one_of ns c.answer.number) e ∙ ap (one_of ns) (answered v health st out) ∙ h
 
-setup-numbers : (setup : List ℕ) → one_of (0 ∷ 1 ∷ 2 ∷ 3 ∷ 4 ∷ 5 ∷ 6 ∷ 22 ∷ []) (check_call setup).number ≡ true
+setup-numbers : (setup : List ℕ) → one_of (0 ∷ 1 ∷ 2 ∷ 3 ∷ 4 ∷ 5 ∷ 22 ∷ []) (check_call setup).number ≡ true
 unfolding check_call one_of all_among
-setup-numbers setup = among-setup (0 ∷ 1 ∷ 2 ∷ 3 ∷ 4 ∷ 5 ∷ 6 ∷ 22 ∷ []) setup (record { zero = refl; head = λ _. refl; counts = refl; fading = refl; modules = λ _ _. refl })
+setup-numbers setup = among-setup (0 ∷ 1 ∷ 2 ∷ 3 ∷ 4 ∷ 5 ∷ 22 ∷ []) setup (record { zero = refl; head = λ _. refl; counts = refl; fading = refl; modules = λ _ _. refl })
 
 opening-numbers : (setup : List ℕ) (own : ℕ) (out : List ℕ)
-    → one_of (0 ∷ 1 ∷ 2 ∷ 3 ∷ 4 ∷ 5 ∷ 6 ∷ 7 ∷ 9 ∷ 22 ∷ []) (open_call setup own out).answer.number ≡ true
+    → one_of (0 ∷ 1 ∷ 2 ∷ 3 ∷ 4 ∷ 5 ∷ 7 ∷ 9 ∷ 22 ∷ []) (open_call setup own out).answer.number ≡ true
 unfolding open_verdict one_of all_among
 opening-numbers setup own out =
-    let ns : List ℕ = 0 ∷ 1 ∷ 2 ∷ 3 ∷ 4 ∷ 5 ∷ 6 ∷ 7 ∷ 9 ∷ 22 ∷ [] in
+    let ns : List ℕ = 0 ∷ 1 ∷ 2 ∷ 3 ∷ 4 ∷ 5 ∷ 7 ∷ 9 ∷ 22 ∷ [] in
     numbered ns (open_verdict setup own out) 0 (fresh (setup_of setup) own) out (opening setup own out)
     (among_then ns (check_setup setup) _ (among-setup ns setup (record { zero = refl; head = λ _. refl; counts = refl; fading = refl; modules = λ _ _. refl }))
     (among-all ns (single (between 1 (size_of setup) own) 7 0 ∷ single (has_room setup 0 out) 9 0 ∷ []) refl refl))
 
 step-numbers : (image read : List ℕ) (controller : ℕ) (out : List ℕ)
-    → one_of (0 ∷ 1 ∷ 2 ∷ 3 ∷ 4 ∷ 5 ∷ 6 ∷ 7 ∷ 8 ∷ 9 ∷ 10 ∷ 22 ∷ []) (step_call image read controller out).answer.number ≡ true
+    → one_of (0 ∷ 1 ∷ 2 ∷ 3 ∷ 4 ∷ 5 ∷ 7 ∷ 8 ∷ 9 ∷ 10 ∷ 22 ∷ []) (step_call image read controller out).answer.number ≡ true
 unfolding step_verdict one_of all_among
 step-numbers image read controller out =
-    let ns : List ℕ = 0 ∷ 1 ∷ 2 ∷ 3 ∷ 4 ∷ 5 ∷ 6 ∷ 7 ∷ 8 ∷ 9 ∷ 10 ∷ 22 ∷ [] in
+    let ns : List ℕ = 0 ∷ 1 ∷ 2 ∷ 3 ∷ 4 ∷ 5 ∷ 7 ∷ 8 ∷ 9 ∷ 10 ∷ 22 ∷ [] in
     numbered ns (step_verdict image read controller out) _ _ out (step image read controller out)
     (among_then ns (check_image image) _ (among-image ns image (record { zero = refl; head = λ _. refl; counts = refl; fading = refl; modules = λ _ _. refl }) tails)
     (among-all ns (single (has_room image (left_in image - 1) out && has_words image read) 9 0 ∷ single (ltb controller (2 ^ size_of image)) 10 0 ∷ []) refl refl))
   where
-    tails : (b : Bool) (n : ℕ) → all_among (0 ∷ 1 ∷ 2 ∷ 3 ∷ 4 ∷ 5 ∷ 6 ∷ 7 ∷ 8 ∷ 9 ∷ 10 ∷ 22 ∷ []) (tail_tests b (word_at image) n) ≡ true
-    tails true n = view-numbers (0 ∷ 1 ∷ 2 ∷ 3 ∷ 4 ∷ 5 ∷ 6 ∷ 7 ∷ 8 ∷ 9 ∷ 10 ∷ 22 ∷ []) (partitionable_in (word_at image 0)) refl (word_at image) n _ _
-    tails false n = view-numbers (0 ∷ 1 ∷ 2 ∷ 3 ∷ 4 ∷ 5 ∷ 6 ∷ 7 ∷ 8 ∷ 9 ∷ 10 ∷ 22 ∷ []) (partitionable_in (word_at image 0)) refl (word_at image) n _ _
+    tails : (b : Bool) (n : ℕ) → all_among (0 ∷ 1 ∷ 2 ∷ 3 ∷ 4 ∷ 5 ∷ 7 ∷ 8 ∷ 9 ∷ 10 ∷ 22 ∷ []) (tail_tests b (word_at image) n) ≡ true
+    tails true n = view-numbers (0 ∷ 1 ∷ 2 ∷ 3 ∷ 4 ∷ 5 ∷ 7 ∷ 8 ∷ 9 ∷ 10 ∷ 22 ∷ []) (partitionable_in (word_at image 0)) refl (word_at image) n _ _
+    tails false n = view-numbers (0 ∷ 1 ∷ 2 ∷ 3 ∷ 4 ∷ 5 ∷ 7 ∷ 8 ∷ 9 ∷ 10 ∷ 22 ∷ []) (partitionable_in (word_at image 0)) refl (word_at image) n _ _
 
 change-numbers : (image new : List ℕ) (lead : ℕ) (out : List ℕ)
-    → one_of (0 ∷ 1 ∷ 2 ∷ 3 ∷ 4 ∷ 5 ∷ 6 ∷ 7 ∷ 8 ∷ 9 ∷ 22 ∷ 23 ∷ 24 ∷ []) (change_call image new lead out).answer.number ≡ true
+    → one_of (0 ∷ 1 ∷ 2 ∷ 3 ∷ 4 ∷ 5 ∷ 7 ∷ 8 ∷ 9 ∷ 22 ∷ 23 ∷ 24 ∷ []) (change_call image new lead out).answer.number ≡ true
 unfolding changing_verdict one_of all_among
 change-numbers image new lead out =
-    let ns : List ℕ = 0 ∷ 1 ∷ 2 ∷ 3 ∷ 4 ∷ 5 ∷ 6 ∷ 7 ∷ 8 ∷ 9 ∷ 22 ∷ 23 ∷ 24 ∷ [] in
+    let ns : List ℕ = 0 ∷ 1 ∷ 2 ∷ 3 ∷ 4 ∷ 5 ∷ 7 ∷ 8 ∷ 9 ∷ 22 ∷ 23 ∷ 24 ∷ [] in
     numbered ns (changing_verdict image new lead out) 0 _ out (changing image new lead out)
     (among_then ns (check_image image) _ (among-image ns image (record { zero = refl; head = λ _. refl; counts = refl; fading = refl; modules = λ _ _. refl }) tails)
     (among_then ns (check_setup new) _ (among-setup ns new (record { zero = refl; head = λ _. refl; counts = refl; fading = refl; modules = λ _ _. refl }))
@@ -511,32 +511,32 @@ change-numbers image new lead out =
     (single (same_frame (setup_of image) (setup_of new)) 23 0 ∷ single (eqb (left_in image) 0 && between 1 most_lead lead) 24 0 ∷ single (has_room image lead out) 9 0 ∷ [])
     refl refl)))
   where
-    tails : (b : Bool) (n : ℕ) → all_among (0 ∷ 1 ∷ 2 ∷ 3 ∷ 4 ∷ 5 ∷ 6 ∷ 7 ∷ 8 ∷ 9 ∷ 22 ∷ 23 ∷ 24 ∷ []) (tail_tests b (word_at image) n) ≡ true
-    tails true n = view-numbers (0 ∷ 1 ∷ 2 ∷ 3 ∷ 4 ∷ 5 ∷ 6 ∷ 7 ∷ 8 ∷ 9 ∷ 22 ∷ 23 ∷ 24 ∷ []) (partitionable_in (word_at image 0)) refl (word_at image) n _ _
-    tails false n = view-numbers (0 ∷ 1 ∷ 2 ∷ 3 ∷ 4 ∷ 5 ∷ 6 ∷ 7 ∷ 8 ∷ 9 ∷ 22 ∷ 23 ∷ 24 ∷ []) (partitionable_in (word_at image 0)) refl (word_at image) n _ _
+    tails : (b : Bool) (n : ℕ) → all_among (0 ∷ 1 ∷ 2 ∷ 3 ∷ 4 ∷ 5 ∷ 7 ∷ 8 ∷ 9 ∷ 22 ∷ 23 ∷ 24 ∷ []) (tail_tests b (word_at image) n) ≡ true
+    tails true n = view-numbers (0 ∷ 1 ∷ 2 ∷ 3 ∷ 4 ∷ 5 ∷ 7 ∷ 8 ∷ 9 ∷ 22 ∷ 23 ∷ 24 ∷ []) (partitionable_in (word_at image 0)) refl (word_at image) n _ _
+    tails false n = view-numbers (0 ∷ 1 ∷ 2 ∷ 3 ∷ 4 ∷ 5 ∷ 7 ∷ 8 ∷ 9 ∷ 22 ∷ 23 ∷ 24 ∷ []) (partitionable_in (word_at image 0)) refl (word_at image) n _ _
 
-saving-numbers : (image out : List ℕ) → one_of (0 ∷ 1 ∷ 2 ∷ 3 ∷ 4 ∷ 5 ∷ 6 ∷ 7 ∷ 8 ∷ 9 ∷ 22 ∷ []) (save_call image out).answer.number ≡ true
+saving-numbers : (image out : List ℕ) → one_of (0 ∷ 1 ∷ 2 ∷ 3 ∷ 4 ∷ 5 ∷ 7 ∷ 8 ∷ 9 ∷ 22 ∷ []) (save_call image out).answer.number ≡ true
 unfolding saving_verdict one_of all_among
 saving-numbers image out =
-    let ns : List ℕ = 0 ∷ 1 ∷ 2 ∷ 3 ∷ 4 ∷ 5 ∷ 6 ∷ 7 ∷ 8 ∷ 9 ∷ 22 ∷ [] in
+    let ns : List ℕ = 0 ∷ 1 ∷ 2 ∷ 3 ∷ 4 ∷ 5 ∷ 7 ∷ 8 ∷ 9 ∷ 22 ∷ [] in
     numbered ns (saving_verdict image out) 0 (state_of image) out (saving image out)
     (among_then ns (check_image image) _ (among-image ns image (record { zero = refl; head = λ _. refl; counts = refl; fading = refl; modules = λ _ _. refl }) tails) (among-all ns (single (has_room image (left_in image) out) 9 0 ∷ []) refl refl))
   where
-    tails : (b : Bool) (n : ℕ) → all_among (0 ∷ 1 ∷ 2 ∷ 3 ∷ 4 ∷ 5 ∷ 6 ∷ 7 ∷ 8 ∷ 9 ∷ 22 ∷ []) (tail_tests b (word_at image) n) ≡ true
-    tails true n = view-numbers (0 ∷ 1 ∷ 2 ∷ 3 ∷ 4 ∷ 5 ∷ 6 ∷ 7 ∷ 8 ∷ 9 ∷ 22 ∷ []) (partitionable_in (word_at image 0)) refl (word_at image) n _ _
-    tails false n = view-numbers (0 ∷ 1 ∷ 2 ∷ 3 ∷ 4 ∷ 5 ∷ 6 ∷ 7 ∷ 8 ∷ 9 ∷ 22 ∷ []) (partitionable_in (word_at image 0)) refl (word_at image) n _ _
+    tails : (b : Bool) (n : ℕ) → all_among (0 ∷ 1 ∷ 2 ∷ 3 ∷ 4 ∷ 5 ∷ 7 ∷ 8 ∷ 9 ∷ 22 ∷ []) (tail_tests b (word_at image) n) ≡ true
+    tails true n = view-numbers (0 ∷ 1 ∷ 2 ∷ 3 ∷ 4 ∷ 5 ∷ 7 ∷ 8 ∷ 9 ∷ 22 ∷ []) (partitionable_in (word_at image 0)) refl (word_at image) n _ _
+    tails false n = view-numbers (0 ∷ 1 ∷ 2 ∷ 3 ∷ 4 ∷ 5 ∷ 7 ∷ 8 ∷ 9 ∷ 22 ∷ []) (partitionable_in (word_at image 0)) refl (word_at image) n _ _
 
-outgoing-numbers : (image : List ℕ) → one_of (0 ∷ 1 ∷ 2 ∷ 3 ∷ 4 ∷ 5 ∷ 6 ∷ 7 ∷ 8 ∷ 22 ∷ []) (outgoing_call image).number ≡ true
+outgoing-numbers : (image : List ℕ) → one_of (0 ∷ 1 ∷ 2 ∷ 3 ∷ 4 ∷ 5 ∷ 7 ∷ 8 ∷ 22 ∷ []) (outgoing_call image).number ≡ true
 unfolding outgoing_call one_of all_among
 outgoing-numbers image =
-    let ns : List ℕ = 0 ∷ 1 ∷ 2 ∷ 3 ∷ 4 ∷ 5 ∷ 6 ∷ 7 ∷ 8 ∷ 22 ∷ [] in
+    let ns : List ℕ = 0 ∷ 1 ∷ 2 ∷ 3 ∷ 4 ∷ 5 ∷ 7 ∷ 8 ∷ 22 ∷ [] in
     among-image ns image (record { zero = refl; head = λ _. refl; counts = refl; fading = refl; modules = λ _ _. refl }) tails
   where
-    tails : (b : Bool) (n : ℕ) → all_among (0 ∷ 1 ∷ 2 ∷ 3 ∷ 4 ∷ 5 ∷ 6 ∷ 7 ∷ 8 ∷ 22 ∷ []) (tail_tests b (word_at image) n) ≡ true
-    tails true n = view-numbers (0 ∷ 1 ∷ 2 ∷ 3 ∷ 4 ∷ 5 ∷ 6 ∷ 7 ∷ 8 ∷ 22 ∷ []) (partitionable_in (word_at image 0)) refl (word_at image) n _ _
-    tails false n = view-numbers (0 ∷ 1 ∷ 2 ∷ 3 ∷ 4 ∷ 5 ∷ 6 ∷ 7 ∷ 8 ∷ 22 ∷ []) (partitionable_in (word_at image 0)) refl (word_at image) n _ _
+    tails : (b : Bool) (n : ℕ) → all_among (0 ∷ 1 ∷ 2 ∷ 3 ∷ 4 ∷ 5 ∷ 7 ∷ 8 ∷ 22 ∷ []) (tail_tests b (word_at image) n) ≡ true
+    tails true n = view-numbers (0 ∷ 1 ∷ 2 ∷ 3 ∷ 4 ∷ 5 ∷ 7 ∷ 8 ∷ 22 ∷ []) (partitionable_in (word_at image 0)) refl (word_at image) n _ _
+    tails false n = view-numbers (0 ∷ 1 ∷ 2 ∷ 3 ∷ 4 ∷ 5 ∷ 7 ∷ 8 ∷ 22 ∷ []) (partitionable_in (word_at image 0)) refl (word_at image) n _ _
 
-outgoing-view-numbers : (image : List ℕ) → one_of (0 ∷ 1 ∷ 2 ∷ 3 ∷ 4 ∷ 5 ∷ 6 ∷ 7 ∷ 8 ∷ 22 ∷ []) (outgoing_view_call image).number ≡ true
+outgoing-view-numbers : (image : List ℕ) → one_of (0 ∷ 1 ∷ 2 ∷ 3 ∷ 4 ∷ 5 ∷ 7 ∷ 8 ∷ 22 ∷ []) (outgoing_view_call image).number ≡ true
 unfolding outgoing_call outgoing_view_call
 outgoing-view-numbers image = outgoing-numbers image
 

@@ -9,7 +9,7 @@ use Rattle.rules.specs.Hearing.{bus_word, reception_of, is_heard, heard_row, cau
 use Rattle.rules.specs.Alignment.{aligned_of}
 use Rattle.vote.specs.Vote.{decision, tally, vote_of, health_of}
 use Rattle.rules.specs.Accusation.{differs_at, accusation_of, accusations_of}
-use Rattle.rules.specs.Syndrome.{syndrome_of, voters_of, judgement_of, outgoing_of}
+use Rattle.rules.specs.Syndrome.{syndrome_of, voters_of, judgement_of}
 use lib.Ieee.{fits, of_int, to_bits}
 use Rattle.doubles.specs.Double.{double}
 use Rattle.doubles.specs.Array.{doubles, clear_doubles}
@@ -18,7 +18,7 @@ use Rattle.accounts.specs.Round.{accounted_by, account_at, accounted_at, counter
 use Rattle.words.specs.Verdict.{and_then, outcome, then_tests}
 use Rattle.words.specs.Runs.{runs_of, run_word}
 use Rattle.setup.specs.Setup.{fades_in, limits_in, limit_list, setup_of, setup_bytes, blank_setup}
-use Rattle.setup.specs.Check.{module_fits, mark_fits, whole, head_fits, head_ok, limit_ok, module_ok, mark_ok, module_test, check_head, check_words, check_setup, setup_roomy, room_verdict, setup_verdict}
+use Rattle.setup.specs.Check.{module_fits, whole, head_fits, head_ok, limit_ok, module_ok, check_head, check_words, check_setup, setup_roomy, room_verdict, setup_verdict}
 use Rattle.changes.specs.Pending.{nothing, counted_down, pending_roomy}
 use Rattle.changes.specs.Books.{turned, counted, books_after}
 use Rattle.changes.specs.Words.{left_ok, new_test, pending_in, new_word}
@@ -32,11 +32,11 @@ use Rattle.image.specs.Counters.{counters_in, counters_roomy}
 use Rattle.image.specs.Check.{check_tail, check_image}
 use Rattle.presence.specs.Valid.{roomy, state_verdict}
 use Rattle.presence.specs.Opening.{fresh, blank, check_opening, open_of}
-use Rattle.presence.specs.Step.{place_of, mark_of, own_syndrome, aligned_for, judgement_for, outgoing_for, views_for, outgoing_view, after_round, refused_step, accepted_step, read_step, step_of}
+use Rattle.presence.specs.Step.{place_of, own_syndrome, aligned_for, judgement_for, outgoing_for, views_for, outgoing_view, after_round, refused_step, accepted_step, read_step, step_of}
 use Rattle.presence.specs.Image.{image_of, state_of, room_for, room_after}
 use Rattle.calls.specs.Calls.{refused_call, wrote, check_call, open_call, step_call, save_call}
 use Rattle.calls.specs.ReturnCases.{ReturnCasesRight}
 
 pub return-cases-right : ReturnCasesRight
-unfolding fits of_int to_bits double doubles clear_doubles word_at put_word bytes_of bit pack count any all lowest array bounded and_then outcome then_tests runs_of run_word fades_in limits_in limit_list setup_of setup_bytes blank_setup module_fits mark_fits whole head_fits head_ok limit_ok module_ok mark_ok module_test check_head check_words check_setup setup_roomy room_verdict setup_verdict skewed bus_word reception_of is_heard heard_row cause_in entry_of reading_of causes_of aligned_of decision tally vote_of health_of differs_at accusation_of accusations_of syndrome_of voters_of judgement_of outgoing_of charged rewarded awaited accounted accounted_by account_at accounted_at counters_of row_fits own_number_ok own_ok row_ok syndrome_ok reading_in rows_roomy counters_in counter_ok counters_roomy check_tail check_image roomy state_verdict fresh blank check_opening open_of place_of mark_of own_syndrome aligned_for judgement_for outgoing_for after_round refused_step accepted_step read_step step_of image_of state_of room_for refused_call wrote open_call step_call check_call save_call nothing counted_down pending_roomy turned counted books_after left_ok new_test pending_in new_word views_seen no_views fresh_views views_in views_roomy views_for outgoing_view room_after
+unfolding fits of_int to_bits double doubles clear_doubles word_at put_word bytes_of bit pack count any all lowest array bounded and_then outcome then_tests runs_of run_word fades_in limits_in limit_list setup_of setup_bytes blank_setup module_fits whole head_fits head_ok limit_ok module_ok check_head check_words check_setup setup_roomy room_verdict setup_verdict skewed bus_word reception_of is_heard heard_row cause_in entry_of reading_of causes_of aligned_of decision tally vote_of health_of differs_at accusation_of accusations_of syndrome_of voters_of judgement_of charged rewarded awaited accounted accounted_by account_at accounted_at counters_of row_fits own_number_ok own_ok row_ok syndrome_ok reading_in rows_roomy counters_in counter_ok counters_roomy check_tail check_image roomy state_verdict fresh blank check_opening open_of place_of own_syndrome aligned_for judgement_for outgoing_for after_round refused_step accepted_step read_step step_of image_of state_of room_for refused_call wrote open_call step_call check_call save_call nothing counted_down pending_roomy turned counted books_after left_ok new_test pending_in new_word views_seen no_views fresh_views views_in views_roomy views_for outgoing_view room_after
 return-cases-right = refl

@@ -8,7 +8,7 @@ use Rattle.rules.specs.Hearing.{bus_word, reception_of, heard_row, cause_in}
 use Rattle.views.specs.ViewWord.{view_word}
 use Rattle.image.specs.Check.{check_image}
 use Rattle.presence.specs.Opening.{open_of}
-use Rattle.presence.specs.Step.{mark_of, step_of}
+use Rattle.presence.specs.Step.{step_of}
 use Rattle.presence.specs.Change.{change_of}
 use Rattle.presence.specs.Image.{image_of, state_of, room_for, room_after}
 use Rattle.calls.specs.declared.Answer.{Answer}
@@ -37,11 +37,11 @@ refused_call number index out = called (answer number index 0) out
 unfoldable pub wrote : ℕ → State → Called
 wrote health st = called (answer 0 0 health) (image_of st)
 
--- setup check: 1 to 6 and 22
+-- setup check: 1 to 5 and 22
 unfoldable pub check_call : List ℕ → Answer
 check_call setup = let v = check_setup setup in answer v.number v.index 0
 
--- opening: 1 to 6 and 22, 7, 9
+-- opening: 1 to 5 and 22, 7, 9
 unfoldable pub open_call : List ℕ → ℕ → List ℕ → Called
 open_call setup own out =
     let v = check_setup setup in
@@ -51,7 +51,7 @@ open_call setup own out =
     (refused_call opened.number opened.index out))
     (refused_call v.number v.index out)
 
--- step: 1 to 8 and 22, 9 for the output, which has the length of the image after the step, or the read, 10
+-- step: 1 to 5, 7, 8 and 22, 9 for the output, which has the length of the image after the step, or the read, 10
 unfoldable pub step_call : List ℕ → List ℕ → ℕ → List ℕ → Called
 step_call image read controller out =
     let v = check_image image in
@@ -63,7 +63,7 @@ step_call image read controller out =
     (refused_call 9 0 out))
     (refused_call v.number v.index out)
 
--- change of limits, so many rounds ahead: 1 to 8 and 22 of the image, 1 to 6 and 22 of the new setup by its own words, 23, 24, and 9 last
+-- change of limits, so many rounds ahead: 1 to 5, 7, 8 and 22 of the image, 1 to 5 and 22 of the new setup by its own words, 23, 24, and 9 last
 unfoldable pub change_call : List ℕ → List ℕ → ℕ → List ℕ → Called
 change_call image new lead out =
     let v = check_image image in
@@ -76,29 +76,29 @@ change_call image new lead out =
     (refused_call w.number w.index out))
     (refused_call v.number v.index out)
 
--- saving: 1 to 8 and 22, 9
+-- saving: 1 to 5, 7, 8 and 22, 9; send marks are left out
 unfoldable pub save_call : List ℕ → List ℕ → Called
 save_call image out =
     let v = check_image image in
     cond (is_accepted v) (cond (room_for (state_of image) out) (wrote 0 (state_of image)) (refused_call 9 0 out))
     (refused_call v.number v.index out)
 
--- The word handed out by the step or opening that left this state: the syndrome of the round before with the send mark, else the latest.
+-- The word handed out by the step or opening that left this state, of the latest syndrome.
 unfoldable pub handed_out : State → ℕ
-handed_out st = bus_word (cond (mark_of st) st.earlier st.latest)
+handed_out st = bus_word st.latest
 
--- the outgoing word of an image, 0 where it is refused: 1 to 8 and 22
+-- the outgoing word of an image, 0 where it is refused: 1 to 5, 7, 8 and 22
 unfoldable pub outgoing_call : List ℕ → WordAnswer
 outgoing_call image =
     let v = check_image image in
     record { number = v.number; index = v.index; word = cond (is_accepted v) (handed_out (state_of image)) 0 }
 
--- The view word handed out by the step or opening that left this state: with the send mark that of the local view before the latest, else that of the
--- latest; 0 where the setup is not partitionable. (document 02, E11)
+-- The view word handed out by the step or opening that left this state, of the latest local view; 0 where the setup is not partitionable.
+-- (document 02, E11)
 unfoldable pub view_handed_out : State → ℕ
-view_handed_out st = cond st.setup.partitionable (view_word (cond (mark_of st) st.views.earlier st.counters.view)) 0
+view_handed_out st = cond st.setup.partitionable (view_word st.counters.view) 0
 
--- the outgoing view word of an image, 0 where it is refused: 1 to 8 and 22
+-- the outgoing view word of an image, 0 where it is refused: 1 to 5, 7, 8 and 22
 unfoldable pub outgoing_view_call : List ℕ → WordAnswer
 outgoing_view_call image =
     let v = check_image image in

@@ -104,15 +104,15 @@ limit_cases =
     ++ (answers (with_limit 0 0) 22 4 ++ (answers (with_limit 0x8000_0000 0) 22 4 ++ (answers (with_limit 0xC000_0000 0) 22 4
     ++ (answers (with_limit 0x412E_8480 1) 22 4 ++ (answers (with_limit 0x7FF0_0000 0) 22 4 ++ answers (with_limit 0x7FF8_0000 0) 22 4)))))))
 
--- ---- 22 is in the place of 4: after 2 and 3, before 5; by the first wrong word. Criticalities and read places are checked as before: 5, then 6.
+-- ---- 22 is in the place of 4: after 2 and 3, before 5; by the first wrong word. Criticalities and read places are checked as before: 5.
 -- Of a wrong setup: head with N = 1; 8 words; factor and limit wrong; limit and criticality wrong; criticality 0 of module 1, 100,001 of module 2;
--- module 2 with the send mark though its read place is 3.
+-- module 2 with the send mark, which is retired (document 02, E12), though its read place is 3: accepted.
 abbrev pub order_cases : List Case
 order_cases =
     answers (check_call (setup 0x1000_0201 0x0000_0001 0 0 0 0)) 2 0 ++ (answers (check_call (take 32 (setup 0x1000_0203 0x0000_0001 0 0 0 0))) 3 0
     ++ (answers (check_call (setup 0x1000_0203 0 0x8000_0000 0 0 0)) 22 2 ++ (answers (check_call (put_word (setup 0x1000_0203 0 0 0 0 0) 6 0x4086_0000)) 22 4
     ++ (answers (check_call (put_word half 6 0x4086_0000)) 5 6 ++ (answers (check_call (put_word half 7 0x4107_86A1)) 5 7
-    ++ answers (check_call (put_word half 7 0x4146_0001)) 6 7)))))
+    ++ answers (check_call (put_word half 7 0x4146_0001)) 0 0)))))
 
 -- ---- an image has 5 N + 9 words, for 3 and 9, and one for the rounds left (document 02, E10): 25; with 24, or the 5 N + 6 or 5 N + 7 of counts, an
 -- output is refused, and an image with 21 or 22

@@ -6,3 +6,4 @@ pub mod Held
 pub mod Cases
 pub mod NewLimitCases
 pub mod TornCases
+pub mod MarkCases

@@ -109,8 +109,8 @@ state_first_cases =
     ++ (answers (change_call (quiet (1 ∷ [])) [] 0 []).answer 3 0 ++ answers (change_call (quiet (5 ∷ limits 0 8 7 6 5)) [] 0 []).answer 8 22))
 
 -- ---- the numbers of a setup for the new words, by their own indexes, before 23, 24 and 9
--- No bytes; N = 1; a word too few; P 0, and over 1,000,000; R 0; criticality 0 of module 2; a send mark on module 3, which has l = 3; a factor of minus
--- zero where the new setup fades.
+-- No bytes; N = 1; a word too few; P 0, and over 1,000,000; R 0; criticality 0 of module 2; a factor of minus zero where the
+-- new setup fades. A send mark is none of them: 24 for the lead.
 abbrev pub fading : List ℕ
 fading = 0 ∷ 0x3FE0_0000 ∷ 0 ∷ 0x4000_0000 ∷ 0 ∷ 0x4086_0002 ∷ 0x4106_0003 ∷ 0x4186_0004 ∷ []
 
@@ -121,21 +121,21 @@ new_word_cases =
     ++ (answers (change_call none_pending (limit_setup thrice (limits 1000001 8 7 6 5)) 0 []).answer 4 1
     ++ (answers (change_call none_pending (limit_setup thrice (limits 9 0 7 6 5)) 0 []).answer 4 2
     ++ (answers (change_call none_pending (limit_setup thrice (limits 9 8 7 0 5)) 0 []).answer 5 4
-    ++ (answers (change_call none_pending (put_word new 5 0x41C6_0005) 0 []).answer 6 5
+    ++ (answers (change_call none_pending (put_word new 5 0x41C6_0005) 0 []).answer 24 0
     ++ answers (change_call none_pending (put_word (limit_setup two fading) 2 0x8000_0000) 0 []).answer 22 2)))))))
 
 -- ---- 23 if anything else differs or either side fades
 -- Of the new setup: N; Q; the read place of module 2; it fades; of the old one: it fades; both fade. The same setup is accepted, and so is one in which
--- any of P, R and the criticalities alone differs.
+-- any of P, R and the criticalities alone differs, or a send mark.
 abbrev pub fading_image : List ℕ
 fading_image = (open_call (limit_setup two fading) 1 (replicate 100 0)).out
 
--- module 3 has l = 0, without and with the send mark
-abbrev pub unmarked : List ℕ
-unmarked = put_word old 5 0x4180_0004
+-- module 3 has l = 0, without and with the send mark, which is retired (document 02, E12)
+abbrev pub without_mark : List ℕ
+without_mark = put_word old 5 0x4180_0004
 
-abbrev pub marked : List ℕ
-marked = put_word old 5 0x41C0_0004
+abbrev pub with_mark : List ℕ
+with_mark = put_word old 5 0x41C0_0004
 
 abbrev pub changed : List ℕ → List ℕ → Answer
 changed from to = (change_call (open_call from 1 short).out to 1 long).answer
@@ -144,7 +144,7 @@ abbrev pub frame_cases : List Case
 frame_cases =
     answers (changed old (bytes (0x1000_0204 ∷ 0x2000_0005 ∷ 0x3000_0004 ∷ 0x4086_0002 ∷ 0x4106_0003 ∷ 0x4186_0004 ∷ 0x4206_0001 ∷ []))) 23 0
     ++ (answers (changed old (limit_setup thrice (limits 5 4 2 3 4))) 23 0 ++ (answers (changed old (put_word old 4 0x4104_0003)) 23 0
-    ++ (answers (changed unmarked marked) 23 0 ++ (answers (changed marked unmarked) 23 0 ++ (answers (changed marked marked) 0 0
+    ++ (answers (changed without_mark with_mark) 0 0 ++ (answers (changed with_mark without_mark) 0 0 ++ (answers (changed with_mark with_mark) 0 0
     ++ (answers (changed old (limit_setup two fading)) 23 0 ++ (answers (change_call fading_image old 1 long).answer 23 0
     ++ (answers (change_call fading_image (limit_setup two fading) 1 long).answer 23 0 ++ (answers (changed old old) 0 0
     ++ (answers (changed old (limit_setup two (limits 6 4 2 3 4))) 0 0 ++ (answers (changed old (limit_setup two (limits 5 5 2 3 4))) 0 0
@@ -268,8 +268,8 @@ saved_length_cases =
     ++ answers (saved_answer (put_word fading_image 24 1)) 3 0))))))))
 
 -- ---- rounds left over 1,000, or not 0 with fading, and pending words that a change would be refused for are 8
--- The rounds left; P 0, over 1,000,000, of kind 3; R 0, over 8,000,000; criticality 0, over 100,000; another number; another read place; a send mark that
--- the setup's own word does not have, where l allows it, and one that is missing. Each at its word, the first of two wrong ones.
+-- The rounds left; P 0, over 1,000,000, of kind 3; R 0, over 8,000,000; criticality 0, over 100,000; another number; another read place. Each at its word,
+-- the first of two wrong ones. A send mark that the setup's own word does not have is no fault, and neither is one that is missing.
 abbrev pub pended : List ℕ → Answer
 pended end = saved_answer (quiet end)
 
@@ -289,8 +289,8 @@ saved_word_cases =
     ++ (answers (altered_pending 22 0x2000_0000) 8 22 ++ (answers (altered_pending 22 0x200F_4241) 8 22 ++ (answers (altered_pending 22 0x200F_4240) 0 0
     ++ (answers (altered_pending 22 0x3000_0009) 8 22 ++ (answers (altered_pending 23 0x3000_0000) 8 23 ++ (answers (altered_pending 23 0x307A_1201) 8 23
     ++ (answers (altered_pending 24 0x4086_0000) 8 24 ++ (answers (altered_pending 24 0x4087_86A1) 8 24 ++ (answers (altered_pending 24 0x4087_86A0) 0 0
-    ++ (answers (altered_pending 25 0x4186_0006) 8 25 ++ (answers (altered_pending 26 0x4184_0005) 8 26 ++ (answers (altered_pending 26 0x41C6_0005) 8 26
-    ++ (answers (moved_place unmarked 0x41C0_0004) 8 26 ++ (answers (moved_place marked 0x4180_0004) 8 26 ++ (answers (moved_place marked 0x41C0_0009) 0 0
+    ++ (answers (altered_pending 25 0x4186_0006) 8 25 ++ (answers (altered_pending 26 0x4184_0005) 8 26 ++ (answers (altered_pending 26 0x41C6_0005) 0 0
+    ++ (answers (moved_place without_mark 0x41C0_0004) 0 0 ++ (answers (moved_place with_mark 0x4180_0004) 0 0 ++ (answers (moved_place with_mark 0x41C0_0009) 0 0
     ++ (answers (pended (1 ∷ limits 0 8 0 6 5)) 8 22 ++ (answers (pended (1001 ∷ limits 0 8 7 6 5)) 8 21
     ++ answers (saved_answer (put_word (quiet (1001 ∷ limits 0 8 7 6 5)) 20 0xF180_0001)) 8 20))))))))))))))))))))
 

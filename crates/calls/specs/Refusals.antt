@@ -39,18 +39,18 @@ seen_in image read controller = views_seen (partitionable_in (word_at image 0)) 
 
 -- ---- the answers, in their order
 
--- opening: 1 to 6 and 22 for the setup, 7 for the own number, 9 for the output
+-- opening: 1 to 5 and 22 for the setup, 7 for the own number, 9 for the output
 unfoldable pub open_verdict : List ℕ → ℕ → List ℕ → Verdict
 open_verdict setup own out =
     and_then (check_setup setup) (first_refusal (single (between 1 (size_of setup) own) 7 0 ∷ single (has_room setup 0 out) 9 0 ∷ []))
 
--- step: 1 to 8 and 22 for the image, 9 for the output or the read, 10 for a controller bit at N or above; the image after it has one round less to go
+-- step: 1 to 5, 7, 8 and 22 for the image, 9 for the output or the read, 10 for a controller bit at N or above; the image after it has one round less to go
 unfoldable pub step_verdict : List ℕ → List ℕ → ℕ → List ℕ → Verdict
 step_verdict image read controller out =
     and_then (check_image image)
     (first_refusal (single (has_room image (left_in image - 1) out && has_words image read) 9 0 ∷ single (ltb controller (2 ^ size_of image)) 10 0 ∷ []))
 
--- change: 1 to 8 and 22 for the image, 1 to 6 and 22 for the new setup, 23 where anything but P, R and the criticalities differs or either side
+-- change: 1 to 5, 7, 8 and 22 for the image, 1 to 5 and 22 for the new setup, 23 where anything but P, R and the criticalities differs or either side
 -- fades, 24 where a change is pending or the lead is out of range, 9 for the output, in which the rounds left are the lead
 unfoldable pub changing_verdict : List ℕ → List ℕ → ℕ → List ℕ → Verdict
 changing_verdict image new lead out =
@@ -62,7 +62,7 @@ changing_verdict image new lead out =
     ∷ single (has_room image lead out) 9 0
     ∷ [])))
 
--- saving: 1 to 8 and 22 for the image, 9 for the output
+-- saving: 1 to 5, 7, 8 and 22 for the image, 9 for the output
 unfoldable pub saving_verdict : List ℕ → List ℕ → Verdict
 saving_verdict image out = and_then (check_image image) (first_refusal (single (has_room image (left_in image) out) 9 0 ∷ []))
 
@@ -93,15 +93,15 @@ pub record Refusals : Type 0 where
   -- accepted saving writes the state that was read
   pub saving : (image out : List ℕ) → save_call image out ≡ answering (saving_verdict image out) 0 (state_of image) out
   -- the numbers that a call can answer
-  pub setup-numbers : (setup : List ℕ) → one_of (0 ∷ 1 ∷ 2 ∷ 3 ∷ 4 ∷ 5 ∷ 6 ∷ 22 ∷ []) (check_call setup).number ≡ true
+  pub setup-numbers : (setup : List ℕ) → one_of (0 ∷ 1 ∷ 2 ∷ 3 ∷ 4 ∷ 5 ∷ 22 ∷ []) (check_call setup).number ≡ true
   pub opening-numbers : (setup : List ℕ) (own : ℕ) (out : List ℕ)
-      → one_of (0 ∷ 1 ∷ 2 ∷ 3 ∷ 4 ∷ 5 ∷ 6 ∷ 7 ∷ 9 ∷ 22 ∷ []) (open_call setup own out).answer.number ≡ true
+      → one_of (0 ∷ 1 ∷ 2 ∷ 3 ∷ 4 ∷ 5 ∷ 7 ∷ 9 ∷ 22 ∷ []) (open_call setup own out).answer.number ≡ true
   pub step-numbers : (image read : List ℕ) (controller : ℕ) (out : List ℕ)
-      → one_of (0 ∷ 1 ∷ 2 ∷ 3 ∷ 4 ∷ 5 ∷ 6 ∷ 7 ∷ 8 ∷ 9 ∷ 10 ∷ 22 ∷ []) (step_call image read controller out).answer.number ≡ true
+      → one_of (0 ∷ 1 ∷ 2 ∷ 3 ∷ 4 ∷ 5 ∷ 7 ∷ 8 ∷ 9 ∷ 10 ∷ 22 ∷ []) (step_call image read controller out).answer.number ≡ true
   pub change-numbers : (image new : List ℕ) (lead : ℕ) (out : List ℕ)
-      → one_of (0 ∷ 1 ∷ 2 ∷ 3 ∷ 4 ∷ 5 ∷ 6 ∷ 7 ∷ 8 ∷ 9 ∷ 22 ∷ 23 ∷ 24 ∷ []) (change_call image new lead out).answer.number ≡ true
+      → one_of (0 ∷ 1 ∷ 2 ∷ 3 ∷ 4 ∷ 5 ∷ 7 ∷ 8 ∷ 9 ∷ 22 ∷ 23 ∷ 24 ∷ []) (change_call image new lead out).answer.number ≡ true
   pub saving-numbers : (image out : List ℕ)
-      → one_of (0 ∷ 1 ∷ 2 ∷ 3 ∷ 4 ∷ 5 ∷ 6 ∷ 7 ∷ 8 ∷ 9 ∷ 22 ∷ []) (save_call image out).answer.number ≡ true
-  pub outgoing-numbers : (image : List ℕ) → one_of (0 ∷ 1 ∷ 2 ∷ 3 ∷ 4 ∷ 5 ∷ 6 ∷ 7 ∷ 8 ∷ 22 ∷ []) (outgoing_call image).number ≡ true
-  pub outgoing-view-numbers : (image : List ℕ) → one_of (0 ∷ 1 ∷ 2 ∷ 3 ∷ 4 ∷ 5 ∷ 6 ∷ 7 ∷ 8 ∷ 22 ∷ []) (outgoing_view_call image).number ≡ true
+      → one_of (0 ∷ 1 ∷ 2 ∷ 3 ∷ 4 ∷ 5 ∷ 7 ∷ 8 ∷ 9 ∷ 22 ∷ []) (save_call image out).answer.number ≡ true
+  pub outgoing-numbers : (image : List ℕ) → one_of (0 ∷ 1 ∷ 2 ∷ 3 ∷ 4 ∷ 5 ∷ 7 ∷ 8 ∷ 22 ∷ []) (outgoing_call image).number ≡ true
+  pub outgoing-view-numbers : (image : List ℕ) → one_of (0 ∷ 1 ∷ 2 ∷ 3 ∷ 4 ∷ 5 ∷ 7 ∷ 8 ∷ 22 ∷ []) (outgoing_view_call image).number ≡ true
   pub cause-numbers : (n controller word : ℕ) → one_of (0 ∷ 2 ∷ 10 ∷ []) (cause_call n controller word).number ≡ true

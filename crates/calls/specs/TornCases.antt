@@ -210,23 +210,23 @@ sent_view_cases =
     ++ (tells (outgoing_view_call []) 1 0 0 ++ tells (outgoing_view_call (put_word torn_image 33 16)) 8 33 0)))))))
 
 -- ---- aligned and delayed like syndromes
--- Read places 0, 0, 1 and 2 and send marks on modules 2, 3 and 4, so u = 1. Module 4 takes the view words of modules 1 and 2 from the read before. It hands
--- out the view word of the local view before the latest: module 2 leaves the view in the second bad round, and its word lacks it a round later.
-abbrev pub marked_torn : List ℕ
-marked_torn = bytes (0x1000_0024 ∷ 0x2000_0001 ∷ 0x3000_0003 ∷ 0x4080_0001 ∷ 0x4140_0001 ∷ 0x41C2_0001 ∷ 0x4244_0001 ∷ [])
+-- Read places 0, 0, 1 and 2, so u = 1. Module 4 takes the view words of modules 1 and 2 from the read before. Module 2 leaves the view in the second bad
+-- round, and the word handed out in its step, which is sent in the next round, lacks it.
+abbrev pub lagged_torn : List ℕ
+lagged_torn = bytes (0x1000_0024 ∷ 0x2000_0001 ∷ 0x3000_0003 ∷ 0x4080_0001 ∷ 0x4100_0001 ∷ 0x4182_0001 ∷ 0x4204_0001 ∷ [])
 
-abbrev pub marked_image : List ℕ
-marked_image = (open_call marked_torn 4 torn_out).out
+abbrev pub lagged_image : List ℕ
+lagged_image = (open_call lagged_torn 4 torn_out).out
 
 abbrev pub aligned_delayed_cases : List Case
 aligned_delayed_cases =
-    let before = put_word (put_word marked_image 27 0xA000_000D) 28 0xA000_000D in
+    let before = put_word (put_word lagged_image 27 0xA000_000D) 28 0xA000_000D in
     let first = (torn_step before (0xA000_000F ∷ 0xA000_000F ∷ 0xA000_000D ∷ 0xA000_000D ∷ [])).out in
     let second = (torn_step first (0xA000_000D ∷ 0xA000_000D ∷ 0xA000_000D ∷ 0xA000_000D ∷ [])).out in
-    let left = bad_step (bad_step marked_image) in
+    let left = bad_step (bad_step lagged_image) in
     views_held first 27 (0xA000_000F ∷ 0xA000_000F ∷ 0xA000_000D ∷ 0xA000_000D ∷ []) 15 15 13 0
     ++ (views_held second 27 (0xA000_000D ∷ 0xA000_000D ∷ 0xA000_000D ∷ 0xA000_000D ∷ []) 15 15 13 1
-    ++ (views_held left 27 full_words 13 15 15 0 ++ (tells (outgoing_view_call left) 0 0 0xA000_000F ++ tells (outgoing_view_call (bad_step left)) 0 0 0xA000_000D)))
+    ++ (views_held left 27 full_words 13 15 15 0 ++ (tells (outgoing_view_call (bad_step lagged_image)) 0 0 0xA000_000F ++ tells (outgoing_view_call left) 0 0 0xA000_000D)))
 
 -- ---- a change keeps the views, behind the new words (document 02, E10), and so do the steps with it pending and the one in which it takes effect; 23
 -- where head bit 5 differs

@@ -3,8 +3,7 @@ ghost use Rattle.std.specs.Prelude.{◌≡◌, length};
 ghost use Rattle.words.specs.Word.{word_at};
 ghost use Rattle.setup.specs.Setup.{size_in, front_in};
 ghost use Rattle.image.specs.Check.{check_image};
-ghost use Rattle.presence.specs.Step.{mark_of};
-ghost use Rattle.presence.specs.Image.{state_of};
+ghost use Rattle.presence.specs.Image.{image_of, state_of};
 ghost use Rattle.calls.specs.Calls.{answer, called, check_call, open_call, step_call, change_call, save_call, handed_out, outgoing_call, view_handed_out, outgoing_view_call, refused_cause, cause_call};
 
 use crate::change::{same_frame, save_changed};
@@ -13,18 +12,19 @@ use crate::{Answer, CauseAnswer, WordAnswer};
 use changes::frame::MOST_LEAD;
 use image::check::{check_image, image_size};
 use image::{
-    earlier_in, image_length, latest_in, left_at, load_image, own_in, save_accounts, save_sections,
-    views_at,
+    image_length, latest_in, left_at, load_image, save_accounts, save_sections, view_in, views_at,
 };
+use rules::hearing::bus_word;
 use setup::bounds::{fades_at, front_words};
 use setup::check::size_at;
 use setup::layout::{LEAST_MODULES, MOST_MODULES, setup_words};
+use setup::modules::{copy_setup, copy_unmarked};
 use views::lent::save_full;
 use views::read::read_words;
 use views::word::view_word;
 use words::array::filled;
-use words::bits::{bit_at, full_of, pick, power};
-use words::word::{copy_words, put_word, word_at};
+use words::bits::{bit_at, full_of, power};
+use words::word::{put_word, word_at};
 
 // An answer without health.
 fn refuse(number: u32, index: u32) -> Answer
@@ -37,7 +37,7 @@ fn refuse(number: u32, index: u32) -> Answer
     }
 }
 
-// Numbers 1 to 6 and 22 of a setup.
+// Numbers 1 to 5 and 22 of a setup.
 pub fn presence_check_setup(bytes: &[u8]) -> Answer
     ensures { result ≡ check_call bytes.now }
 {
@@ -45,8 +45,8 @@ pub fn presence_check_setup(bytes: &[u8]) -> Answer
     refuse(v.number, v.index)
 }
 
-// Opens module `own` of a setup, and writes its image: 1 to 6 and 22, 7, 9. There is no state between, whose arrays were copied by calls of memcpy.
-// The words of the setup are copied: those of an accepted setup are in their one form.
+// Opens module `own` of a setup, and writes its image: 1 to 5 and 22, 7, 9. There is no state between, whose arrays were copied by calls of memcpy.
+// The words of the setup are copied: but for send marks those of an accepted setup are in their one form.
 pub fn presence_open(bytes: &[u8], own: u32, out: &mut [u8]) -> Answer
     ensures { called result out.new ≡ open_call bytes.now own out.old }
 {
@@ -67,7 +67,7 @@ pub fn presence_open(bytes: &[u8], own: u32, out: &mut [u8]) -> Answer
     let full = full_of(n);
     let rows = filled(n, full);
     let zeros = [0u32; 16];
-    copy_words(bytes, setup_words(front, n), out);
+    copy_setup(bytes, front, setup_words(front, n), out);
     save_sections(fades, n, own as usize, full, full, &rows, full, full, out);
     save_accounts(fades, n, &zeros, &zeros, &zeros, out);
     put_word(out, left_at(front, n), 0);
@@ -86,7 +86,7 @@ fn refuse_image(image: &[u8]) -> Answer
     refuse(v.number, v.index)
 }
 
-// One step, from image to image: 1 to 8 and 22, 9 for the read or the output, which has the length of the image after the step, 10.
+// One step, from image to image: 1 to 5, 7, 8 and 22, 9 for the read or the output, which has the length of the image after the step, 10.
 pub fn presence_step(image: &[u8], read: &[u8], controller: u32, out: &mut [u8]) -> Answer
     ensures { called result out.new ≡ step_call image.now read.now controller out.old }
 {
@@ -156,8 +156,8 @@ pub fn presence_step(image: &[u8], read: &[u8], controller: u32, out: &mut [u8])
     }
 }
 
-// Has a setup with new P, R and criticalities take the old one's place, `lead` rounds ahead, and writes the image with that change pending: 1 to 8 and
-// 22 of the image, 1 to 6 and 22 of the new setup, 23, 24, 9.
+// Has a setup with new P, R and criticalities take the old one's place, `lead` rounds ahead, and writes the image with that change pending: 1 to 5,
+// 7, 8 and 22 of the image, 1 to 5 and 22 of the new setup, 23, 24, 9.
 pub fn presence_change(image: &[u8], bytes: &[u8], lead: u32, out: &mut [u8]) -> Answer
     ensures { called result out.new ≡ change_call image.now bytes.now lead out.old }
 {
@@ -194,7 +194,23 @@ fn copy(from: &[u8], to: &mut [u8])
     }
 }
 
-// Tests an image and writes it again, in its one form: 1 to 8 and 22, 9.
+// Writes an accepted image again. But for send marks it is in its one form: its bytes are copied, and its module words, those of a pending change too,
+// once more without the mark.
+fn save_unmarked(image: &[u8], out: &mut [u8])
+    requires { ((check_image image.now).number ≡ 0) × (length out.old ≡ length image.now) }
+    ensures { out.new ≡ image_of (state_of image.now) }
+{
+    let n = size_at(image);
+    let front = front_words(fades_at(image));
+    let at = left_at(front, n);
+    copy(image, out);
+    copy_setup(image, front, setup_words(front, n), out);
+    if word_at(image, at) != 0 {
+        return copy_unmarked(image, at + 1, 2, n, out, at + 1);
+    }
+}
+
+// Tests an image and writes it again, in its one form: 1 to 5, 7, 8 and 22, 9.
 pub fn presence_save(image: &[u8], out: &mut [u8]) -> Answer
     ensures { called result out.new ≡ save_call image.now out.old }
 {
@@ -205,17 +221,8 @@ pub fn presence_save(image: &[u8], out: &mut [u8]) -> Answer
     if out.len() != image.len() {
         return refuse(9, 0);
     }
-    copy(image, out);
+    save_unmarked(image, out);
     refuse(0, 0)
-}
-
-// The send mark of the module itself, in its own word.
-fn own_mark(image: &[u8], front: usize, n: usize) -> bool
-    requires { ((check_image image.now).number ≡ 0) × (front ≡ front_in (word_at image.now)) × (n ≡ size_in (word_at image.now 0)) }
-    ensures { result ≡ mark_of (state_of image.now) }
-{
-    let own = own_in(image, front, n);
-    bit_at(word_at(image, front + own - 1), 22)
 }
 
 // The word handed out by the step or opening that wrote this image.
@@ -225,10 +232,7 @@ fn word_in(image: &[u8]) -> u32
 {
     let n = size_at(image);
     let front = front_words(fades_at(image));
-    let mark = own_mark(image, front, n);
-    let earlier = earlier_in(image, front, n);
-    let latest = latest_in(image, front, n);
-    rules::judge::outgoing(mark, earlier, latest)
+    bus_word(latest_in(image, front, n))
 }
 
 // An answer without a word, by a number and the place of a word in the image.
@@ -242,7 +246,7 @@ fn refuse_word(number: u32, place: u32) -> WordAnswer
     }
 }
 
-// The word to put on the bus, from an image: 1 to 8 and 22.
+// The word to put on the bus, from an image: 1 to 5, 7, 8 and 22.
 pub fn presence_outgoing(image: &[u8]) -> WordAnswer
     ensures { result ≡ outgoing_call image.now }
 {
@@ -267,12 +271,10 @@ fn view_word_in(image: &[u8]) -> u32
     }
     let n = size_at(image);
     let front = front_words(fades_at(image));
-    let mark = own_mark(image, front, n);
-    let at = views_at(front, n, word_at(image, left_at(front, n)));
-    view_word(pick(mark, word_at(image, at + n + 1), word_at(image, at + n)))
+    view_word(view_in(image, front, n))
 }
 
-// The second word to put on the bus, from an image, 0 where its setup is not partitionable: 1 to 8 and 22.
+// The second word to put on the bus, from an image, 0 where its setup is not partitionable: 1 to 5, 7, 8 and 22.
 pub fn presence_outgoing_view(image: &[u8]) -> WordAnswer
     ensures { result ≡ outgoing_view_call image.now }
 {

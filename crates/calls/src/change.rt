@@ -2,6 +2,7 @@
 ghost use Rattle.std.specs.Prelude.{◌≡◌, true, ℕ, ◌+◌, ◌*◌, ◌/◌, ◌≤◌, ◌<◌, length, get_or, eqb};
 ghost use Rattle.words.specs.Word.{word_at};
 ghost use Rattle.words.specs.Count.{all};
+ghost use Rattle.setup.specs.SendMark.{unmarked as unmarked_of};
 ghost use Rattle.setup.specs.Setup.{partitionable_in, place_unit, setup_of};
 ghost use Rattle.setup.specs.Check.{check_setup};
 ghost use Rattle.changes.specs.Pending.{pending_of};
@@ -15,18 +16,20 @@ use image::left_at;
 use setup::bounds::fades_at;
 use setup::check::size_at;
 use setup::layout::PLACE;
+use setup::modules::{copy_setup, copy_unmarked};
+use setup::unmarked;
 use words::bits::bit_at;
-use words::word::{copy_run, copy_words, put_word, word_at};
+use words::word::{copy_run, put_word, word_at};
 
-// Whether the words of n modules are the same in all that stands above the criticality: kind, number, send mark and read place.
+// Whether the words of n modules are the same in kind, number and read place; send marks do not count.
 fn same_modules(image: &[u8], bytes: &[u8], n: usize) -> bool
     requires { (n ≤ 16) × ((n + 3) * 4 ≤ length image.now) × ((n + 3) * 4 ≤ length bytes.now) }
-    ensures { result ≡ all n (λ j. eqb (word_at image.now (3 + j) / place_unit) (word_at bytes.now (3 + j) / place_unit)) }
+    ensures { result ≡ all n (λ j. eqb (unmarked_of (word_at image.now (3 + j)) / place_unit) (unmarked_of (word_at bytes.now (3 + j)) / place_unit)) }
 {
     let mut same = true;
     for j in 0..n {
-        let a = word_at(image, 3 + j);
-        let b = word_at(bytes, 3 + j);
+        let a = unmarked(word_at(image, 3 + j));
+        let b = unmarked(word_at(bytes, 3 + j));
         same = same & (a / PLACE == b / PLACE);
     }
     same
@@ -55,9 +58,10 @@ pub fn save_changed(image: &[u8], bytes: &[u8], n: usize, lead: u32, out: &mut [
     ensures { out.new ≡ image_of (with_pending (state_of image.now) (pending_of (setup_of bytes.now) lead)) }
 {
     let at = left_at(3, n);
-    copy_words(image, at, out);
+    copy_setup(image, 3, n + 3, out);
+    copy_run(image, n + 3, 4 * n + 3, out, n + 3);
     put_word(out, at, lead);
-    copy_run(bytes, 1, n + 2, out, at + 1);
+    copy_unmarked(bytes, 1, 2, n, out, at + 1);
     if bit_at(word_at(image, 0), 5) {
         return copy_run(image, at + 1, n + 4, out, at + 3 + n);
     }

@@ -1,5 +1,8 @@
 // The round of an accepted image, from its words to those of the next state, with no state between: the arrays are lent, and filled in place.
 ghost use Rattle.std.specs.Prelude.{◌≡◌, true, cond, List, ◌++◌, ℕ, ◌+◌, ◌-◌, ◌*◌, ◌^◌, ◌≤◌, ◌<◌, length, get_or, drop, ltb};
+ghost use Rattle.words.specs.Word.{word_at};
+ghost use Rattle.words.specs.Bits.{bit};
+ghost use Rattle.words.specs.Count.{any};
 ghost use Rattle.words.specs.Array.{array, Filled};
 ghost use Rattle.words.specs.Runs.{put_runs};
 ghost use Rattle.setup.specs.Layout.{front_words, setup_length};
@@ -24,9 +27,10 @@ use rules::judge::judged_read;
 use setup::Limits;
 use setup::bounds::front_words;
 use setup::layout::setup_words;
+use setup::modules::{copy_setup, copy_unmarked};
 use views::lent::agree;
 use words::bits::pick;
-use words::word::{copy_run, copy_words, put_word};
+use words::word::{copy_words, put_word};
 
 // Rule 8 on the lent arrays, by the limits of the setup; the answer is the view.
 fn kept(
@@ -96,17 +100,21 @@ pub fn left_after(left: u32) -> u32
     left - 1
 }
 
-// Writes the words of the setup that holds after the round: where a change is due the new ones after the head, else its own. They are copied: those of
-// an accepted image are in their one form.
-fn save_setup(image: &[u8], front: usize, n: usize, left: u32, out: &mut [u8])
+// Writes the words of the setup that holds after the round: where a change is due the new ones after the head, else its own. They are copied: but for
+// send marks those of an accepted image are in their one form.
+fn save_setup(image: &[u8], front: usize, n: usize, left: u32, marked: bool, out: &mut [u8])
     requires { ((check_image image.now).number ≡ 0) × (n ≡ (state_of image.now).setup.n) × (front ≡ front_of (state_of image.now).setup)
-        × (left ≡ (state_of image.now).pending.left) × (setup_length front n ≤ length out.old) }
+        × (left ≡ (state_of image.now).pending.left) × (setup_length front n ≤ length out.old)
+        × (marked ≡ any n (λ j. bit (word_at image.now (front + j)) 22)) }
     ensures { out.new
         ≡ setup_bytes (turned_of (books_of (state_of image.now))).setup ++ drop (setup_length front n) out.old }
 {
     if left == 1 {
         copy_words(image, 1, out);
-        return copy_run(image, left_at(front, n) + 1, n + 2, out, 1);
+        return copy_unmarked(image, left_at(front, n) + 1, 2, n, out, 1);
+    }
+    if marked {
+        return copy_setup(image, front, setup_words(front, n), out);
     }
     copy_words(image, setup_words(front, n), out)
 }
@@ -123,7 +131,7 @@ fn save_pending(image: &[u8], front: usize, n: usize, left: u32, out: &mut [u8])
         return put_word(out, at, 0);
     }
     put_word(out, at, left - 1);
-    copy_run(image, at + 1, n + 2, out, at + 1)
+    copy_unmarked(image, at + 1, 2, n, out, at + 1)
 }
 
 // Writes the views after the round, of a partitionable setup: their view words are aligned at `split`, the local view was `before` and is `after` now.
@@ -181,7 +189,8 @@ pub fn played(
         × HeldBy (state_of image.now) part rows.old
         × CountedBy (turned_of (books_of (state_of image.now))) limits part.q criticality.now first.old second.old returns.old }
     requires partitionable_value { (partitionable ≡ (state_of image.now).setup.partitionable) × (length read.now ≡ read_words partitionable n * 4) × (controller < 2 ^ n)
-        × (length out.old ≡ image_length (front_words fades) n (part.left - 1) partitionable) }
+        × (length out.old ≡ image_length (front_words fades) n (part.left - 1) partitionable)
+        × (part.marked ≡ any n (λ j. bit (word_at image.now (front_words fades + j)) 22)) }
     ensures { (result ≡ (judgement_for (state_of image.now) (reading_of n read.now controller)).health)
         × (out.new ≡ image_of (after_round (state_of image.now) (reading_of n read.now controller)
         (views_seen partitionable n read.now controller))) }
@@ -203,7 +212,7 @@ pub fn played(
         second,
         returns,
     );
-    save_setup(image, front, n, part.left, out);
+    save_setup(image, front, n, part.left, part.marked, out);
     save_sections(
         fades,
         n,

@@ -1,5 +1,5 @@
--- The words of a change at the end of a saved state: written, they pass and are read back; those that pass hold a change that fits, and are the words
--- that it is written as.
+-- The words of a change at the end of a saved state: written, they pass and are read back; those that pass hold a change that fits, and without marks
+-- are the words that it is written as.
 use mathlib.Core.Path.{◌≡◌, refl, ap, ap₂, ◌∙◌, sym, subst}
 use mathlib.Core.Bool.{Bool, true, false, cond, not}
 use mathlib.Core.Logic.{◌⊎◌, inl, inr, ⊎_elim}
@@ -11,29 +11,28 @@ use lib.ListN.{get_or, length, replicate}
 use lib.Dec.{eqb, leb}
 use borrow.Author.Tests.{eqb-true, eq-eqb, ne_eqb, leb-true, le-leb}
 use Rattle.words.specs.Word.{word_at, number_unit}
-use Rattle.words.specs.Bits.{bit}
 use Rattle.words.specs.Array.{array}
 use Rattle.words.specs.Runs.{total}
 use Rattle.words.proofs.Truth.{and_l, and_r, and-true, or_l, or_r, or_cases, not-both, cond-true, cond-false}
-use Rattle.words.proofs.BitLaws.{bit-pack}
 use Rattle.words.proofs.ArrayLaws.{array_at, array-ext, array-own, array-clear, bounded-clear}
 use Rattle.words.proofs.RunLaws.{Follows}
 use Rattle.words.proofs.VerdictLaws.{Passed}
 use Rattle.setup.specs.Layout.{front_words}
 use Rattle.setup.specs.Limits.{fades, most_penalty_limit, most_reward_limit}
-use Rattle.setup.specs.Setup.{limit_word, limit_in, size_in, module_word, mark_in, place_in, criticality_in, fades_in, front_in, setup_of}
+use Rattle.setup.specs.SendMark.{unmarked}
+use Rattle.setup.specs.Setup.{limit_word, limit_in, size_in, module_word, place_in, criticality_in, fades_in, front_in, setup_of}
 use Rattle.setup.specs.Check.{limit_ok, module_ok}
 use Rattle.setup.specs.declared.Setup.{Setup}
 use Rattle.setup.proofs.BoundLaws.{read-fades}
 use Rattle.setup.proofs.WordFields.{limit-made, limit-right, limit-back, module-made, criticality-back}
-use Rattle.setup.proofs.SetupWords.{module_of, marks-small, places-bounded, roomy_of, place-small, criticality-small}
+use Rattle.setup.proofs.SetupWords.{module_of, places-bounded, roomy_of, place-small, criticality-small}
 use Rattle.setup.proofs.SetupCheckLaws.{WordsFit}
 use Rattle.setup.proofs.SetupLaws.{SetupFits, fits-room}
 use Rattle.changes.specs.Pending.{most_lead, nothing, renewed}
 use Rattle.changes.specs.Words.{new_count, left_ok, new_module_ok, new_test, change_tests, pending_in, new_word, change_runs}
 use Rattle.changes.specs.declared.Pending.{Pending}
 use Rattle.changes.proofs.PendingLaws.{Empty, PendingSmall, PendingFits, nothing-small}
-use Rattle.changes.proofs.NewMeaning.{new-least, new-most, number_is, new-right, new-made}
+use Rattle.changes.proofs.NewMeaning.{new-least, new-most, number_is, new-word-means, new-right, new-made}
 
 -- how many words there are
 pub change-total : (s : Setup) (c : Pending) → total (change_runs s c) ≡ 1 + new_count s.n c.left
@@ -53,7 +52,7 @@ pub record ChangeStands (w : ℕ → ℕ) (at : ℕ) (s : Setup) (c : Pending) :
   pub left : w at ≡ c.left
   pub p : 0 < c.left → w (at + 1) ≡ limit_word 2 c.p
   pub r : 0 < c.left → w (at + 2) ≡ limit_word 3 c.r
-  pub modules : 0 < c.left → (j : ℕ) → j < s.n → w (at + 3 + j) ≡ module_word j (bit s.marks j) (get_or s.places j 0) (get_or c.criticality j 0)
+  pub modules : 0 < c.left → (j : ℕ) → j < s.n → w (at + 3 + j) ≡ module_word j (get_or s.places j 0) (get_or c.criticality j 0)
 
 module _ (w : ℕ → ℕ) (at : ℕ) (s : Setup) (c : Pending) where
   pub change-stands : Follows w at (change_runs s c) → ChangeStands w at s c
@@ -174,7 +173,7 @@ module _ (w : ℕ → ℕ) (at : ℕ) (s : Setup) (c : Pending) (f : SetupFits s
         modules = λ pos j h.
             let e = (g.some (up pos)).each j h in
             ap₂ new_module_ok (m (g.counting (up pos)) j h) (t.modules (up pos) j h)
-            ∙ new-right j (bit s.marks j) (get_or s.places j 0) (get_or s.criticality j 0) (get_or c.criticality j 0)
+            ∙ new-right j (get_or s.places j 0) (get_or s.criticality j 0) (get_or c.criticality j 0)
             (own-place j h) (own-criticality j h) e.least e.most;
       })
 
@@ -196,7 +195,7 @@ module _ (w : ℕ → ℕ) (at : ℕ) (s : Setup) (c : Pending) (f : SetupFits s
             let er : limit_in (w (at + 2)) ≡ c.r = ap limit_in (t.r pos) ∙ limit-back 3 c.r k.r in
             let ek : (j : ℕ) → j < s.n → criticality_in (w (at + 3 + j)) ≡ get_or c.criticality j 0 =
             λ j h. ap criticality_in (t.modules pos j h)
-            ∙ criticality-back j (bit s.marks j) (get_or s.places j 0) (get_or c.criticality j 0) (own-place j h) (k.criticality j h)
+            ∙ criticality-back j (get_or s.places j 0) (get_or c.criticality j 0) (own-place j h) (k.criticality j h)
             in
             record {
               least = f.least;
@@ -211,9 +210,8 @@ module _ (w : ℕ → ℕ) (at : ℕ) (s : Setup) (c : Pending) (f : SetupFits s
                     most = rw (ek j h) at (new-most (w (front_words false + j)) (w (at + 3 + j)) o);
                   };
               roomy =
-                  roomy_of (renewed s c) (marks-small s f.roomy) (bounded-clear s.n 31 s.places (places-bounded s f.roomy)) k.clear own-place
+                  roomy_of (renewed s c) (bounded-clear s.n 31 s.places (places-bounded s f.roomy)) k.clear own-place
                   k.criticality;
-              marks = f.marks;
             };
       }
 
@@ -238,7 +236,7 @@ change-back x at s c small places k l follows =
     let e : array s.n (λ j. criticality_in (word_at x (at + 3 + j))) ≡ c.criticality =
     array-ext s.n _ (λ j. get_or c.criticality j 0)
     (λ j h. ap criticality_in (t.modules pos j h)
-    ∙ criticality-back j (bit s.marks j) (get_or s.places j 0) (get_or c.criticality j 0) (places j h) (k.criticality j h))
+    ∙ criticality-back j (get_or s.places j 0) (get_or c.criticality j 0) (places j h) (k.criticality j h))
     ∙ array-own s.n c.criticality small l k.clear
     in
     (λ i. record { left = sym t.left i; p = sym p i; r = sym r i; criticality = sym e i })
@@ -247,8 +245,16 @@ change-back x at s c small places k l follows =
 
 -- ---- words that pass, of bytes x whose setup words are right
 
-module _ (x : List ℕ) (at : ℕ) (f : WordsFit x (size_in (word_at x 0))) (small : size_in (word_at x 0) ≤ 16)
-    (passed : Passed (change_tests (fades_in (word_at x)) (word_at x) (size_in (word_at x 0)) at)) where
+-- w are the words of x, of which the own and the new module words are without the mark
+pub record WithoutMarks (x : List ℕ) (at : ℕ) (w : ℕ → ℕ) : Type 0 where
+  pub left : w at ≡ word_at x at
+  pub p : w (at + 1) ≡ word_at x (at + 1)
+  pub r : w (at + 2) ≡ word_at x (at + 2)
+  pub own : fades_in (word_at x) ≡ false → (j : ℕ) → j < size_in (word_at x 0) → w (front_words false + j) ≡ unmarked (word_at x (front_words false + j))
+  pub new : 0 < word_at x at → (j : ℕ) → j < size_in (word_at x 0) → w (at + 3 + j) ≡ unmarked (word_at x (at + 3 + j))
+
+module _ (x : List ℕ) (at : ℕ) (w : ℕ → ℕ) (f : WordsFit x (size_in (word_at x 0))) (small : size_in (word_at x 0) ≤ 16)
+    (passed : Passed (change_tests (fades_in (word_at x)) (word_at x) (size_in (word_at x 0)) at)) (without : WithoutMarks x at w) where
   abbrev size : ℕ
   size = size_in (word_at x 0)
 
@@ -277,10 +283,6 @@ module _ (x : List ℕ) (at : ℕ) (f : WordsFit x (size_in (word_at x 0))) (sma
     own-number : word_at x (front_words false + j) / number_unit ≡ 4 * 2 ^ 5 + (j + 1)
     own-number = number_is size j _ (ap (λ (b : Bool). module_ok size j (word_at x (front_words b + j))) (sym u) ∙ f.each j h)
 
-    own-mark : bit (setup_of x).marks j ≡ mark_in (word_at x (front_words false + j))
-    unfolding setup_of
-    own-mark = bit-pack size (λ k. mark_in (word_at x (front_in (word_at x) + k))) j h ∙ ap (λ (b : Bool). mark_in (word_at x (front_words b + j))) u
-
     own_read : get_or (setup_of x).places j 0 ≡ place_in (word_at x (front_words false + j))
     unfolding setup_of
     own_read =
@@ -292,32 +294,34 @@ module _ (x : List ℕ) (at : ℕ) (f : WordsFit x (size_in (word_at x 0))) (sma
         array_at size (λ k. criticality_in (word_at x (front_in (word_at x) + k))) j h small
         ∙ ap (λ (b : Bool). criticality_in (word_at x (front_words b + j))) u
 
-    own-word : word_at x (front_words false + j) ≡ module_of (setup_of x) j
+    own-word : w (front_words false + j) ≡ module_of (setup_of x) j
     own-word =
-        sym (module-made j (word_at x (front_words false + j)) own-number) ∙ (λ i. module_word j (sym own-mark i) (sym own_read i) (sym own_held i))
+        without.own u j h
+        ∙ sym (module-made j (word_at x (front_words false + j)) own-number) ∙ (λ i. module_word j (sym own_read i) (sym own_held i))
 
-  stands-some : 0 < word_at x at → ChangeStands (word_at x) at (setup_of x) read
+  stands-some : 0 < word_at x at → ChangeStands w at (setup_of x) read
   unfolding setup_of
   stands-some pos = record {
-    left = refl;
-    p = λ _. sym (limit-made 2 most_penalty_limit (word_at x (at + 1)) (omega arith) (right.p pos)).word;
-    r = λ _. sym (limit-made 3 most_reward_limit (word_at x (at + 2)) (omega arith) (right.r pos)).word;
+    left = without.left;
+    p = λ _. without.p ∙ sym (limit-made 2 most_penalty_limit (word_at x (at + 1)) (omega arith) (right.p pos)).word;
+    r = λ _. without.r ∙ sym (limit-made 3 most_reward_limit (word_at x (at + 2)) (omega arith) (right.r pos)).word;
     modules = λ _ j h.
-        sym (new-made j (word_at x (front_words false + j)) (word_at x (at + 3 + j)) (own-number (right.counting pos) j h) (right.modules pos j h))
-        ∙ (λ i. module_word j (sym (own-mark (right.counting pos) j h) i) (sym (own_read (right.counting pos) j h) i)
+        without.new pos j h
+        ∙ sym (new-made j (word_at x (front_words false + j)) (word_at x (at + 3 + j)) (own-number (right.counting pos) j h) (right.modules pos j h))
+        ∙ (λ i. module_word j (sym (own_read (right.counting pos) j h) i)
         (sym (array_at size (λ k. criticality_in (word_at x (at + 3 + k))) j h small) i));
   }
 
-  stands-none : word_at x at ≡ 0 → ChangeStands (word_at x) at (setup_of x) nothing
+  stands-none : word_at x at ≡ 0 → ChangeStands w at (setup_of x) nothing
   unfolding nothing
-  stands-none z = record { left = z; p = λ pos. absurd (omega arith); r = λ pos. absurd (omega arith); modules = λ pos. absurd (omega arith) }
+  stands-none z = record { left = without.left ∙ z; p = λ pos. absurd (omega arith); r = λ pos. absurd (omega arith); modules = λ pos. absurd (omega arith) }
 
-  -- they are the words that the change is written as
-  pub change-same : Follows (word_at x) at (change_runs (setup_of x) (pending_in x size at))
+  -- without marks they are the words that the change is written as
+  pub change-same : Follows w at (change_runs (setup_of x) (pending_in x size at))
   change-same =
-      stands-change (word_at x) at (setup_of x) (pending_in x size at)
-      (⊎_elim (λ (z : word_at x at ≡ 0). subst (ChangeStands (word_at x) at (setup_of x)) (sym (none_read z)) (stands-none z))
-      (λ (pos : 0 < word_at x at). subst (ChangeStands (word_at x) at (setup_of x)) (sym (some_read pos)) (stands-some pos))
+      stands-change w at (setup_of x) (pending_in x size at)
+      (⊎_elim (λ (z : word_at x at ≡ 0). subst (ChangeStands w at (setup_of x)) (sym (none_read z)) (stands-none z))
+      (λ (pos : 0 < word_at x at). subst (ChangeStands w at (setup_of x)) (sym (some_read pos)) (stands-some pos))
       (eq-zero-or-pos (word_at x at)))
 
   read_small : PendingSmall size (pending_in x size at)
@@ -340,7 +344,22 @@ module _ (x : List ℕ) (at : ℕ) (f : WordsFit x (size_in (word_at x 0))) (sma
   unfolding setup_of
   form = read-fades (fades_in (word_at x)) (word_at x)
 
-  modules-stand : ModulesStand (word_at x) (setup_of x)
+  -- and pass too
+  passed-without : Passed (change_tests (fades_in (word_at x)) w size at)
+  passed-without =
+      let g = right in
+      let up : 0 < w at → 0 < word_at x at = λ pos. subst (λ (v : ℕ). 0 < v) without.left pos in
+      right-passed (fades_in (word_at x)) w size at (record {
+        most = rw without.left g.most;
+        counting = λ pos. g.counting (up pos);
+        p = λ pos. rw without.p (g.p (up pos));
+        r = λ pos. rw without.r (g.r (up pos));
+        modules = λ pos j h.
+            ap₂ new_module_ok (without.own (g.counting (up pos)) j h) (without.new (up pos) j h)
+            ∙ new-word-means.unread (word_at x (front_words false + j)) (word_at x (at + 3 + j)) ∙ g.modules (up pos) j h;
+      })
+
+  modules-stand : ModulesStand w (setup_of x)
   unfolding setup_of
   modules-stand e j h = own-word (sym form ∙ e) j h
 
@@ -348,8 +367,8 @@ module _ (x : List ℕ) (at : ℕ) (f : WordsFit x (size_in (word_at x 0))) (sma
   pub read-pending : SetupFits (setup_of x) → PendingFits (setup_of x) (pending_in x size at)
   unfolding setup_of
   read-pending g =
-      change-pass (word_at x) at (setup_of x) (pending_in x size at) g modules-stand change-same read_small
-      (subst (λ (b : Bool). Passed (change_tests b (word_at x) size at)) (sym form) passed)
+      change-pass w at (setup_of x) (pending_in x size at) g modules-stand change-same read_small
+      (subst (λ (b : Bool). Passed (change_tests b w size at)) (sym form) passed-without)
 
 -- the rounds left that are read are those of the word
 pub read_left : (x : List ℕ) (n at : ℕ) → (pending_in x n at).left ≡ word_at x at

@@ -1,33 +1,34 @@
 -- A new module word beside the setup's own word.
-use mathlib.Core.Path.{◌≡◌, ap, ◌∙◌, sym}
-use mathlib.Core.Bool.{Bool, true}
+use mathlib.Core.Path.{◌≡◌, refl, ap, ap₂, ◌∙◌, sym}
+use mathlib.Core.Bool.{Bool, true, ◌&&◌}
 use Prim.Native.Nat.{ℕ, ◌+◌, ◌*◌, ◌/◌, ◌%◌, ◌^◌, ◌<◌, ◌≤◌}
 use native.Mathlib.Omega.{arith}
 use lib.Dec.{eqb, leb}
 use borrow.Author.Tests.{eqb-true, eq-eqb}
 use Rattle.words.specs.Word.{number_unit}
-use Rattle.words.specs.Bits.{bit, b2n}
 use Rattle.words.specs.Verdict.{between}
 use Rattle.words.proofs.Truth.{and_l, and_r, and-true}
-use Rattle.words.proofs.BitLaws.{b2n-bit, b2n-le}
 use Rattle.words.proofs.VerdictLaws.{between_is, between-of}
 use Rattle.setup.specs.Limits.{most_criticality}
-use Rattle.setup.specs.Setup.{place_unit, module_word, mark_in, place_in, criticality_in}
-use Rattle.setup.specs.Check.{module_fits, mark_fits, module_ok, mark_ok}
-use Rattle.setup.proofs.WordFields.{module-made, criticality-back}
+use Rattle.setup.specs.SendMark.{unmarked}
+use Rattle.setup.specs.Setup.{place_unit, module_word, place_in, criticality_in}
+use Rattle.setup.specs.Check.{module_fits, module_ok}
+use Rattle.setup.proofs.WordFields.{module-made, number-back, place-back, criticality-back}
+use Rattle.setup.proofs.ModuleLaws.{number_same, place_same, criticality-same}
+use Rattle.setup.proofs.SendMarkLaws.{already, clear}
 use Rattle.changes.specs.Words.{new_module_ok}
 use Rattle.changes.specs.Meaning.{NewWordMeans}
 
 -- ---- what the test says
 
 module _ (own new : ℕ) (t : new_module_ok own new ≡ true) where
-  pub new-upper : new / place_unit ≡ own / place_unit
+  pub new-upper : unmarked new / place_unit ≡ unmarked own / place_unit
   unfolding new_module_ok
-  new-upper = eqb-true (new / place_unit) (own / place_unit) (and_l (eqb (new / place_unit) (own / place_unit)) _ t)
+  new-upper = eqb-true (unmarked new / place_unit) (unmarked own / place_unit) (and_l (eqb (unmarked new / place_unit) (unmarked own / place_unit)) _ t)
 
   new-between : between 1 most_criticality (criticality_in new) ≡ true
   unfolding new_module_ok
-  new-between = and_r (eqb (new / place_unit) (own / place_unit)) _ t
+  new-between = and_r (eqb (unmarked new / place_unit) (unmarked own / place_unit)) _ t
 
   pub new-least : 1 ≤ criticality_in new
   new-least = (between_is 1 most_criticality (criticality_in new) new-between).0
@@ -35,38 +36,40 @@ module _ (own new : ℕ) (t : new_module_ok own new ≡ true) where
   pub new-most : criticality_in new ≤ most_criticality
   new-most = (between_is 1 most_criticality (criticality_in new) new-between).1
 
-pub new-of : (own new : ℕ) → new / place_unit ≡ own / place_unit → 1 ≤ criticality_in new → criticality_in new ≤ most_criticality → new_module_ok own new ≡ true
+pub new-of : (own new : ℕ) → unmarked new / place_unit ≡ unmarked own / place_unit → 1 ≤ criticality_in new → criticality_in new ≤ most_criticality → new_module_ok own new ≡ true
 unfolding new_module_ok
 new-of own new e least most =
-    and-true (eqb (new / place_unit) (own / place_unit)) _ (eq-eqb _ _ e) (between-of 1 most_criticality (criticality_in new) least most)
+    and-true (eqb (unmarked new / place_unit) (unmarked own / place_unit)) _ (eq-eqb _ _ e) (between-of 1 most_criticality (criticality_in new) least most)
 
--- ---- words that are the same but for the criticality
+-- neither's mark counts
+new-unread : (own new : ℕ) → new_module_ok (unmarked own) (unmarked new) ≡ new_module_ok own new
+unfolding new_module_ok
+new-unread own new =
+    (λ i. eqb (already (unmarked new) (clear new) i / place_unit) (already (unmarked own) (clear own) i / place_unit)
+    && between 1 most_criticality (criticality-same new i))
 
-module _ (own new : ℕ) (e : new / place_unit ≡ own / place_unit) where
-  pub upper-place : place_in new ≡ place_in own
-  upper-place = ap (λ (w : ℕ). w % 2 ^ 5) e
+-- ---- words that but for the mark are the same in all that stands above the criticality
 
-  pub upper-mark : mark_in new ≡ mark_in own
-  unfolding bit
-  upper-mark =
-      let k : new / 2 ^ 22 ≡ own / 2 ^ 22 = omega arith in
-      ap (λ (w : ℕ). eqb (w % 2) 1) k
-
-  pub upper-number : new / number_unit ≡ own / number_unit
-  upper-number = omega arith
-
-upper_is : (w : ℕ) → w / 2 ^ 17 ≡ (w / 2 ^ 23 * 2 + b2n (mark_in w)) * 2 ^ 5 + place_in w
+upper_is : (w : ℕ) → unmarked w / 2 ^ 17 ≡ w / 2 ^ 23 * 2 ^ 6 + place_in w
 upper_is w =
-    let m : b2n (mark_in w) ≡ w / 2 ^ 22 % 2 = b2n-bit w 22 in
-    let a : w / 2 ^ 22 ≡ w / 2 ^ 23 * 2 + w / 2 ^ 22 % 2 = omega arith in
     let b : w / 2 ^ 17 ≡ w / 2 ^ 22 * 2 ^ 5 + w / 2 ^ 17 % 2 ^ 5 = omega arith in
     omega arith
 
-pub upper-same : (own new : ℕ) → new / number_unit ≡ own / number_unit → place_in new ≡ place_in own → mark_in new ≡ mark_in own → new / place_unit ≡ own / place_unit
-upper-same own new n p m =
-    upper_is new ∙ (λ i. (n i * 2 + b2n (m i)) * 2 ^ 5 + p i) ∙ sym (upper_is own)
+twice : (w : ℕ) → w / 2 ^ 23 ≡ w / 2 ^ 17 / 2 ^ 6
+twice w = omega arith
 
--- ---- words that numbers 5 and 6 accept
+module _ (own new : ℕ) (e : unmarked new / place_unit ≡ unmarked own / place_unit) where
+  pub upper-place : place_in new ≡ place_in own
+  upper-place = sym (place_same new) ∙ ap (λ (w : ℕ). w % 2 ^ 5) e ∙ place_same own
+
+  pub upper-number : new / number_unit ≡ own / number_unit
+  upper-number =
+      sym (number_same new) ∙ twice (unmarked new) ∙ ap (λ (w : ℕ). w / 2 ^ 6) e ∙ sym (twice (unmarked own)) ∙ number_same own
+
+pub upper-same : (own new : ℕ) → new / number_unit ≡ own / number_unit → place_in new ≡ place_in own → unmarked new / place_unit ≡ unmarked own / place_unit
+upper-same own new n p = upper_is new ∙ (λ i. n i * 2 ^ 6 + p i) ∙ sym (upper_is own)
+
+-- ---- words that number 5 accepts
 
 pub number_is : (n j w : ℕ) → module_ok n j w ≡ true → w / number_unit ≡ 4 * 2 ^ 5 + (j + 1)
 unfolding module_ok
@@ -92,47 +95,34 @@ module _ (n j own new : ℕ) (o : module_ok n j own ≡ true) where
       and-true (eqb (new / number_unit) (4 * 2 ^ 5 + (j + 1))) _ (eq-eqb _ _ (upper-number own new e ∙ number_is n j own o))
       (and-true (leb (place_in new) n) _ (ap (λ (p : ℕ). leb p n) (upper-place own new e) ∙ within-is n j own o) (new-between own new t))
 
-  new-marked : mark_ok j own ≡ true → new_module_ok own new ≡ true → mark_ok j new ≡ true
-  unfolding mark_ok
-  new-marked m t =
-      let e = new-upper own new t in
-      (λ i. mark_fits j (upper-mark own new e i) (upper-place own new e i)) ∙ m
-
-  accepted-new : module_ok n j new ≡ true → place_in new ≡ place_in own → mark_in new ≡ mark_in own → new_module_ok own new ≡ true
-  accepted-new w p m =
+  accepted-new : module_ok n j new ≡ true → place_in new ≡ place_in own → new_module_ok own new ≡ true
+  accepted-new w p =
       let (least, most) = between_is 1 most_criticality (criticality_in new) (criticality-is n j new w) in
-      new-of own new (upper-same own new (number_is n j new w ∙ sym (number_is n j own o)) p m) least most
+      new-of own new (upper-same own new (number_is n j new w ∙ sym (number_is n j own o)) p) least most
 
 pub new-word-means : NewWordMeans
 new-word-means = record {
-  passes = λ n j own new o m t. (
-    new-accepted n j own new o t,
-    new-marked n j own new o m t,
-    upper-place own new (new-upper own new t),
-    upper-mark own new (new-upper own new t),
-  );
-  all_pass = λ n j own new o m a b p k. accepted-new n j own new o a p k;
+  passes = λ n j own new o t. (new-accepted n j own new o t, upper-place own new (new-upper own new t));
+  all_pass = λ n j own new o a p. accepted-new n j own new o a p;
+  unread = new-unread;
 }
 
 -- ---- words that are made of fields
 
-upper-made : (j b place criticality : ℕ) → b ≤ 1 → place < 2 ^ 5 → criticality < 2 ^ 17
-    → (4 * 2 ^ 28 + (j + 1) * 2 ^ 23 + b * 2 ^ 22 + place * 2 ^ 17 + criticality) / 2 ^ 17 ≡ ((4 * 2 ^ 5 + (j + 1)) * 2 + b) * 2 ^ 5 + place
-upper-made j b place criticality hb hp hc = omega arith
-
 -- a word with another criticality passes where that is in range
-pub new-right : (j : ℕ) (mark : Bool) (place old new : ℕ) → place < 2 ^ 5 → old < 2 ^ 17 → 1 ≤ new → new ≤ most_criticality
-    → new_module_ok (module_word j mark place old) (module_word j mark place new) ≡ true
-new-right j mark place old new hp ho least most =
-    let b = b2n-le mark in
-    let k : criticality_in (module_word j mark place new) ≡ new = criticality-back j mark place new hp (omega arith) in
-    new-of (module_word j mark place old) (module_word j mark place new)
-    (upper-made j (b2n mark) place new b hp (omega arith) ∙ sym (upper-made j (b2n mark) place old b hp ho)) (rw k least) (rw k most)
+pub new-right : (j place old new : ℕ) → place < 2 ^ 5 → old < 2 ^ 17 → 1 ≤ new → new ≤ most_criticality
+    → new_module_ok (module_word j place old) (module_word j place new) ≡ true
+new-right j place old new hp ho least most =
+    let k : criticality_in (module_word j place new) ≡ new = criticality-back j place new hp (omega arith) in
+    new-of (module_word j place old) (module_word j place new)
+    (upper-same (module_word j place old) (module_word j place new)
+    (number-back j place new hp (omega arith) ∙ sym (number-back j place old hp ho))
+    (place-back j place new hp (omega arith) ∙ sym (place-back j place old hp ho)))
+    (rw k least) (rw k most)
 
--- a word that passes is made of the own word's fields and its own criticality
+-- a word that passes is, but for its mark, made of the own word's fields and its own criticality
 pub new-made : (j own new : ℕ) → own / number_unit ≡ 4 * 2 ^ 5 + (j + 1) → new_module_ok own new ≡ true
-    → module_word j (mark_in own) (place_in own) (criticality_in new) ≡ new
+    → module_word j (place_in own) (criticality_in new) ≡ unmarked new
 new-made j own new e t =
     let u = new-upper own new t in
-    (λ i. module_word j (sym (upper-mark own new u) i) (sym (upper-place own new u) i) (criticality_in new))
-    ∙ module-made j new (upper-number own new u ∙ e)
+    (λ i. module_word j (sym (upper-place own new u) i) (criticality_in new)) ∙ module-made j new (upper-number own new u ∙ e)

@@ -46,14 +46,14 @@ module _ (s : Setup) (c : Pending) where
   second_word_lem (suc zero) e = refl
   second_word_lem (suc (suc i)) e = absurd (omega arith)
 
-  pub later-word : {w : ℕ} {b : Bool} (i : ℕ) → (i ≡ 0 → ⊥) → (i ≡ 1 → ⊥) → b ≡ bit s.marks (i - 2)
-      → w ≡ module_word (i - 2) b (get_or s.places (i - 2) 0) (get_or c.criticality (i - 2) 0) → w ≡ new_word s c i
+  pub later-word : {w : ℕ} (i : ℕ) → (i ≡ 0 → ⊥) → (i ≡ 1 → ⊥)
+      → w ≡ module_word (i - 2) (get_or s.places (i - 2) 0) (get_or c.criticality (i - 2) 0) → w ≡ new_word s c i
   unfolding new_word
-  later-word zero f g e h = absurd (f (omega arith))
-  later-word (suc zero) f g e h = absurd (g (omega arith))
-  later-word (suc (suc j)) f g e h =
+  later-word zero f g h = absurd (f (omega arith))
+  later-word (suc zero) f g h = absurd (g (omega arith))
+  later-word (suc (suc j)) f g h =
       let k : suc (suc j) - 2 ≡ j = omega arith in
-      (rw (e, k) at h)
+      (rw k at h)
 
   pub change-written : {a b : List ℕ} {many i : ℕ} (o : List ℕ) (at : ℕ) → many ≡ new_count s.n c.left → i ≡ many → a ≡ put_word o at c.left
       → b ≡ put_run a (at + 1) i (new_word s c) → b ≡ put_runs o at (change_runs s c)

@@ -21,7 +21,7 @@ use Rattle.setup.specs.declared.Setup.{Setup}
 use Rattle.setup.specs.declared.Limits.{Limits}
 use Rattle.setup.specs.declared.Limits.TheVariants.{Counts, Fading}
 use Rattle.setup.proofs.BoundLaws.{counts-fit}
-use Rattle.setup.proofs.SetupWords.{marks-small, places-bounded, criticality-bounded, roomy_of, place-small, criticality-small}
+use Rattle.setup.proofs.SetupWords.{places-bounded, criticality-bounded, roomy_of, place-small, criticality-small}
 use Rattle.setup.proofs.SetupLaws.{SetupFits, fits-room}
 use Rattle.changes.specs.Pending.{most_lead, nothing, penalty_limit_of, reward_limit_of, pending_of, renewed, counted_down, pending_roomy}
 use Rattle.changes.specs.Frame.{same_frame}
@@ -150,7 +150,6 @@ pub record SameFrame (s new : Setup) : Type 0 where
   pub size : s.n ≡ new.n
   pub q : s.q ≡ new.q
   pub partitionable : s.partitionable ≡ new.partitionable
-  pub marks : s.marks ≡ new.marks
   pub places : (j : ℕ) → j < s.n → get_or s.places j 0 ≡ get_or new.places j 0
 
 module _ (s new : Setup) where
@@ -180,8 +179,7 @@ module _ (s new : Setup) where
         size = eqb-true s.n new.n (and_l (eqb s.n new.n) _ h);
         q = eqb-true s.q new.q (and_r (eqb s.n new.n) _ h);
         partitionable = beq-eq s.partitionable new.partitionable (and_r sizes _ d);
-        marks = eqb-true s.marks new.marks (and_l (eqb s.marks new.marks) _ t);
-        places = λ j l. eqb-true _ _ (all-at s.n places_same (and_r (eqb s.marks new.marks) _ t) j l);
+        places = λ j l. eqb-true _ _ (all-at s.n places_same t j l);
       }
 
   pub same-frame : SameFrame s new → same_frame s new ≡ true
@@ -190,7 +188,7 @@ module _ (s new : Setup) where
       and-true neither _ (and-true (not (fades s.limits)) _ (ap not f.counts) (ap not f.counts-new))
       (and-true heads _
       (and-true sizes _ (and-true (eqb s.n new.n) _ (eq-eqb _ _ f.size) (eq-eqb _ _ f.q)) (ap (beq s.partitionable) (sym f.partitionable) ∙ beq-refl s.partitionable))
-      (and-true (eqb s.marks new.marks) _ (eq-eqb _ _ f.marks) (all-intro s.n places_same (λ j l. eq-eqb _ _ (f.places j l)))))
+      (all-intro s.n places_same (λ j l. eq-eqb _ _ (f.places j l))))
 
 -- limits that do not fade are P and R
 pub counts_of : (l : Limits) → fades l ≡ false → l ≡ Counts (penalty_limit_of l) (reward_limit_of l)
@@ -215,11 +213,10 @@ frame-renewed s new f g e lead =
       };
       roomy =
           roomy_of (renewed s (record { left = lead; p = penalty_limit_of new.limits; r = reward_limit_of new.limits; criticality = new.criticality }))
-          (marks-small s f.roomy) (bounded-clear s.n 31 s.places (places-bounded s f.roomy))
+          (bounded-clear s.n 31 s.places (places-bounded s f.roomy))
           (subst (λ (m : ℕ). clear_from m new.criticality ≡ true) (sym size)
           (bounded-clear new.n 131071 new.criticality (criticality-bounded new g.roomy)))
           (place-small s (fits-room s f)) (λ j l. criticality-small new (fits-room new g) j (omega arith));
-      marks = f.marks;
     }
 
 pub frame-fits : (s new : Setup) → SetupFits s → SetupFits new → same_frame s new ≡ true → (lead : ℕ) → 1 ≤ lead → lead ≤ 1000
@@ -264,9 +261,9 @@ roomy-by n c e m h = rw (h, e, m)
 pub frame-by : {old asked places : Bool} (s new : Setup) → old ≡ fades s.limits → asked ≡ fades new.limits
     → places ≡ all s.n (λ j. eqb (get_or s.places j 0) (get_or new.places j 0))
     → (not old && not asked) && (((eqb s.n new.n && eqb s.q new.q) && beq s.partitionable new.partitionable)
-    && (eqb s.marks new.marks && places)) ≡ same_frame s new
+    && places) ≡ same_frame s new
 unfolding same_frame
 frame-by s new o a p =
     λ i.
     (not (o i) && not (a i))
-    && (((eqb s.n new.n && eqb s.q new.q) && beq s.partitionable new.partitionable) && (eqb s.marks new.marks && p i))
+    && (((eqb s.n new.n && eqb s.q new.q) && beq s.partitionable new.partitionable) && p i)

@@ -99,9 +99,6 @@ module _ (b : Books) where
   pub turned-partitionable : (turned b).setup.partitionable ≡ b.setup.partitionable
   turned-partitionable = turned-both b (λ (t : Books). t.setup.partitionable ≡ b.setup.partitionable) (λ e. refl) (λ h. refl)
 
-  pub turned-marks : (turned b).setup.marks ≡ b.setup.marks
-  turned-marks = turned-both b (λ (t : Books). t.setup.marks ≡ b.setup.marks) (λ e. refl) (λ h. refl)
-
   pub turned-places : (turned b).setup.places ≡ b.setup.places
   turned-places = turned-both b (λ (t : Books). t.setup.places ≡ b.setup.places) (λ e. refl) (λ h. refl)
 
@@ -184,7 +181,6 @@ applied s new lead f g a b e =
       q = h.q i;
       partitionable = h.partitionable i;
       limits = sym (counts_of new.limits h.counts-new) i;
-      marks = h.marks i;
       places = same h i;
       criticality = new.criticality;
     }

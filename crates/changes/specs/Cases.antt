@@ -91,7 +91,6 @@ old = record {
   q = 0;
   partitionable = false;
   limits = Counts 10 20;
-  marks = 2;
   places = array 2 (λ j. 1);
   criticality = array 2 (λ j. get_or (1 ∷ 2 ∷ []) j 0);
 }
@@ -129,7 +128,6 @@ limits_held b left next p r first second view =
 abbrev pub counters_held : Books → ℕ → ℕ → ℕ → ℕ → List Case
 counters_held b penalty reward penalty₂ reward₂ =
     case b.setup.n 2
-    ∷ case b.setup.marks 2
     ∷ case (get_or b.setup.places 1 0) 1
     ∷ case (get_or b.counters.penalty 0 0) penalty
     ∷ case (get_or b.counters.reward 0 0) reward
@@ -167,42 +165,40 @@ CasesRight =
 
 -- ---- which change may follow: 23, then 24
 
--- a setup with other limits, and such an N, Q, head bit 5, send marks and read place of module 2
-abbrev pub wanted_by : ℕ → ℕ → Bool → ℕ → ℕ → Setup
-wanted_by n q partitionable marks place = record {
+-- a setup with other limits, and such an N, Q, head bit 5 and read place of module 2
+abbrev pub wanted_by : ℕ → ℕ → Bool → ℕ → Setup
+wanted_by n q partitionable place = record {
   n = n;
   q = q;
   partitionable = partitionable;
   limits = Counts 5 6;
-  marks = marks;
   places = array 2 (λ j. get_or (1 ∷ place ∷ []) j 0);
   criticality = array 2 (λ j. 4);
 }
 
 -- the same with head bit 5 clear, as in the old one
-abbrev pub wanted : ℕ → ℕ → ℕ → ℕ → Setup
-wanted n q marks place = wanted_by n q false marks place
+abbrev pub wanted : ℕ → ℕ → ℕ → Setup
+wanted n q place = wanted_by n q false place
 
 -- the number by which it is refused in the old one's place
 abbrev pub number_of : Pending → Setup → ℕ → ℕ
 number_of pending new lead = (frame_verdict old pending new lead).number
 
--- 1 and 1,000 rounds ahead, not 0 or 1,001; none while one is pending; N, Q, head bit 5, marks and places are the old one's; 23 before 24.
+-- 1 and 1,000 rounds ahead, not 0 or 1,001; none while one is pending; N, Q, head bit 5 and places are the old one's; 23 before 24.
 abbrev pub number_cases : List Case
 number_cases =
-    case (number_of nothing (wanted 2 0 2 1) 1) 0
-    ∷ case (number_of nothing (wanted 2 0 2 1) 1000) 0
-    ∷ case (number_of nothing (wanted 2 0 2 1) 0) 24
-    ∷ case (number_of nothing (wanted 2 0 2 1) 1001) 24
-    ∷ case (number_of (asked 1) (wanted 2 0 2 1) 1) 24
-    ∷ case (number_of (asked 1000) (wanted 2 0 2 1) 1) 24
-    ∷ case (number_of nothing (wanted 3 0 2 1) 1) 23
-    ∷ case (number_of nothing (wanted 2 1 2 1) 1) 23
-    ∷ case (number_of nothing (wanted_by 2 0 true 2 1) 1) 23
-    ∷ case (number_of nothing (wanted 2 0 0 1) 1) 23
-    ∷ case (number_of nothing (wanted 2 0 2 2) 1) 23
-    ∷ case (number_of nothing (wanted 2 0 2 2) 0) 23
-    ∷ case (number_of (asked 1) (wanted 2 0 2 2) 1) 23
+    case (number_of nothing (wanted 2 0 1) 1) 0
+    ∷ case (number_of nothing (wanted 2 0 1) 1000) 0
+    ∷ case (number_of nothing (wanted 2 0 1) 0) 24
+    ∷ case (number_of nothing (wanted 2 0 1) 1001) 24
+    ∷ case (number_of (asked 1) (wanted 2 0 1) 1) 24
+    ∷ case (number_of (asked 1000) (wanted 2 0 1) 1) 24
+    ∷ case (number_of nothing (wanted 3 0 1) 1) 23
+    ∷ case (number_of nothing (wanted 2 1 1) 1) 23
+    ∷ case (number_of nothing (wanted_by 2 0 true 1) 1) 23
+    ∷ case (number_of nothing (wanted 2 0 2) 1) 23
+    ∷ case (number_of nothing (wanted 2 0 2) 0) 23
+    ∷ case (number_of (asked 1) (wanted 2 0 2) 1) 23
     ∷ []
 
 -- every line of them is right

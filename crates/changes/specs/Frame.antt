@@ -1,5 +1,5 @@
--- Which change may follow: numbers 23 and 24, both with index 0. (document 02, E10; 23 covers head bit 5, E11)
-use Rattle.std.specs.Prelude.{ℕ, Bool, not, ◌&&◌, [], ◌∷◌, get_or, eqb}
+-- Which change may follow: numbers 23 and 24, both with index 0. (document 02, E10; 23 covers head bit 5, E11, and no longer the send mark, E12)
+use Rattle.std.specs.Prelude.{ℕ, Bool, not, ◌&&◌, List, [], ◌∷◌, get_or, eqb}
 use Rattle.std.specs.Bool.{beq}
 use Rattle.words.specs.Count.{all}
 use Rattle.words.specs.Verdict.{between, single, first_refusal}
@@ -14,7 +14,7 @@ unfoldable pub same_frame : Setup → Setup → Bool
 same_frame s new =
     (not (fades s.limits) && not (fades new.limits))
     && (((eqb s.n new.n && eqb s.q new.q) && beq s.partitionable new.partitionable)
-    && (eqb s.marks new.marks && all s.n (λ j. eqb (get_or s.places j 0) (get_or new.places j 0))))
+    && all s.n (λ j. eqb (get_or s.places j 0) (get_or new.places j 0)))
 
 -- nothing is pending, and the change takes effect 1 to 1,000 rounds ahead, else number 24
 unfoldable pub may_follow : Pending → ℕ → Bool

@@ -38,7 +38,6 @@ renewed s c =
       q = s.q;
       partitionable = s.partitionable;
       limits = Counts c.p c.r;
-      marks = s.marks;
       places = s.places;
       criticality = c.criticality;
     }

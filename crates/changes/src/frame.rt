@@ -36,7 +36,7 @@ fn same_frame(setup: Setup, new: Setup) -> bool
     let count = !fades(limits) & !fades(asked);
     let head = ((setup.n == new.n) & (setup.q == new.q))
         & (setup.partitionable == new.partitionable);
-    count & (head & ((setup.marks == new.marks) & same_places(setup.n, places, others)))
+    count & (head & same_places(setup.n, places, others))
 }
 
 // Whether nothing is pending, and the lead is 1 to 1,000 rounds.

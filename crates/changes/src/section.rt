@@ -14,9 +14,8 @@ use crate::change::nothing;
 use crate::frame::MOST_LEAD;
 use setup::layout::{MOST_CRITICALITY, MOST_PENALTY_LIMIT, MOST_REWARD_LIMIT, PLACE};
 use setup::write::module_word;
-use setup::{Setup, limit_ok};
+use setup::{Setup, limit_ok, unmarked};
 use words::Verdict;
-use words::bits::bit_at;
 use words::check::{accept, refusal};
 use words::word::{KIND, put_word, word_at};
 
@@ -40,11 +39,12 @@ fn left_ok(fades: bool, left: u32) -> bool
     (left <= MOST_LEAD) & (!fades | (left == 0))
 }
 
-// Whether a new module word is the setup's own word but for a criticality in range.
+// Whether a new module word is the setup's own word but for a criticality in range; neither's send mark counts.
 fn new_module_ok(own: u32, new: u32) -> bool
     ensures { result ≡ new_module_ok own new }
 {
-    (new / PLACE == own / PLACE) & ((1 <= new % PLACE) & (new % PLACE <= MOST_CRITICALITY))
+    (unmarked(new) / PLACE == unmarked(own) / PLACE)
+        & ((1 <= new % PLACE) & (new % PLACE <= MOST_CRITICALITY))
 }
 
 // Whether new word i is right.
@@ -149,7 +149,7 @@ fn new_word(setup: Setup, pending: Pending, i: usize) -> u32
     let j = i - 2;
     let place = setup.places[j];
     let criticality = pending.criticality[j];
-    module_word(j, bit_at(setup.marks, j), place, criticality)
+    module_word(j, place, criticality)
 }
 
 // Writes the rounds left, and the new words where they are not 0.

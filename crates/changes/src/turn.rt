@@ -19,7 +19,6 @@ fn renewed(setup: Setup, pending: Pending) -> Setup
         q: setup.q,
         partitionable: setup.partitionable,
         limits: Limits::Counts(pending.p, pending.r),
-        marks: setup.marks,
         places,
         criticality,
     }

@@ -62,6 +62,15 @@ non-negative-bits b = go (dec_lt b (2 ^ 63)) (dec_lt b 0x7ff0000000000000)
         let g : eqb (b % 2 ^ 63 / 2 ^ 52) 2047 ≡ true = eq-eqb _ _ q in
         non-negative-fields (leb (2 ^ 63) b) (b % 2 ^ 63 / 2 ^ 52) (b % 2 ^ 52) ∙ rw (e, f, g)
 
+-- which its high half tells
+pub non-negative-high : (h l : ℕ) → l < 2 ^ 32 → non_negative (of_words h l) ≡ ltb h 0x7ff00000
+unfolding of_words
+non-negative-high h l s = non-negative-bits (h * 2 ^ 32 + l) ∙ go (dec_lt h 0x7ff00000)
+  where
+    go : Dec (h < 0x7ff00000) → ltb (h * 2 ^ 32 + l) 0x7ff0000000000000 ≡ ltb h 0x7ff00000
+    go (yes k) = lt-ltb (h * 2 ^ 32 + l) 0x7ff0000000000000 (omega arith) ∙ sym (lt-ltb h 0x7ff00000 k)
+    go (no k) = le-ltb (h * 2 ^ 32 + l) 0x7ff0000000000000 (omega arith) ∙ sym (le-ltb h 0x7ff00000 (omega arith))
+
 pub non-negative-by-bits : (x : Float) → T (fits binary64 x) → ltb (to_bits binary64 x) 0x7ff0000000000000 ≡ non_negative x
 non-negative-by-bits x h = sym (non-negative-bits (to_bits binary64 x)) ∙ ap non_negative (of_bits-to_bits binary64 x h)
 

@@ -1,5 +1,5 @@
 -- A change that takes effect leaves accounts within the new limits.
-use Rattle.std.proofs.Common.{◌≡◌, ℕ, ◌<◌, true, false, get_or, refl, ap, ◌∙◌, subst, inl, inr, ⊎_elim, arith}
+use Rattle.std.proofs.Common.{◌≡◌, ℕ, ◌<◌, true, false, get_or, refl, ap, ◌∙◌, subst, inl, inr, ⊎_elim, arith, Bool, ◌⊎◌, sym}
 use Rattle.words.specs.Bits.{bit}
 use Rattle.words.proofs.Truth.{clash}
 use Rattle.words.proofs.ArrayLaws.{clear_from, array-clear, array-length}

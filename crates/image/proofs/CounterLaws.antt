@@ -1,7 +1,11 @@
 -- The accounts: the words that they are written as pass their tests and hold them, and what passes is written as it was read; accounts within the
 -- limits of a setup have room, and stay within them.
-use Rattle.std.proofs.Common.{◌≡◌, ℕ, ◌+◌, ◌-◌, ◌/◌, ◌^◌, ◌<◌, ◌≤◌, Bool, true, false, List, length, get_or, replicate, sym, refl, ap, ◌∙◌, ap₂, arith}
-use lib.ListN.{get_or-replicate, length-replicate}
+use mathlib.Core.Path.{◌≡◌, refl, ap, ap₂, ◌∙◌, sym}
+use mathlib.Core.Bool.{Bool, true, false}
+use mathlib.Core.List.{List}
+use Prim.Native.Nat.{ℕ, ◌+◌, ◌-◌, ◌/◌, ◌^◌, ◌<◌, ◌≤◌}
+use native.Mathlib.Omega.{arith}
+use lib.ListN.{get_or, length, replicate, get_or-replicate, length-replicate}
 use lib.Ieee.{Float}
 use Rattle.words.specs.Word.{word_at}
 use Rattle.words.specs.Bits.{bit, full}

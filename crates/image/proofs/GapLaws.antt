@@ -1,5 +1,11 @@
 -- The counters of a module, tested by how far their words are above the first words of their kinds and numbers.
-use Rattle.std.proofs.Common.{◌≡◌, ℕ, ◌+◌, ◌^◌, ◌<◌, ◌≤◌, Bool, true, false, ◌&&◌, ltb, leb, List, sym, refl, ap, ◌∙◌, ap₂, arith, ltb-true, leb-true}
+use mathlib.Core.Path.{◌≡◌, refl, ap, ap₂, ◌∙◌, sym}
+use mathlib.Core.Bool.{Bool, true, false, ◌&&◌}
+use mathlib.Core.List.{List}
+use Prim.Native.Nat.{ℕ, ◌+◌, ◌^◌, ◌<◌, ◌≤◌}
+use native.Mathlib.Omega.{arith}
+use lib.Dec.{leb, ltb}
+use borrow.Author.Tests.{leb-true, ltb-true}
 use Rattle.words.specs.Word.{word_at, gap_of}
 use Rattle.words.specs.Bits.{bit}
 use Rattle.words.specs.Array.{array}

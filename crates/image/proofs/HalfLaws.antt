@@ -1,13 +1,22 @@
 -- The scores, two words each: they are right exactly where every word of theirs is, and one pass tests the accounts of a module in a turn.
-use Rattle.std.proofs.Common.{◌≡◌, ℕ, ◌+◌, ◌*◌, ◌/◌, ◌%◌, ◌<◌, Bool, true, false, cond, ◌&&◌, eqb, List, get_or, sym, ap, ◌∙◌, ap₂, ⊎_elim, arith, eq-eqb, ne_eqb}
-use lib.Ieee.{Float}
+use mathlib.Core.Path.{◌≡◌, refl, ap, ap₂, ◌∙◌, sym}
+use mathlib.Core.Bool.{Bool, true, false, cond, ◌&&◌, beq}
+use mathlib.Core.List.{List}
+use mathlib.Core.Logic.{⊎_elim}
+use Prim.Native.Nat.{ℕ, ◌+◌, ◌*◌, ◌/◌, ◌%◌, ◌^◌, ◌<◌}
+use native.Mathlib.Omega.{arith}
+use lib.ListN.{get_or}
+use lib.Dec.{eqb, ltb}
+use lib.Ieee.{Float, lt}
+use borrow.Author.Tests.{eq-eqb, ne_eqb}
 use Rattle.words.specs.Bits.{bit}
 use Rattle.words.specs.Count.{all}
 use Rattle.words.specs.Verdict.{all_right}
 use Rattle.words.proofs.Truth.{which, and_r, cond-true, cond-false, iff-eq}
 use Rattle.words.proofs.CountLaws.{all-at, all-intro, all_both}
 use Rattle.words.proofs.VerdictLaws.{and-end}
-use Rattle.doubles.specs.Double.{double_in}
+use Rattle.doubles.specs.Double.{of_words, double_in}
+use Rattle.doubles.proofs.DoubleLaws.{non-negative-high}
 use Rattle.setup.specs.Layout.{score_limit_at, front_words}
 use Rattle.image.specs.Layout.{own_at, accounts_at}
 use Rattle.image.specs.Words.{view_in}
@@ -40,6 +49,17 @@ pub score-by : {v at : ℕ} {limit score : Float} {present b : Bool} (w : ℕ �
     → present ≡ bit v j → at ≡ accounts_at front n → score ≡ double_in w (at + 2 * j) → b ≡ score_fits limit present score → b ≡ score_test w front n j
 score-by w front n j el ev ep ea es eb =
     eb ∙ (λ i. score_fits (el i) ((ep ∙ ap (λ (x : ℕ). bit x j) ev) i) ((es ∙ ap (λ (x : ℕ). double_in w (x + 2 * j)) ea) i))
+
+-- a score that is right, by its two words: the high one tells whether it is a number from 0 up, and 0 stands for it where it is not
+pub score-halves : {number : Bool} {picked : ℕ} {score : Float} (limit : Float) (present : Bool) (high low : ℕ) → low < 2 ^ 32 → number ≡ ltb high 0x7ff00000
+    → picked ≡ cond number high 0 → score ≡ of_words picked low → number && beq present (lt score limit) ≡ score_fits limit present (of_words high low)
+unfolding score_fits
+score-halves {number} limit present high low small e p s =
+    rw (non-negative-high high low small, s, p, sym e) (go number)
+  where
+    go : (b : Bool) → b && beq present (lt (of_words (cond b high 0) low) limit) ≡ b && beq present (lt (of_words high low) limit)
+    go true = refl
+    go false = refl
 
 -- as its two words tell it
 module _ {b : Bool} (w : ℕ → ℕ) (front n i : ℕ) where

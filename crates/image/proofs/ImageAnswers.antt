@@ -1,5 +1,5 @@
 -- What the check of a saved state answers, by what was found of its head, its length and its words.
-use Rattle.std.proofs.Common.{◌≡◌, ℕ, ◌/◌, ◌%◌, ◌≤◌, Bool, true, false, cond, ◌&&◌, eqb, List, length, sym, refl, ap, ◌∙◌, ap₂, arith, eq-eqb, eqb-true}
+use Rattle.std.proofs.Common.{◌≡◌, ℕ, ◌/◌, ◌%◌, ◌≤◌, Bool, true, false, cond, ◌&&◌, eqb, List, length, sym, refl, ap, ◌∙◌, ap₂, arith, eq-eqb, eqb-true, ne_eqb}
 use Rattle.words.specs.Word.{word_at, kind_unit}
 use Rattle.words.specs.Verdict.{verdict, is_accepted, all_right, first_refusal}
 use Rattle.words.specs.declared.Verdict.{Verdict}

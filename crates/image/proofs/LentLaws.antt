@@ -1,5 +1,11 @@
 -- Accounts that are lent as three arrays: written from them, and read into them, they are those of the struct.
-use Rattle.std.proofs.Common.{◌≡◌, ℕ, ◌+◌, ◌*◌, ◌/◌, ◌%◌, ◌^◌, ◌<◌, ◌≤◌, Bool, true, false, cond, eqb, List, length, get_or, sym, refl, ap, ◌∙◌, subst, ap₂, arith}
+use mathlib.Core.Path.{◌≡◌, refl, ap, ap₂, ◌∙◌, sym, subst}
+use mathlib.Core.Bool.{Bool, true, false, cond}
+use mathlib.Core.List.{List}
+use Prim.Native.Nat.{ℕ, ◌+◌, ◌*◌, ◌/◌, ◌%◌, ◌^◌, ◌<◌, ◌≤◌}
+use native.Mathlib.Omega.{arith}
+use lib.ListN.{get_or, length}
+use lib.Dec.{eqb}
 use Rattle.words.specs.Word.{word_at}
 use Rattle.words.specs.Array.{array, Filled}
 use Rattle.words.specs.Runs.{put_run, put_runs}

@@ -13,4 +13,5 @@ pub mod HalfLaws
 pub mod SectionLaws
 pub mod TornLaws
 pub mod ImageAnswers
+pub mod UnmarkedLaws
 pub mod BooksLaws

@@ -1,6 +1,14 @@
 -- Penalties and rewards: what their tests say, and that a round keeps what passes them.
-use Rattle.std.proofs.Common.{◌≡◌, ℕ, ◌+◌, ◌<◌, ◌≤◌, Bool, true, not, eqb, ltb, leb, get_or, refl, ap, ⊎_elim, eq-zero-or-pos, arith, ltb-true, lt-ltb, eq-eqb, ne_eqb, eqb-true, le-leb, leb-true}
+use mathlib.Core.Path.{◌≡◌, refl, ap}
+use mathlib.Core.Bool.{Bool, true, not}
+use mathlib.Core.Logic.{⊎_elim}
+use Prim.Native.Nat.{ℕ, ◌+◌, ◌<◌, ◌≤◌}
+use native.Mathlib.Omega.{arith}
+use native.Mathlib.Nat.{eq-zero-or-pos}
+use lib.ListN.{get_or}
+use lib.Dec.{eqb, leb, ltb}
 use lib.Ieee.{Float}
+use borrow.Author.Tests.{leb-true, ltb-true, le-leb, lt-ltb, eqb-true, eq-eqb, ne_eqb}
 use Rattle.words.specs.Bits.{bit}
 use Rattle.words.proofs.Truth.{and_l, and_r, and-true, or_l, or_r, or_cases, beq-eq, beq-refl, clash, not-both}
 use Rattle.setup.specs.declared.Setup.{Setup}

@@ -1,5 +1,9 @@
 -- What one pass over an image finds: whether every word is right, and what the counters are read with.
-use Rattle.std.proofs.Common.{◌≡◌, ℕ, ◌+◌, ◌<◌, ◌≤◌, Bool, true, false, ◌&&◌, List, ◌++◌, get_or, sym, refl, ap, ◌∙◌}
+use mathlib.Core.Path.{◌≡◌, refl, ap, ◌∙◌, sym}
+use mathlib.Core.Bool.{Bool, true, false, ◌&&◌}
+use mathlib.Core.List.{List, ◌++◌}
+use Prim.Native.Nat.{ℕ, ◌+◌, ◌<◌, ◌≤◌}
+use lib.ListN.{get_or}
 use Rattle.words.specs.Word.{word_at}
 use Rattle.words.specs.Bits.{bit}
 use Rattle.words.specs.Array.{array}
@@ -11,8 +15,7 @@ use Rattle.words.proofs.VerdictLaws.{numbered, tests-accept, right-join}
 use Rattle.setup.specs.Layout.{head_at, penalty_limit_at, reward_limit_at, front_words}
 use Rattle.setup.specs.Limits.{most_penalty_limit, most_reward_limit}
 use Rattle.setup.specs.Setup.{return_limit_in, partitionable_in, limit_in, criticality_in, fades_in, limits_in}
-use Rattle.setup.specs.Check.{limit_tests, word_tests}
-use Rattle.setup.specs.Modules.{module_right}
+use Rattle.setup.specs.Check.{module_ok, limit_tests, word_tests}
 use Rattle.setup.proofs.BoundLaws.{limits-read}
 use Rattle.setup.proofs.SetupReadLaws.{words-good}
 use Rattle.changes.specs.Words.{change_tests}
@@ -59,10 +62,10 @@ module _ {fades : Bool} {front : ℕ} (s : List ℕ) (n : ℕ) (form : fades ≡
   -- the same where the limits are found first
   pub limits-wrong : {limits : Bool} → limits ≡ all_right (limit_tests fades (word_at s)) → limits ≡ false → false ≡ all_right (image_tests s n)
   limits-wrong e f =
-      loaded-good {first = false} (ap (λ (x : Bool). x && all n (λ j. module_right n j (word_at s (front + j)))) (sym f) ∙ words-good s form at n e refl) refl refl refl refl refl
+      loaded-good {first = false} (ap (λ (x : Bool). x && all n (λ j. module_ok n j (word_at s (front + j)))) (sym f) ∙ words-good s form at n e refl) refl refl refl refl refl
 
   pub limits-fine : {limits modules alone rows counters change views : Bool} → limits ≡ all_right (limit_tests fades (word_at s)) → limits ≡ true
-      → modules ≡ all n (λ j. module_right n j (word_at s (front + j))) → alone ≡ words_right (word_at s) front n → rows ≡ all n (row_test (word_at s) front n)
+      → modules ≡ all n (λ j. module_ok n j (word_at s (front + j))) → alone ≡ words_right (word_at s) front n → rows ≡ all n (row_test (word_at s) front n)
       → counters ≡ all_right (counter_tests fades (word_at s) n) → change ≡ all_right (change_tests fades (word_at s) n (left_at front n))
       → views ≡ all_right (view_tests (partitionable_in (word_at s head_at)) (word_at s) n (view_in (word_at s (own_at front n))) (views_at front n (word_at s (left_at front n))))
       → modules && (alone && (rows && (counters && (change && views)))) ≡ all_right (image_tests s n)

@@ -1,7 +1,14 @@
 -- The return counts: what their test says, and that a round keeps what passes it.
-use Rattle.std.proofs.Common.{◌≡◌, ℕ, ◌-◌, ◌<◌, ◌≤◌, Bool, true, false, cond, not, ◌&&◌, ◌||◌, eqb, ltb, ◌⊎◌, List, get_or, refl, ap, ◌∙◌, inl, inr, ⊎_elim, eq-zero-or-pos, arith, ltb-true, lt-ltb, eq-eqb, eqb-true}
-use mathlib.Core.Bool.{false≢true}
-use borrow.Author.Tests.{eqb-false}
+use mathlib.Core.Path.{◌≡◌, refl, ap, ◌∙◌}
+use mathlib.Core.Bool.{Bool, true, false, cond, not, ◌&&◌, ◌||◌, false≢true}
+use mathlib.Core.List.{List}
+use mathlib.Core.Logic.{◌⊎◌, inl, inr, ⊎_elim}
+use Prim.Native.Nat.{ℕ, ◌-◌, ◌<◌, ◌≤◌}
+use native.Mathlib.Omega.{arith}
+use native.Mathlib.Nat.{eq-zero-or-pos}
+use lib.ListN.{get_or}
+use lib.Dec.{eqb, ltb}
+use borrow.Author.Tests.{eqb-true, eqb-false, eq-eqb, ltb-true, lt-ltb}
 use Rattle.words.specs.Word.{word_at}
 use Rattle.words.specs.Bits.{bit}
 use Rattle.words.proofs.ArrayLaws.{clear_from, array-clear}

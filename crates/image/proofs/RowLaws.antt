@@ -1,7 +1,15 @@
 -- The rows of a read: a word is made of its fields, the words that a read is written as pass their test and hold it, and what passes is written
 -- as it was read.
-use Rattle.std.proofs.Common.{◌≡◌, ℕ, ◌+◌, ◌*◌, ◌/◌, ◌%◌, ◌^◌, ◌<◌, ◌≤◌, Bool, true, false, cond, ◌&&◌, eqb, ltb, ◌≢◌, List, length, get_or, sym, refl, ap, ◌∙◌, ⊎_elim, arith, pow_mono, ltb-false, ltb-true, le-ltb, lt-ltb, eq-eqb, eqb-true}
-use borrow.Author.Tests.{eqb-false}
+use mathlib.Core.Path.{◌≡◌, refl, ap, ◌∙◌, sym}
+use mathlib.Core.Bool.{Bool, true, false, cond, ◌&&◌}
+use mathlib.Core.Logic.{◌≢◌, ⊎_elim}
+use mathlib.Core.List.{List}
+use Prim.Native.Nat.{ℕ, ◌+◌, ◌*◌, ◌/◌, ◌%◌, ◌^◌, ◌<◌, ◌≤◌}
+use native.Mathlib.Omega.{arith}
+use lib.ListN.{get_or, length}
+use lib.Dec.{eqb, ltb}
+use lib.Pow.{pow_mono}
+use borrow.Author.Tests.{eqb-true, eqb-false, eq-eqb, ltb-true, ltb-false, lt-ltb, le-ltb}
 use Rattle.words.specs.Word.{word_at, gap_of}
 use Rattle.words.specs.Bits.{b2n, bit}
 use Rattle.words.proofs.Truth.{which, and_l, and_r, and-true}

@@ -1,9 +1,14 @@
 -- The scores: the words that they are written as pass their tests and hold them, and what passes is written as it was read; scores within the limit
 -- of a setup stay within it.
-use Rattle.std.proofs.Common.{◌≡◌, ℕ, ◌+◌, ◌*◌, ◌/◌, ◌%◌, ◌^◌, ◌<◌, ◌≤◌, Bool, true, false, cond, ◌&&◌, eqb, ◌⊎◌, List, get_or, replicate, sym, refl, ap, ◌∙◌, ap₂, inl, inr, arith}
-use mathlib.Core.Bool.{beq}
+use mathlib.Core.Path.{◌≡◌, refl, ap, ap₂, ◌∙◌, sym}
+use mathlib.Core.Logic.{◌⊎◌, inl, inr}
+use mathlib.Core.Bool.{Bool, true, false, cond, ◌&&◌, beq}
+use mathlib.Core.List.{List}
+use Prim.Native.Nat.{ℕ, ◌+◌, ◌*◌, ◌/◌, ◌%◌, ◌^◌, ◌<◌, ◌≤◌}
+use native.Mathlib.Omega.{arith}
 use native.Mathlib.Decide.{dec_lt}
-use lib.ListN.{get_or-replicate}
+use lib.ListN.{get_or, replicate, get_or-replicate}
+use lib.Dec.{eqb}
 use lib.Ieee.{Float, lt}
 use Rattle.words.specs.Bits.{bit, full}
 use Rattle.words.proofs.BitLaws.{bit-full}

@@ -1,5 +1,11 @@
 -- The answers of the sections, each after those before it, and the sections as they are written.
-use Rattle.std.proofs.Common.{◌≡◌, ℕ, ◌+◌, ◌/◌, ◌%◌, Bool, true, false, cond, not, eqb, List, [], ◌∷◌, ◌++◌, get_or, sym, refl, ap, ◌∙◌, subst, arith}
+use mathlib.Core.Path.{◌≡◌, refl, ap, subst, ◌∙◌, sym}
+use mathlib.Core.Bool.{Bool, true, false, cond, not}
+use mathlib.Core.List.{List, [], ◌∷◌, ◌++◌}
+use Prim.Native.Nat.{ℕ, ◌+◌, ◌/◌, ◌%◌}
+use native.Mathlib.Omega.{arith}
+use lib.ListN.{get_or}
+use lib.Dec.{eqb}
 use Rattle.words.specs.Bits.{bit}
 use Rattle.words.specs.Verdict.{verdict, accepted, Test, single, each, and_then, outcome, then_tests, first_refusal}
 use Rattle.words.specs.declared.Verdict.{Verdict}

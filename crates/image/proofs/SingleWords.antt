@@ -1,5 +1,11 @@
 -- A word that stands alone is made of its fields, and its fields are those that it was made of.
-use Rattle.std.proofs.Common.{◌≡◌, ℕ, ◌+◌, ◌*◌, ◌/◌, ◌%◌, ◌^◌, ◌<◌, ◌≤◌, Bool, true, false, not, ◌&&◌, ◌||◌, eqb, ltb, refl, ap, ◌∙◌, arith, pow_mono, ltb-true, lt-ltb, eq-eqb, eqb-true}
+use mathlib.Core.Path.{◌≡◌, refl, ap, ◌∙◌}
+use mathlib.Core.Bool.{Bool, true, false, not, ◌&&◌, ◌||◌}
+use Prim.Native.Nat.{ℕ, ◌+◌, ◌*◌, ◌/◌, ◌%◌, ◌^◌, ◌<◌, ◌≤◌}
+use native.Mathlib.Omega.{arith}
+use lib.Pow.{pow_mono}
+use lib.Dec.{eqb, ltb}
+use borrow.Author.Tests.{eqb-true, eq-eqb, ltb-true, lt-ltb}
 use Rattle.words.specs.Word.{kind_unit}
 use Rattle.words.specs.Verdict.{between}
 use Rattle.words.proofs.Truth.{and_l, and_r, and-true, or_r, iff-eq}
@@ -88,16 +94,3 @@ unfolding syndrome_ok
 syndrome-right n v h l =
     let e : syndrome_word v / 2 ^ 28 ≡ 12 = omega arith in
     and-true (eqb (syndrome_word v / 2 ^ 28) 12) _ (eq-eqb _ _ e) (rw (syndrome-back v h) (lt-ltb v (2 ^ n) l))
-
--- a syndrome by one comparison: d is how far its word is above the first of its kind
-pub syndrome-one : {x : ℕ} (n w d : ℕ) → n ≤ 16 → d < 2 ^ 32 → (d + 12 * kind_unit) % 2 ^ 32 ≡ w → x ≡ 2 ^ n → ltb d x ≡ syndrome_ok n w
-unfolding syndrome_ok
-syndrome-one n w d few h e p =
-    let q = pow_mono {i = n} {j = 16} few in
-    ap (ltb d) p
-    ∙ iff-eq _ _
-    (λ t. let l = ltb-true d (2 ^ n) t in and-true _ _ (eq-eqb (w / kind_unit) 12 (omega arith)) (lt-ltb (syndrome_in w) (2 ^ n) (omega arith)))
-    (λ t.
-    let k = eqb-true (w / kind_unit) 12 (and_l (eqb (w / kind_unit) 12) _ t) in
-    let l = ltb-true (syndrome_in w) (2 ^ n) (and_r (eqb (w / kind_unit) 12) _ t) in
-    lt-ltb d (2 ^ n) (omega arith))

@@ -1,5 +1,12 @@
 -- What holds of bytes that pass the check of a saved state.
-use Rattle.std.proofs.Common.{◌≡◌, ℕ, ◌<◌, Bool, true, false, eqb, List, ◌++◌, length, sym, ap, ◌∙◌, arith, eq-eqb, eqb-true}
+use mathlib.Core.Path.{◌≡◌, ap, ◌∙◌, sym}
+use mathlib.Core.Bool.{Bool, true, false}
+use mathlib.Core.List.{List, ◌++◌}
+use Prim.Native.Nat.{ℕ, ◌<◌}
+use native.Mathlib.Omega.{arith}
+use lib.ListN.{length}
+use lib.Dec.{eqb}
+use borrow.Author.Tests.{eqb-true, eq-eqb}
 use Rattle.words.specs.Word.{word_at}
 use Rattle.words.specs.Verdict.{accepted, and_then, first_refusal}
 use Rattle.words.specs.declared.Verdict.{Verdict}

@@ -1,5 +1,8 @@
 -- The views at the end of a saved state: their room, and their tests as the code asks them, where there are some and where there are none.
-use Rattle.std.proofs.Common.{◌≡◌, ℕ, ◌+◌, ◌*◌, ◌^◌, ◌<◌, ◌≤◌, Bool, true, false, sym, refl, ap, ◌∙◌, arith}
+use mathlib.Core.Path.{◌≡◌, refl, ap, sym, ◌∙◌}
+use mathlib.Core.Bool.{Bool, true, false}
+use Prim.Native.Nat.{ℕ, ◌+◌, ◌*◌, ◌^◌, ◌<◌, ◌≤◌}
+use native.Mathlib.Omega.{arith}
 use Rattle.words.specs.Verdict.{first_refusal, then_tests, all_right}
 use Rattle.words.specs.declared.Verdict.{Verdict}
 use Rattle.setup.specs.Layout.{head_at, front_words}

@@ -1,4 +1,4 @@
--- The check of a saved state: numbers 1 to 8 and 22 in their order, each with the index of its word. (document 01, "Answers and their order";
+-- The check of a saved state: numbers 1 to 5, 7, 8 and 22 in their order, each with the index of its word. (document 01, "Answers and their order";
 -- document 02, E9, E10 and E11)
 use Rattle.std.specs.Prelude.{ℕ, ◌+◌, Bool, cond, ◌&&◌, List, ◌∷◌, ◌++◌, length, ◌==◌}
 use Rattle.words.specs.Word.{word_at}
@@ -48,7 +48,7 @@ image_length_in s = image_length (front_in (word_at s)) (size_in (word_at s head
 unfoldable pub image_size : List ℕ → ℕ
 image_size s = cond (is_accepted (check_head s (length s == image_length_in s))) (size_in (word_at s head_at)) 0
 
--- numbers 1 to 8 and 22
+-- numbers 1 to 5, 7, 8 and 22
 unfoldable pub check_image : List ℕ → Verdict
 check_image s = and_then (check_head s (length s == image_length_in s)) (first_refusal (image_tests s (size_in (word_at s head_at))))
 

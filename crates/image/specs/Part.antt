@@ -4,6 +4,7 @@
 -- setup fades, the high halves of the scores, their low halves, and return counts.
 use Rattle.std.specs.Prelude.{◌≡◌, ℕ, ◌+◌, ◌*◌, ◌/◌, ◌%◌, ◌<◌, Bool, true, false, cond, not, List, [], ◌∷◌, replicate, ◌==◌, slice_index}
 use Rattle.words.specs.Word.{word_at, number_unit}
+use Rattle.words.specs.Bits.{bit}
 use Rattle.words.specs.Array.{array}
 use Rattle.words.specs.Count.{any}
 use Rattle.words.specs.Runs.{Run}
@@ -70,6 +71,7 @@ lent_runs false n x y z =
 -- part and arrays are those of the words of s: k holds the criticalities, l the rows, and x, y and z the accounts
 pub record PartOf (s : List ℕ) (fades : Bool) (n : ℕ) (part : ImagePart) (k l x y z : List ℕ) : Type 0 where
   pub skew : part.skew ≡ any n (λ j. not (place_in (word_at s (front_words fades + j)) == n))
+  pub marked : part.marked ≡ any n (λ j. bit (word_at s (front_words fades + j)) 22)
   pub q : part.q ≡ return_limit_in (word_at s head_at)
   pub limits : part.limits ≡ limits_in fades (word_at s)
   pub own : part.own ≡ own_in (word_at s (own_at (front_words fades) n))

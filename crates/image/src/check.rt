@@ -1,4 +1,4 @@
-// The check of a saved state in lent bytes: numbers 1 to 8 and 22, each with the index of the first word that is wrong.
+// The check of a saved state in lent bytes: numbers 1 to 5, 7, 8 and 22, each with the index of the first word that is wrong.
 ghost use Rattle.std.specs.Prelude.{◌≡◌, ◌+◌, ◌*◌, ◌^◌, ◌<◌, ◌≤◌, true, false, not, [], ◌∷◌, length, ◌==◌};
 ghost use Rattle.words.specs.Word.{word_at};
 ghost use Rattle.words.specs.Count.{lowest};
@@ -216,7 +216,7 @@ pub fn image_size(s: &[u8]) -> usize
     n
 }
 
-// Numbers 1 to 8 and 22.
+// Numbers 1 to 5, 7, 8 and 22.
 pub fn check_image(s: &[u8]) -> Verdict
     ensures { result ≡ check_image s.now }
 {

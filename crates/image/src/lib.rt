@@ -29,12 +29,13 @@ pub struct Basis {
     pub penalty: u32,
 }
 
-// What a step needs of an image besides the lent arrays, and whether its words are right: whether reads are skewed, the limits, the own number, the
+// What a step needs of an image besides the lent arrays, and whether its words are right: whether reads are skewed, whether a module word has the send mark, the limits, the own number, the
 // view, who was heard in the previous read, the two latest syndromes, and the rounds left until a pending change takes effect.
 #[derive(Clone, Copy)]
 pub struct ImagePart {
     pub good: bool,
     pub skew: bool,
+    pub marked: bool,
     pub q: u32,
     pub limits: Limits,
     pub own: usize,
@@ -65,7 +66,7 @@ pub use counters::{counters_roomy, zero_counters};
 pub use layout::{image_length, left_at, views_at};
 pub use lent::{first_of, lent_counters, second_of};
 pub use load::{load_accounts, load_image};
-pub use read::{earlier_in, latest_in, load_words, own_in, place_in, view_in};
+pub use read::{latest_in, load_words, place_in, view_in};
 pub use rows::{load_rows, rows_roomy};
 pub use save::{save_accounts, save_sections};
 pub use torn::views_good;

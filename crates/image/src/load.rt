@@ -66,6 +66,7 @@ fn no_part() -> ImagePart
     ImagePart {
         good: false,
         skew: false,
+        marked: false,
         q: 0,
         limits: Limits::Counts(0, 0),
         own: 0,
@@ -124,6 +125,7 @@ pub fn load_image(
     ImagePart {
         good: modules.good & (alone.good & (read.good & (right & ((change.number == 0) & views)))),
         skew: modules.skew,
+        marked: modules.marked,
         q,
         limits,
         own: alone.own,

@@ -36,14 +36,6 @@ pub fn place_in(s: &[u8], front: usize, j: usize) -> u32
     field(word_at(s, front + j), 17, 5)
 }
 
-// The own number.
-pub fn own_in(s: &[u8], front: usize, n: usize) -> usize
-    requires { (front ≤ 6) × (n ≤ 16) × (before_left front n ≤ length s.now) }
-    ensures { result ≡ own_in (word_at s.now (own_at front n)) }
-{
-    field(word_at(s, own_at(front, n)), 16, 5) as usize
-}
-
 // The view.
 pub fn view_in(s: &[u8], front: usize, n: usize) -> u32
     requires { (front ≤ 6) × (n ≤ 16) × (before_left front n ≤ length s.now) }
@@ -58,14 +50,6 @@ pub fn latest_in(s: &[u8], front: usize, n: usize) -> u32
     ensures { result ≡ syndrome_in (word_at s.now (latest_at front n)) }
 {
     word_at(s, latest_at(front, n)) % KIND
-}
-
-// The syndrome before it.
-pub fn earlier_in(s: &[u8], front: usize, n: usize) -> u32
-    requires { (front ≤ 6) × (n ≤ 16) × (before_left front n ≤ length s.now) }
-    ensures { result ≡ syndrome_in (word_at s.now (earlier_at front n)) }
-{
-    word_at(s, earlier_at(front, n)) % KIND
 }
 
 // The words that stand alone, and whether they are right.

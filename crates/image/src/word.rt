@@ -3,9 +3,8 @@ ghost use Rattle.std.specs.Prelude.{◌≡◌, ◌+◌, ◌*◌, ◌^◌, ◌<�
 ghost use Rattle.words.specs.Runs.{put_run};
 ghost use Rattle.image.specs.Words.{own_word, syndrome_word, own_number_ok, own_ok, syndrome_ok};
 
-use std::num::wrapping_sub_u32;
 use words::bits::power;
-use words::word::{KIND, field, put_word};
+use words::word::{KIND, field, is_vector, put_word};
 
 // 2^16: a vector of the modules, the view, a row or a syndrome, stands below it; and 2^21, where the spare bits of the own number's word begin.
 pub const VECTOR: u32 = 65536;
@@ -37,12 +36,12 @@ pub fn own_right(n: usize, w: u32) -> bool
     own_ok(n, w) & ((1 <= own) & (own as usize <= n))
 }
 
-// Kind 12, no bit at n or above, by one comparison: how far the word is above the first of its kind.
+// Kind 12, no bit at n or above.
 pub fn syndrome_ok(n: usize, w: u32) -> bool
     requires { n ≤ 16 }
     ensures { result ≡ syndrome_ok n w }
 {
-    wrapping_sub_u32(w, 12 * KIND) < power(n)
+    is_vector(12, n, w)
 }
 
 // The word of the own number and the view.

@@ -26,14 +26,14 @@ with_page passed c out page next =
     cond (passed && not (is_page page)) (page_called (refused_call 9 0 out) page)
     (page_called c (cond (eqb c.answer.number 0) next page))
 
--- opening: 1 to 6, 7, 9 for the output or the page; no number of an opening is above 9, so a page that alone is wrong is seen where all else passed
+-- opening: 1 to 5 and 22, 7, 9 for the output or the page; no number of an opening is above 9, so a page that alone is wrong is seen where all else passed
 unfoldable pub page_open_call : List ℕ → ℕ → List ℕ → List ℕ → PageCalled
 page_open_call setup own out page =
     let c = open_call setup own out in
     let st = (open_of (setup_of setup) own).state in
     with_page (eqb c.answer.number 0) c out page (page_opened st.setup.n (shown_view st))
 
--- step: 1 to 8, 9 for the output, the read or the page, 10; charged are modules that rule 8 finds in the local view, after a change that is due has
+-- step: 1 to 5, 7, 8 and 22, 9 for the output, the read or the page, 10; charged are modules that rule 8 finds in the local view, after a change that is due has
 -- taken effect; what is shown, and whether it changed, goes by the adopted view where the setup is partitionable
 unfoldable pub page_step_call : List ℕ → List ℕ → ℕ → List ℕ → List ℕ → PageCalled
 page_step_call image read controller out page =

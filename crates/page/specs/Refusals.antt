@@ -22,13 +22,13 @@ use Rattle.page.specs.Calls.{PageCalled, page_called, page_open_call, page_step_
 
 -- ---- the answers, in their order
 
--- opening: 1 to 6 for the setup, 7 for the own number, 9 for the output or the page
+-- opening: 1 to 5 and 22 for the setup, 7 for the own number, 9 for the output or the page
 unfoldable pub page_open_verdict : List ℕ → ℕ → List ℕ → List ℕ → Verdict
 page_open_verdict setup own out page =
     and_then (check_setup setup)
     (first_refusal (single (between 1 (size_of setup) own) 7 0 ∷ single (has_room setup 0 out && is_page page) 9 0 ∷ []))
 
--- step: 1 to 8 for the image, 9 for the output, the read or the page, 10 for a controller bit at N or above
+-- step: 1 to 5, 7, 8 and 22 for the image, 9 for the output, the read or the page, 10 for a controller bit at N or above
 unfoldable pub page_step_verdict : List ℕ → List ℕ → ℕ → List ℕ → List ℕ → Verdict
 page_step_verdict image read controller out page =
     and_then (check_image image)

@@ -21,7 +21,7 @@ use setup::check::size_at;
 use words::bits::{bit_at, with_bit};
 use words::word::{KIND, NUMBER, word_at};
 
-// Opens module `own` of a setup, and writes its image and its page: 1 to 6 and 22, 7, 9 for the output or the page.
+// Opens module `own` of a setup, and writes its image and its page: 1 to 5 and 22, 7, 9 for the output or the page.
 pub fn presence_page_open(bytes: &[u8], own: u32, out: &mut [u8], page: &mut [u8]) -> Answer
     ensures { page_called (called result out.new) page.new
         ≡ page_open_call bytes.now own out.old page.old }
@@ -83,7 +83,7 @@ fn found_view(image: &[u8], front: usize, n: usize) -> u32
     view_in(image, front, n)
 }
 
-// One step, from image to image, with the page beside it: 1 to 8 and 22, 9 for the read, the output or the page, 10.
+// One step, from image to image, with the page beside it: 1 to 5, 7, 8 and 22, 9 for the read, the output or the page, 10.
 pub fn presence_page_step(
     image: &[u8],
     read: &[u8],

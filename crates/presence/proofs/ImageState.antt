@@ -10,6 +10,7 @@ use Rattle.words.proofs.ArrayLaws.{array-clear}
 use Rattle.setup.specs.Setup.{size_in, partitionable_in, fades_in, front_in, setup_of}
 use Rattle.setup.proofs.FrontLaws.{setup-fits}
 use Rattle.setup.specs.Layout.{front_words}
+use Rattle.changes.specs.Words.{unmarked_words}
 use Rattle.changes.proofs.ChangeWords.{read-pending}
 use Rattle.views.proofs.ViewWords.{read-views-fit}
 use Rattle.image.specs.Layout.{own_at, latest_at, earlier_at, left_at, views_at}
@@ -17,6 +18,7 @@ use Rattle.image.specs.Words.{view_in}
 use Rattle.image.specs.Rows.{reading_in}
 use Rattle.image.specs.Counters.{counters_in}
 use Rattle.image.specs.Check.{check_image}
+use Rattle.image.proofs.UnmarkedLaws.{without}
 use Rattle.image.proofs.TailLaws.{ImageFits, image-pass}
 use Rattle.image.proofs.SingleWords.{own-made, syndrome-made}
 use Rattle.image.proofs.RowLaws.{read-rows}
@@ -52,7 +54,7 @@ module _ (s : List ℕ) (f : ImageFits s) where
         counters = read-accounts s small (fades_in (word_at s)) refl f.tail.counters;
         heard = pack-lt size _;
         no_rows = array-clear size _;
-        pending = read-pending s (left_at front size) f.words small f.tail.change (setup-fits s f.front f.words (omega (arith, f.size)));
+        pending = read-pending s (left_at front size) (unmarked_words front size (left_at front size) (word_at s)) f.words small f.tail.change (without s) (setup-fits s f.front f.words (omega (arith, f.size)));
         views = read-views-fit (partitionable_in (word_at s 0)) s (views_at front size (word_at s (left_at front size))) size _ small f.tail.views;
       }
 

@@ -18,7 +18,7 @@ use Rattle.setup.specs.Check.{limit_tests, word_tests}
 use Rattle.setup.specs.declared.Setup.{Setup}
 use Rattle.accounts.specs.declared.Counters.{Counters}
 use Rattle.rules.specs.declared.Reading.{Reading}
-use Rattle.setup.proofs.SetupCheckLaws.{both_tests}
+use Rattle.setup.proofs.SetupCheckLaws.{modules_tested}
 use Rattle.changes.specs.Words.{change_tests, pending_in}
 use Rattle.changes.specs.declared.Pending.{Pending}
 use Rattle.views.specs.Section.{view_tests, views_in}
@@ -105,7 +105,7 @@ module _ {setup : Setup} {fades : Bool} {n : ℕ} (s : List ℕ) (e : setup ≡ 
   limits-hold : {first : Bool} → first ≡ all_right (word_tests s n) → first ≡ true → all_right (limit_tests fades (word_at s)) ≡ true
   limits-hold g t =
       let ts = limit_tests (fades_in (word_at s)) (word_at s) in
-      ap (λ (b : Bool). all_right (limit_tests b (word_at s))) form ∙ and_l (all_right ts) _ (sym (right-join ts (both_tests s n)) ∙ sym g ∙ t)
+      ap (λ (b : Bool). all_right (limit_tests b (word_at s))) form ∙ and_l (all_right ts) _ (sym (right-join ts (modules_tested s n)) ∙ sym g ∙ t)
 
   pub accounts-asked : {first : Bool} {front view : ℕ} → first ≡ all_right (word_tests s n) → first ≡ true → front ≡ front_words fades → n ≤ 16
       → before_left (front_words fades) n ≤ length s → return_limit_in (word_at s 0) ≤ most_return_limit → view ≡ view_in (word_at s (own_at front n))

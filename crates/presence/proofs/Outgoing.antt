@@ -3,13 +3,13 @@ use mathlib.Core.Path.{◌≡◌, ap, ◌∙◌, subst}
 use mathlib.Core.Bool.{Bool, true}
 use mathlib.Core.List.{List}
 use Prim.Native.Nat.{ℕ, ◌^◌, ◌<◌}
-use Rattle.words.proofs.Truth.{cond-true, cond_both}
+use Rattle.words.proofs.Truth.{cond-true}
 use Rattle.rules.specs.Hearing.{word_heard, reading_of}
 use Rattle.rules.proofs.ReceptionLaws.{bus-heard}
 use Rattle.views.specs.ViewWord.{view_word, view_word_heard}
 use Rattle.views.proofs.ViewWordLaws.{view-heard}
 use Rattle.views.proofs.ViewsLaws.{ViewsFit}
-use Rattle.presence.specs.Step.{mark_of, seen_by, outgoing_view, after_round, accepted_step, step_of}
+use Rattle.presence.specs.Step.{seen_by, outgoing_view, after_round, accepted_step, step_of}
 use Rattle.presence.specs.Outgoing.{OutgoingHeard}
 use Rattle.presence.specs.declared.State.{State}
 use Rattle.presence.specs.declared.Stepped.{Stepped}
@@ -43,8 +43,7 @@ view-word-heard st read controller t z =
     let low : next.counters.view < 2 ^ st.setup.n = rw size at (after-fits st read controller f).view in
     ap (λ (s : Stepped). view_word_heard st.setup.n s.second) e
     ∙ ap (view_word_heard st.setup.n) (cond-true _ _ t)
-    ∙ view-heard st.setup.n _ f.setup.most
-    (cond_both (λ (x : ℕ). x < 2 ^ st.setup.n) (mark_of st) st.counters.view next.counters.view f.view low)
+    ∙ view-heard st.setup.n _ f.setup.most low
 
 pub outgoing-words : OutgoingHeard
 outgoing-words = record {

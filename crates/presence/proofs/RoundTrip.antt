@@ -1,4 +1,4 @@
--- What is read is what was saved, and what is saved is what was read.
+-- What is read is what was saved, and what is saved is what was read, but for send marks.
 use mathlib.Core.Path.{◌≡◌, refl, ap, ap₂, ◌∙◌, sym, subst}
 use mathlib.Core.Bool.{Bool, true, false, cond}
 use mathlib.Core.List.{List, ◌++◌}
@@ -7,14 +7,14 @@ use native.Mathlib.Omega.{arith}
 use lib.ListN.{get_or}
 use lib.Dec.{eqb}
 use Rattle.words.specs.Word.{word_at, bytes_of}
-use Rattle.words.specs.Runs.{total, runs_of, run_word}
+use Rattle.words.specs.Runs.{Run, total, runs_of, run_word}
 use Rattle.words.specs.Verdict.{accepted}
 use Rattle.words.proofs.Truth.{cond-true}
 use Rattle.words.proofs.ArrayLaws.{array-length}
 use Rattle.words.proofs.WordLaws.{word_lt}
-use Rattle.words.proofs.ByteLaws.{word-front, bytes-join, bytes-own}
+use Rattle.words.proofs.ByteLaws.{word-front, bytes-ext, bytes-join, bytes-own}
 use Rattle.words.proofs.RunLaws.{Follows, follow-runs, runs-join}
-use Rattle.words.proofs.RunJoinLaws.{follow-join, follow-moved}
+use Rattle.words.proofs.RunJoinLaws.{follow-join, follow-moved, follow-ext}
 use Rattle.setup.specs.Layout.{front_words, setup_words}
 use Rattle.setup.specs.Limits.{fades}
 use Rattle.setup.specs.Setup.{size_in, partitionable_in, fades_in, front_in, front_of, setup_of, setup_runs, setup_bytes, blank_setup}
@@ -29,7 +29,7 @@ use Rattle.setup.proofs.SetupCheckLaws.{WordsFit, setup-pass}
 use Rattle.setup.proofs.SetupRoundTrip.{read_back}
 use Rattle.setup.proofs.FrontLaws.{words_same, setup-same, setup-written}
 use Rattle.rules.specs.Hearing.{reading_of}
-use Rattle.changes.specs.Words.{new_count, pending_in, change_runs}
+use Rattle.changes.specs.Words.{new_count, unmarked_words, pending_in, change_runs}
 use Rattle.changes.specs.Books.{counted, books_after}
 use Rattle.changes.proofs.PendingLaws.{nothing-shaped, of-shaped, read-shaped as pending-shaped}
 use Rattle.changes.proofs.ChangeWords.{change-total, change-back, change-same, read_left}
@@ -50,12 +50,13 @@ use Rattle.image.proofs.SingleWords.{own-made, syndrome-made}
 use Rattle.image.proofs.RowLaws.{reading-back, rows_same}
 use Rattle.image.proofs.CounterLaws.{accounts-back, accounts-same, zero-shaped, round-shaped, read-shaped}
 use Rattle.image.proofs.BooksLaws.{turned-counters-shaped}
+use Rattle.image.proofs.UnmarkedLaws.{setup-words, middle-words, view-words, no-marks, without}
 use Rattle.image.proofs.TailLaws.{TailFits, ImageFits, tail-pass, image-pass, image-ok}
 use Rattle.presence.specs.Valid.{Valid}
 use Rattle.presence.specs.Opening.{fresh, open_of}
 use Rattle.presence.specs.Step.{seen_by, books_of, voted_views, views_for, after_round, accepted_step, step_of}
 use Rattle.presence.specs.Change.{change_of}
-use Rattle.presence.specs.Image.{state_runs, image_runs, image_of, state_of, state_length}
+use Rattle.presence.specs.Image.{state_runs, image_runs, image_of, state_of, unmarked_image, NoMarks, state_length}
 use Rattle.presence.specs.RoundTrip.{Shaped, RoundTrip}
 use Rattle.presence.specs.declared.State.{State}
 use Rattle.presence.specs.declared.Stepped.{Stepped}
@@ -71,7 +72,7 @@ image-parts : (st : State) → image_of st ≡ setup_bytes st.setup ++ runs_of (
 unfolding image_of setup_bytes
 image-parts st = runs-join (setup_runs st.setup) (state_runs st)
 
--- ---- an accepted image is saved as it was read
+-- ---- an accepted image is saved as it was read, but for the marks
 
 module _ (s : List ℕ) (e : (check_image s).number ≡ 0) where
   abbrev size : ℕ
@@ -99,12 +100,22 @@ module _ (s : List ℕ) (e : (check_image s).number ≡ 0) where
   read_view true = refl
   read_view false = refl
 
-  sections-same : ((i : ℕ) → get_or s i 0 < 256) → Follows (word_at s) (own_at start size) (state_runs (state_of s))
+  -- the words as they are saved again: those of modules lose the mark
+  abbrev again : ℕ → ℕ
+  again = unmarked_words start size (left_at start size) (word_at s)
+
+  abbrev rounds : ℕ
+  rounds = word_at s (left_at start size)
+
+  abbrev sections : List Run
+  sections = section_runs form size (state_of s).own (state_of s).counters (state_of s).previous (state_of s).latest (state_of s).earlier
+
+  -- those up to the accounts
+  sections-same : ((i : ℕ) → get_or s i 0 < 256) → Follows (word_at s) (own_at start size) sections
   unfolding state_of setup_of Follows
   sections-same b =
       let t = fit.tail in
-      let small = fit.front.most in
-      subst (Follows (word_at s) (own_at start size)) (sym read-runs) (
+      let small = fit.front.most in (
         λ j h. rw (zero_of (own_at start size) j h, read_view form) (sym (own-made size (word_at s (own_at start size)) t.number t.own).word),
         (
           rows_same s start size small t.rows,
@@ -112,12 +123,7 @@ module _ (s : List ℕ) (e : (check_image s).number ≡ 0) where
             λ j h. rw (zero_of (latest_at start size) j h) (sym (syndrome-made size (word_at s (latest_at start size)) t.latest).0),
             (
               λ j h. rw (zero_of (earlier_at start size) j h) (sym (syndrome-made size (word_at s (earlier_at start size)) t.earlier).0),
-              follow-join (word_at s) (accounts_at start size) (counter_runs form size (state_of s).counters) (change_runs (state_of s).setup (state_of s).pending ++ views_of (state_of s)) (accounts-same s small form (word_lt s b) t.counters)
-                  (follow-moved (word_at s) (change_runs (state_of s).setup (state_of s).pending ++ views_of (state_of s)) (omega (arith, counters-total form size (state_of s).counters))
-                  (follow-join (word_at s) (left_at start size) (change_runs (state_of s).setup (state_of s).pending) (views_of (state_of s)) (change-same s (left_at start size) fit.words small t.change)
-                  (follow-moved (word_at s) (views_of (state_of s)) (omega (arith, change-total (state_of s).setup (state_of s).pending, ap (new_count size) (read_left s size (left_at start size))))
-                  (subst (λ (x : ℕ). Follows (word_at s) (views_at start size (word_at s (left_at start size))) (view_runs (partitionable_in (word_at s 0)) size x (state_of s).views)) (sym (read_view form))
-                  (views_same (partitionable_in (word_at s 0)) s (views_at start size (word_at s (left_at start size))) size _ small t.views))))),
+              accounts-same s small form (word_lt s b) t.counters,
             ),
           ),
         ),
@@ -126,23 +132,57 @@ module _ (s : List ℕ) (e : (check_image s).number ≡ 0) where
       zero_of : (at j : ℕ) → j < 1 → at + j ≡ at
       zero_of at j h = omega arith
 
-  pub written_read : ((i : ℕ) → get_or s i 0 < 256) → image_of (state_of s) ≡ s
+  sections-total : total sections ≡ size + 3 + (size + size + size)
+  unfolding total
+  sections-total = omega (arith, counters-total form size (state_of s).counters)
+
+  -- the pending change, and the views
+  last-same : Follows again (left_at start size) (change_runs (state_of s).setup (state_of s).pending ++ views_of (state_of s))
   unfolding state_of setup_of
+  last-same =
+      let t = fit.tail in
+      let small = fit.front.most in
+      let left = ap (new_count size) (read_left s size (left_at start size)) in
+      follow-join again (left_at start size) (change_runs (state_of s).setup (state_of s).pending) (views_of (state_of s))
+      (change-same s (left_at start size) again fit.words small t.change (without s))
+      (follow-moved again (views_of (state_of s)) (omega (arith, change-total (state_of s).setup (state_of s).pending, left))
+      (follow-ext (word_at s) again (views_at start size rounds) (views_of (state_of s)) (λ i l h. sym (view-words start size (word_at s) i l))
+      (subst (λ (x : ℕ). Follows (word_at s) (views_at start size rounds) (view_runs (partitionable_in (word_at s 0)) size x (state_of s).views)) (sym (read_view form))
+      (views_same (partitionable_in (word_at s 0)) s (views_at start size rounds) size _ small t.views))))
+
+  all_same : ((i : ℕ) → get_or s i 0 < 256) → Follows again (own_at start size) (state_runs (state_of s))
+  all_same b =
+      let k = sections-total in
+      subst (Follows again (own_at start size)) (sym read-runs)
+      (follow-join again (own_at start size) sections (change_runs (state_of s).setup (state_of s).pending ++ views_of (state_of s))
+      (follow-ext (word_at s) again (own_at start size) sections (λ i l h. sym (middle-words start size (word_at s) i l (omega arith))) (sections-same b))
+      (follow-moved again (change_runs (state_of s).setup (state_of s).pending ++ views_of (state_of s)) (omega arith) last-same))
+
+  pub written_read : ((i : ℕ) → get_or s i 0 < 256) → image_of (state_of s) ≡ unmarked_image s
+  unfolding state_of setup_of unmarked_image
   written_read b =
-      let first : setup_bytes (setup_of s) ≡ bytes_of (own_at start size) (word_at s) = setup-written s fit.front fit.words (omega (arith, fit.size)) b in
-      let rest : runs_of (state_runs (state_of s)) ≡ bytes_of (total (state_runs (state_of s))) (λ i. word_at s (own_at start size + i)) =
-      follow-runs (word_at s) (own_at start size) (state_runs (state_of s)) (sections-same b)
+      let first : setup_bytes (setup_of s) ≡ bytes_of (own_at start size) again =
+      setup-written s fit.front fit.words (omega (arith, fit.size)) b ∙ bytes-ext (own_at start size) _ again (λ i h. sym (setup-words start size (word_at s) i h))
       in
-      let left : (state_of s).pending.left ≡ word_at s (left_at start size) = read_left s size (left_at start size) in
-      let k : own_at start size + total (state_runs (state_of s)) ≡ image_words start size (word_at s (left_at start size)) (partitionable_in (word_at s 0)) =
+      let rest : runs_of (state_runs (state_of s)) ≡ bytes_of (total (state_runs (state_of s))) (λ i. again (own_at start size + i)) =
+      follow-runs again (own_at start size) (state_runs (state_of s)) (all_same b)
+      in
+      let left : (state_of s).pending.left ≡ rounds = read_left s size (left_at start size) in
+      let k : own_at start size + total (state_runs (state_of s)) ≡ image_words start size rounds (partitionable_in (word_at s 0)) =
       omega (arith, state-total (state_of s), ap (new_count size) left)
       in
       image-parts (state_of s)
       ∙ ap (λ (x : List ℕ). x ++ runs_of (state_runs (state_of s))) first
-      ∙ ap (λ (x : List ℕ). bytes_of (own_at start size) (word_at s) ++ x) rest
-      ∙ sym (bytes-join (own_at start size) (total (state_runs (state_of s))) (word_at s))
-      ∙ ap (λ (m : ℕ). bytes_of m (word_at s)) k
-      ∙ bytes-own s (image_words start size (word_at s (left_at start size)) (partitionable_in (word_at s 0))) b fit.size
+      ∙ ap (λ (x : List ℕ). bytes_of (own_at start size) again ++ x) rest
+      ∙ sym (bytes-join (own_at start size) (total (state_runs (state_of s))) again)
+      ∙ ap (λ (m : ℕ). bytes_of m again) k
+
+  unmarked-written : ((i : ℕ) → get_or s i 0 < 256) → NoMarks s → image_of (state_of s) ≡ s
+  unfolding unmarked_image
+  unmarked-written b none =
+      written_read b
+      ∙ bytes-ext (image_words start size rounds (partitionable_in (word_at s 0))) again (word_at s) (λ i h. no-marks start size (word_at s) none.own none.new i)
+      ∙ bytes-own s (image_words start size rounds (partitionable_in (word_at s 0))) b fit.size
 
 -- ---- a valid state is read back
 
@@ -304,6 +344,7 @@ round_trip = record {
   written_read = λ st shaped v. image-accepted st v shaped;
   read-accepted = λ s e. (load-valid s e, state-shaped s);
   read-written = λ s b e. written_read s e b;
+  unmarked-written = λ s b e none. unmarked-written s e b none;
   opens = λ s own shaped zero. (open-valid s own zero, open-shaped s own shaped zero);
   keeps = λ st read controller shaped zero. (step-valid st read controller zero, step-shaped st read controller shaped zero);
   changes = λ st new lead shaped asked zero. (change-valid st new lead zero, change-shaped st new lead shaped asked zero);

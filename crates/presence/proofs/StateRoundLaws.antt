@@ -41,7 +41,7 @@ use Rattle.image.proofs.CounterLaws.{within-kept, within-waits}
 use Rattle.image.proofs.BooksLaws.{turned-accounts}
 use Rattle.presence.specs.Valid.{state_verdict, Valid}
 use Rattle.presence.specs.Opening.{fresh, blank, check_opening, open_of}
-use Rattle.presence.specs.Step.{skew_of, place_of, mark_of, own_syndrome, aligned_for, judgement_for, outgoing_for, books_of, voted_views, views_for, outgoing_view, read_length, seen_by, after_round, refused_step, accepted_step, read_step, step_of}
+use Rattle.presence.specs.Step.{skew_of, place_of, own_syndrome, aligned_for, judgement_for, outgoing_for, books_of, voted_views, views_for, outgoing_view, read_length, seen_by, after_round, refused_step, accepted_step, read_step, step_of}
 use Rattle.presence.specs.declared.State.{State}
 use Rattle.presence.specs.declared.Opened.{Opened}
 use Rattle.presence.specs.declared.Stepped.{Stepped}
@@ -125,17 +125,9 @@ pub handed-none : (st : State) (view : ℕ) → st.setup.partitionable ≡ false
 unfolding outgoing_view
 handed-none st view f = sym (cond-false _ _ f)
 
-pub handed-made : (st : State) (view : ℕ) {r v : ℕ} {mark : Bool} → mark ≡ mark_of st → v ≡ cond mark st.counters.view view → r ≡ view_word v
-    → st.setup.partitionable ≡ true → r ≡ outgoing_view st view
+pub handed-made : (st : State) (view : ℕ) {r : ℕ} → r ≡ view_word view → st.setup.partitionable ≡ true → r ≡ outgoing_view st view
 unfolding outgoing_view
-handed-made st view m h e t =
-    e ∙ ap view_word (h ∙ ap (λ (b : Bool). cond b st.counters.view view) m) ∙ sym (cond-true _ _ t)
-
-pub handed-small : (st : State) (view : ℕ) {v : ℕ} (mark : Bool) → Valid st → view < 2 ^ 28 → v ≡ cond mark st.counters.view view → v < 2 ^ 28
-handed-small st view mark v h e =
-    let f = valid-fits st v in
-    subst (λ (x : ℕ). x < 2 ^ 28) (sym e)
-    (cond_both (λ (x : ℕ). x < 2 ^ 28) mark st.counters.view view (below-kind st.setup.n _ f.setup.most f.view) h)
+handed-made st view e t = e ∙ sym (cond-true _ _ t)
 
 -- ---- the round
 

@@ -19,12 +19,11 @@ use Rattle.setup.specs.declared.Setup.{Setup}
 use Rattle.setup.proofs.SetupLaws.{SetupFits, verdict-fits, fits-verdict as setup-accepted}
 use Rattle.rules.specs.Hearing.{word_heard, reading_of, causes_of}
 use Rattle.rules.specs.Lag.{skewed}
-use Rattle.rules.specs.Syndrome.{outgoing_of}
 use Rattle.changes.specs.Books.{counted, books_after}
 use Rattle.changes.proofs.TurnLaws.{turned-size, turned-places}
 use Rattle.presence.specs.Valid.{state_verdict, Valid}
 use Rattle.presence.specs.Opening.{fresh, blank, check_opening, open_of}
-use Rattle.presence.specs.Step.{skew_of, mark_of, read_length, seen_by, own_syndrome, books_of, judgement_for, outgoing_for, after_round, refused_step, accepted_step, read_step, step_of}
+use Rattle.presence.specs.Step.{skew_of, read_length, seen_by, own_syndrome, books_of, judgement_for, outgoing_for, after_round, refused_step, accepted_step, read_step, step_of}
 use Rattle.rules.specs.declared.Reading.{Reading}
 use Rattle.presence.specs.declared.State.{State}
 use Rattle.presence.specs.declared.Opened.{Opened}
@@ -49,10 +48,9 @@ after-size st this seen = turned-size (books_of st)
 
 -- A valid state hands out no word that a receiver would not hear.
 pub outgoing-heard : (st : State) (this : Reading) → StateFits st → word_heard st.setup.n (outgoing_for st this) ≡ true
-unfolding outgoing_for outgoing_of judgement_for
+unfolding outgoing_for judgement_for
 outgoing-heard st this f =
-    bus-heard st.setup.n _ f.setup.most
-    (cond_both (λ v. v < 2 ^ st.setup.n) (mark_of st) st.latest _ f.latest (syndrome-lt st.setup.n _ _ _))
+    bus-heard st.setup.n _ f.setup.most (syndrome-lt st.setup.n _ _ _)
 
 -- ---- the step
 

@@ -151,7 +151,7 @@ state-read st w f m d =
             q-there = ap return_limit_in d.head ∙ return_back st.setup.q st.setup.partitionable st.setup.n (record { limit = f.q-most; least = f.least; most = f.most });
             criticality-there = λ j h.
                 ap criticality_in (d.modules j h)
-                ∙ criticality-back j (bit st.setup.marks j) _ _ (omega (arith, (f.each j h).within, f.most)) (omega (arith, (f.each j h).most));
+                ∙ criticality-back j _ _ (omega (arith, (f.each j h).within, f.most)) (omega (arith, (f.each j h).most));
             view-there = ap view_in d.own ∙ view-back st.own st.counters.view m.own m.view;
           };
       own = ap own_in d.own ∙ own_back st.own st.counters.view m.own m.view;

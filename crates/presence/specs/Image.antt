@@ -1,15 +1,16 @@
 -- The image of a state: the words that it is written as, and the state that words hold. (document 01, "What runs", kinds 10 to 14;
 -- document 02, E10 and E11)
-use Rattle.std.specs.Prelude.{Bool, cond, List, ◌++◌, ℕ, ◌-◌, length, eqb}
-use Rattle.words.specs.Word.{word_at}
+use Rattle.std.specs.Prelude.{◌≡◌, Bool, false, cond, List, ◌++◌, ℕ, ◌+◌, ◌-◌, ◌<◌, length, eqb}
+use Rattle.words.specs.Word.{word_at, bytes_of}
+use Rattle.words.specs.Bits.{bit}
 use Rattle.words.specs.Verdict.{is_accepted}
 use Rattle.words.specs.Runs.{Run, runs_of}
 use Rattle.setup.specs.Layout.{head_at}
 use Rattle.setup.specs.Limits.{fades}
 use Rattle.setup.specs.Setup.{size_in, partitionable_in, fades_in, front_in, front_of, setup_of, setup_runs}
-use Rattle.changes.specs.Words.{change_runs, pending_in}
+use Rattle.changes.specs.Words.{unmarked_words, change_runs, pending_in}
 use Rattle.views.specs.Section.{views_in, view_runs}
-use Rattle.image.specs.Layout.{own_at, latest_at, earlier_at, left_at, views_at, image_length}
+use Rattle.image.specs.Layout.{own_at, latest_at, earlier_at, left_at, views_at, image_words, image_length}
 use Rattle.image.specs.Words.{own_in, syndrome_in}
 use Rattle.image.specs.Rows.{reading_in}
 use Rattle.image.specs.Counters.{counters_in}
@@ -53,9 +54,25 @@ state_of s =
       views = views_in (partitionable_in (word_at s head_at)) s n (views_at front n (word_at s (left_at front n)));
     }
 
+-- ---- without send marks (document 02, E12)
+
+-- the same bytes, of which every module word, those of a pending change too, is without the mark
+unfoldable pub unmarked_image : List ℕ → List ℕ
+unmarked_image s =
+    let n = size_in (word_at s head_at) in
+    let front = front_in (word_at s) in
+    let at = left_at front n in
+    bytes_of (image_words front n (word_at s at) (partitionable_in (word_at s head_at))) (unmarked_words front n at (word_at s))
+
+-- no module word has it
+pub record NoMarks (s : List ℕ) : Type 0 where
+  pub own : (j : ℕ) → j < size_in (word_at s head_at) → bit (word_at s (front_in (word_at s) + j)) 22 ≡ false
+  pub new : 0 < word_at s (left_at (front_in (word_at s)) (size_in (word_at s head_at))) → (j : ℕ) → j < size_in (word_at s head_at)
+      → bit (word_at s (left_at (front_in (word_at s)) (size_in (word_at s head_at)) + 3 + j)) 22 ≡ false
+
 -- ---- reading as a call, and the room that saving needs
 
--- reading: 1 to 8 and 22; what is held where an image is refused is blank
+-- reading: 1 to 5, 7, 8 and 22; what is held where an image is refused is blank
 unfoldable pub load_of : List ℕ → Opened
 load_of image =
     let v = check_image image in

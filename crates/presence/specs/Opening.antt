@@ -41,7 +41,7 @@ blank =
       views = no_views;
     }
 
--- numbers 2, 4 to 6 and 22 of the setup, then 7 with index 0
+-- numbers 2, 4, 5 and 22 of the setup, then 7 with index 0
 unfoldable pub check_opening : Setup → ℕ → Verdict
 check_opening s own = and_then (setup_verdict s) (outcome (single (between 1 s.n own) 7 0))
 

@@ -12,7 +12,7 @@ pub record OutgoingHeard : Type 0 where
   -- the word that an accepted step hands out is heard by every receiver whose controller bit for it is 1
   pub stepped : (st : State) (read : List ℕ) (controller : ℕ) → (step_of st read controller).number ≡ 0
       → word_heard st.setup.n (step_of st read controller).word ≡ true
-  -- so is the word of either syndrome that a state within the limits holds: one of them is sent next
+  -- so is the word of either syndrome that a state within the limits holds: the latest is sent next
   pub latest : (st : State) → Valid st → word_heard st.setup.n (bus_word st.latest) ≡ true
   pub earlier : (st : State) → Valid st → word_heard st.setup.n (bus_word st.earlier) ≡ true
   -- and so is the view word of a partitionable setup, and that of either local view that such a state holds (document 02, E11)

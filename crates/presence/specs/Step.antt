@@ -1,12 +1,11 @@
 -- One step of a module: rules 1 to 8 in their order, and the answers 9 and 10. (document 01, "One step, round k"; document 02, E7: no rule 9, and
 -- E10: a change that is due takes effect at the start of rule 8; E11: the views)
 use Rattle.std.specs.Prelude.{ℕ, ◌-◌, ◌*◌, ◌^◌, Bool, cond, List, get_or, length, replicate, eqb, ltb}
-use Rattle.words.specs.Bits.{bit}
 use Rattle.words.specs.Verdict.{is_accepted}
 use Rattle.rules.specs.Lag.{skewed}
-use Rattle.rules.specs.Hearing.{reading_of, causes_of}
+use Rattle.rules.specs.Hearing.{bus_word, reading_of, causes_of}
 use Rattle.rules.specs.Alignment.{aligned_of}
-use Rattle.rules.specs.Syndrome.{judgement_of, outgoing_of}
+use Rattle.rules.specs.Syndrome.{judgement_of}
 use Rattle.changes.specs.Books.{turned, books_after}
 use Rattle.changes.specs.declared.Books.{Books}
 use Rattle.views.specs.ViewWord.{view_word, read_words, views_seen, aligned_views}
@@ -27,10 +26,6 @@ skew_of st = skewed st.setup.n st.setup.places
 -- the module's own read place l; its entry stands at its number less one
 unfoldable pub place_of : State → ℕ
 place_of st = get_or st.setup.places (st.own - 1) 0
-
--- whether the module has the send mark
-unfoldable pub mark_of : State → Bool
-mark_of st = bit st.setup.marks (st.own - 1)
 
 -- its own syndrome computed in round k - u - 1, for empty votes
 unfoldable pub own_syndrome : State → ℕ
@@ -54,9 +49,9 @@ aligned_for st this = aligned_of st.setup.n (skew_of st) (place_of st) st.previo
 unfoldable pub judgement_for : State → Reading → Judgement
 judgement_for st this = judgement_of st.setup.n st.counters.view (aligned_for st this) (own_syndrome st)
 
--- rule 7: the word handed out
+-- rule 7: the word handed out, of this round's syndrome (document 02, E12: no module has the send mark)
 unfoldable pub outgoing_for : State → Reading → ℕ
-outgoing_for st this = outgoing_of (mark_of st) st.latest (judgement_for st this).syndrome
+outgoing_for st this = bus_word (judgement_for st this).syndrome
 
 -- what rule 8 counts with and what it counts
 abbrev pub books_of : State → Books
@@ -75,9 +70,9 @@ unfoldable pub views_for : State → List ℕ → Views
 views_for st seen =
     cond st.setup.partitionable (views_after st.setup.n st.views (voted_views st seen) seen st.counters.view) no_views
 
--- the view word handed out, where `view` is the local view after the round: with the send mark that of the round before; 0 without head bit 5
+-- the view word handed out, where `view` is the local view after the round; 0 without head bit 5
 unfoldable pub outgoing_view : State → ℕ → ℕ
-outgoing_view st view = cond st.setup.partitionable (view_word (cond (mark_of st) st.counters.view view)) 0
+outgoing_view st view = cond st.setup.partitionable (view_word view) 0
 
 -- rule 8 with the pending change, and what the next step needs: this read, the syndromes of this round and the one before, and the views, by the view
 -- words `seen` of this read

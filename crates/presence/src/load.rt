@@ -113,7 +113,7 @@ fn refused(image: &[u8]) -> Opened
 }
 
 impl State {
-    // Reads a saved state: numbers 1 to 8 and 22, and the state where none of them refuses it.
+    // Reads a saved state: numbers 1 to 5, 7, 8 and 22, and the state where none of them refuses it.
     pub fn load(image: &[u8]) -> Opened
         ensures { result ≡ load_of image.now }
     {

@@ -2,17 +2,18 @@
 ghost use Rattle.std.specs.Prelude.{◌≡◌, ◌^◌, ◌<◌};
 ghost use Rattle.changes.specs.Books.{turned as turned_of};
 ghost use Rattle.presence.specs.Valid.{Valid};
-ghost use Rattle.presence.specs.Step.{place_of, mark_of, judgement_for, outgoing_for, books_of, views_for, outgoing_view, after_round, refused_step, accepted_step, read_step, step_of};
+ghost use Rattle.presence.specs.Step.{place_of, judgement_for, outgoing_for, books_of, views_for, outgoing_view, after_round, refused_step, accepted_step, read_step, step_of};
 
 use crate::{State, Stepped};
 use changes::Books;
 use changes::turn::turned;
+use rules::hearing::bus_word;
 use rules::{Judgement, Reading};
 use views::Views;
 use views::after::{no_views, views_after};
 use views::read::{read_words, views_seen};
 use views::word::view_word;
-use words::bits::{bit_at, pick, power};
+use words::bits::{pick, power};
 
 impl State {
     // The module's own read place.
@@ -23,16 +24,6 @@ impl State {
         let setup = self.setup;
         let i = self.own - 1;
         setup.places[i]
-    }
-
-    // Whether the module has the send mark.
-    fn marked(self) -> bool
-        requires { Valid self }
-        ensures { result ≡ mark_of self }
-    {
-        let setup = self.setup;
-        let i = self.own - 1;
-        bit_at(setup.marks, i)
     }
 
     // Rules 1 and 3 to 6: what the module makes of this read.
@@ -57,7 +48,7 @@ impl State {
         requires j_value { j ≡ judgement_for self this }
         ensures { result ≡ outgoing_for self this }
     {
-        rules::judge::outgoing(self.marked(), self.latest, j.syndrome)
+        bus_word(j.syndrome)
     }
 
     // What rule 8 counts with and what it counts, after a change that is due has taken effect.
@@ -101,8 +92,7 @@ impl State {
         if !setup.partitionable {
             return 0;
         }
-        let counters = self.counters;
-        view_word(pick(self.marked(), counters.view, view))
+        view_word(view)
     }
 
     // Rule 8, and what the next step needs.

@@ -23,7 +23,7 @@ impl State {
         pick(setup.partitionable, views.adopted, counters.view)
     }
 
-    // The syndrome computed last, which the module sends in the next round, with the send mark or without it (rule 7).
+    // The syndrome computed last, which the module sends in the next round (rule 7).
     pub fn latest(self) -> u32
         ensures { result ≡ self.latest }
     {

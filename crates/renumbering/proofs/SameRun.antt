@@ -53,13 +53,8 @@ module _ (s : List ℕ) (ok : (check_script s).number ≡ 0) (zero-u : lag (scri
   flat : lag n (setup_with n (word_at s)).places ≡ 0
   flat = ap (λ (x : Setup). lag n x.places) (sym (setup-as s)) ∙ zero-u
 
-  straight : (j : ℕ) → j < n → place_in (word_at s (front_in (word_at s) + j)) ≡ n
-  straight j h =
-      sym (array_at n (λ j. place_in (word_at s (front_in (word_at s) + j))) j h (few s ok π))
-      ∙ places-full n (setup_with n (word_at s)).places (skew-none n (setup_with n (word_at s)).places flat) j h
-
   ok' : (check_script s').number ≡ 0
-  ok' = accepted' s ok π straight
+  ok' = accepted' s ok π
 
   -- ---- the session that the script plays, and the one that the renumbered script plays
   module _ (T : Session) (Q : PlayedBy s T) where

@@ -260,25 +260,26 @@ module _ (s : List ℕ) (ok : (check_script s).number ≡ 0) (π : Renumbering (
       ∙ ap (λ (m : ℕ). scan s' n cast' (m - events_at s) (events_at s) unscanned) (count' s ok π))
       ∙ whole-scan.0
 
-  front-checked : ((j : ℕ) → j < n → place_in (word_at s (start s ok π + j)) ≡ n) → check_front s' ≡ accepted
+  front-checked : check_front s' ≡ accepted
   unfolding check_front
-  front-checked straight =
+  front-checked =
       let m = size_in (word_at s' 0) in
       ap (λ (v : Verdict). and_then v (check_words s' m))
       (head_ok_lem s' _ (head' s ok π)
       (ap₂ (λ (x y : ℕ). leb (x * 4) y) (cast-at' s ok π) (length' s ok π) ∙ le-leb _ _ (fits s ok π).front.room))
       ∙ and-then-next accepted _ refl
-      ∙ words-ok s' m (subst (WordsFit s') (sym (size' s ok π)) (words' s ok π straight))
+      ∙ words-ok s' m (subst (WordsFit s') (sym (size' s ok π)) (words' s ok π))
 
-  pub accepted' : ((j : ℕ) → j < n → place_in (word_at s (start s ok π + j)) ≡ n) → (check_script s').number ≡ 0
+  -- whatever u is
+  pub accepted' : (check_script s').number ≡ 0
   unfolding check_script
-  accepted' straight =
+  accepted' =
       let l = length' s ok π in
       ap (λ (v : Verdict). v.number)
       (and-then-next (outcome (single (leb (length s') most_bytes) 16 0)) _
       (ap (λ (v : Verdict). v.number)
       (single-ok (leb (length s') most_bytes) 16 0 (ap (λ (m : ℕ). leb m most_bytes) l ∙ le-leb (length s) most_bytes (fits s ok π).bytes)))
-      ∙ ap (λ (v : Verdict). and_then v (check_play s' (size_in (word_at s' 0)))) (front-checked straight)
+      ∙ ap (λ (v : Verdict). and_then v (check_play s' (size_in (word_at s' 0)))) front-checked
       ∙ and-then-next accepted _ refl
       ∙ ap (check_play s') (size' s ok π))
       ∙ play-checked

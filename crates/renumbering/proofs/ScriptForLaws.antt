@@ -16,8 +16,8 @@ use Rattle.words.proofs.Truth.{and_r, and-true}
 use Rattle.words.proofs.BitLaws.{pack-ext}
 use Rattle.words.proofs.RunLaws.{Follows, runs-length, runs-follow}
 use Rattle.setup.specs.Layout.{front_words, setup_words}
-use Rattle.setup.specs.Setup.{size_in, return_limit_in, partitionable_in, mark_in, place_in, criticality_in, fades_in, front_in, limits_in, setup_of}
-use Rattle.setup.specs.Check.{head_ok, limit_tests, module_fits, module_ok, mark_ok}
+use Rattle.setup.specs.Setup.{size_in, return_limit_in, partitionable_in, place_in, criticality_in, fades_in, front_in, limits_in, setup_of}
+use Rattle.setup.specs.Check.{head_ok, limit_tests, module_fits, module_ok}
 use Rattle.setup.specs.declared.Limits.{Limits}
 use Rattle.setup.specs.declared.Setup.{Setup}
 use Rattle.setup.proofs.BoundLaws.{front-least, limits-same, right-same, fades-same}
@@ -30,8 +30,7 @@ use Rattle.renumbering.specs.Renumbering.{Renumbering, vector_for}
 use Rattle.renumbering.specs.States.{setup_for}
 use Rattle.renumbering.specs.Scripts.{module_word_for, cast_word_for, play_word_for, script_runs, script_for}
 use Rattle.renumbering.proofs.VectorForLaws.{vector-pack, array-pack}
-use Rattle.renumbering.proofs.ZeroLagLaws.{mark-none, mark-ok}
-use Rattle.renumbering.proofs.ScriptWordLaws.{module-number, module-mark, module-place, module-criticality, cast-vector}
+use Rattle.renumbering.proofs.ScriptWordLaws.{module-number, module-place, module-criticality, cast-vector}
 
 -- a setup by N, the words before those of its modules, its limits and its words
 setup_by : ℕ → ℕ → Limits → (ℕ → ℕ) → Setup
@@ -40,7 +39,6 @@ setup_by n front limits words = record {
   q = return_limit_in (words 0);
   partitionable = partitionable_in (words 0);
   limits = limits;
-  marks = pack n (λ j. mark_in (words (front + j)));
   places = array n (λ j. place_in (words (front + j)));
   criticality = array n (λ j. criticality_in (words (front + j)));
 }
@@ -52,7 +50,6 @@ setup_with n words = record {
   q = return_limit_in (words 0);
   partitionable = partitionable_in (words 0);
   limits = limits_in (fades_in words) words;
-  marks = pack n (λ j. mark_in (words (front_in words + j)));
   places = array n (λ j. place_in (words (front_in words + j)));
   criticality = array n (λ j. criticality_in (words (front_in words + j)));
 }
@@ -152,11 +149,6 @@ module _ (s : List ℕ) (ok : (check_script s).number ≡ 0) (π : Renumbering (
   limits' : limits_in (fades_in (word_at s')) (word_at s') ≡ limits_in (fades_in (word_at s)) (word_at s)
   limits' = ap (λ (b : Bool). limits_in b (word_at s')) form' ∙ limits-same (fades_in (word_at s)) (word_at s') (word_at s) word-front
 
-  marks-for : pack n (λ j. mark_in (word_at s' (start + j))) ≡ vector_for n π (pack n (λ j. mark_in (word_at s (start + j))))
-  marks-for =
-      pack-ext n _ _ (λ j h. ap mark_in (word-module j h) ∙ module-mark j (word_at s (start + π.from j)))
-      ∙ sym (vector-pack n π (λ j. mark_in (word_at s (start + j))))
-
   setup-by' : setup_of s' ≡ setup_by n start (limits_in (fades_in (word_at s)) (word_at s)) (word_at s')
   unfolding setup_by
   setup-by' =
@@ -173,7 +165,6 @@ module _ (s : List ℕ) (ok : (check_script s).number ≡ 0) (π : Renumbering (
         q = return_limit_in (word-front 0 (omega (arith, three)) i);
         partitionable = partitionable' i;
         limits = limits_in (fades_in (word_at s)) (word_at s);
-        marks = marks-for i;
         places =
             array-pack n π few (λ j. place_in (word_at s (start + j))) (λ j. place_in (word_at s' (start + j)))
             (λ j h. ap place_in (word-module j h) ∙ module-place j (word_at s (start + π.from j))) i;
@@ -194,10 +185,9 @@ module _ (s : List ℕ) (ok : (check_script s).number ≡ 0) (π : Renumbering (
         most = rw size' f.most;
       }
 
-  -- where every read place is N no module has a send mark that could be wrong under another number
-  pub words' : ((j : ℕ) → j < n → place_in (word_at s (start + j)) ≡ n) → WordsFit s' n
-  unfolding module_ok mark_ok
-  words' straight =
+  pub words' : WordsFit s' n
+  unfolding module_ok
+  words' =
       let f = fits.front.words in
       record {
         limits =
@@ -209,11 +199,6 @@ module _ (s : List ℕ) (ok : (check_script s).number ≡ 0) (π : Renumbering (
             ∙ and-true _ _ (eq-eqb _ _ (module-number j w))
             (ap₂ (λ (x y : ℕ). module_fits n x y) (module-place j w) (module-criticality j w)
             ∙ and_r (eqb (w / 2 ^ 23) (4 * 2 ^ 5 + (π.from j + 1))) _ (f.each (π.from j) (π.from-below j h)));
-        marks = λ j h.
-            let w = word_at s (start + π.from j) in
-            let b = π.from-below j h in
-            ap (λ (k : ℕ). mark_ok j (word_at s' (k + j))) start' ∙ ap (mark_ok j) (word-module j h)
-            ∙ mark-ok j _ _ (module-mark j w ∙ mark-none (π.from j) n _ _ b (straight (π.from j) b) (f.marks (π.from j) b));
       }
 
   -- ---- its cast

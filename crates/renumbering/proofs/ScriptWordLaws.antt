@@ -13,8 +13,8 @@ use Rattle.words.specs.Verdict.{between}
 use Rattle.words.proofs.Truth.{and_l, and_r, and-true}
 use Rattle.words.proofs.BitLaws.{bit_high, bit-ext}
 use Rattle.words.proofs.VerdictLaws.{between-of}
-use Rattle.setup.specs.Setup.{mark_in, place_in, criticality_in}
-use Rattle.setup.proofs.WordFields.{number-back, mark-back, place-back, criticality-back}
+use Rattle.setup.specs.Setup.{place_in, criticality_in}
+use Rattle.setup.proofs.WordFields.{number-back, place-back, criticality-back}
 use Rattle.rules.proofs.ReceptionLaws.{below-kind}
 use Rattle.script.specs.Words.{kind_of, cast_in, cast_ok, sender_in, receivers_in, event_ok}
 use Rattle.script.specs.Check.{event_refusal}
@@ -33,16 +33,13 @@ module _ (j w : ℕ) where
   criticality-small = omega arith
 
   pub module-number : module_word_for j w / 2 ^ 23 ≡ 4 * 2 ^ 5 + (j + 1)
-  module-number = number-back j (mark_in w) (place_in w) (criticality_in w) place-small criticality-small
-
-  pub module-mark : mark_in (module_word_for j w) ≡ mark_in w
-  module-mark = mark-back j (mark_in w) (place_in w) (criticality_in w) place-small criticality-small
+  module-number = number-back j (place_in w) (criticality_in w) place-small criticality-small
 
   pub module-place : place_in (module_word_for j w) ≡ place_in w
-  module-place = place-back j (mark_in w) (place_in w) (criticality_in w) place-small criticality-small
+  module-place = place-back j (place_in w) (criticality_in w) place-small criticality-small
 
   pub module-criticality : criticality_in (module_word_for j w) ≡ criticality_in w
-  module-criticality = criticality-back j (mark_in w) (place_in w) (criticality_in w) place-small criticality-small
+  module-criticality = criticality-back j (place_in w) (criticality_in w) place-small criticality-small
 
 module _ (n : ℕ) (π : Renumbering n) (small : n ≤ 16) where
   -- ---- the cast

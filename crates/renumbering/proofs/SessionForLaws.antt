@@ -33,7 +33,7 @@ use Rattle.renumbering.proofs.WordForLaws.{entry_for, entry-for, cause-for, bus-
 use Rattle.renumbering.proofs.ViewForLaws.{view-words-pack, view-words-none, fresh-views-for}
 use Rattle.renumbering.proofs.StepForLaws.{round-for}
 use Rattle.renumbering.proofs.ZeroLagLaws.{places-full}
-use Rattle.renumbering.proofs.SetupForLaws.{straight, straight', places', marks-none, marks-none', accepted'}
+use Rattle.renumbering.proofs.SetupForLaws.{straight, straight', places', accepted'}
 
 -- ---- a read in which every entry is of this round
 
@@ -234,17 +234,16 @@ module _ (S : Session) (ok : Accepted S) (unoffered : NoChanges S) (zero-u : u S
         ∙ sym (bus-for n π few (state S i k).latest (subst (λ (m : ℕ). (state S i k).latest < 2 ^ m) h.size_is h.fits.latest))
         ∙ ap (word_for n π) (sym (sent_is S ok i below k))
 
-    -- without a send mark a word is sent in the round after that in which it is handed out
-    sent-next : (Q : Session) (l k : ℕ) → bit Q.setup.marks l ≡ false → sent Q l (suc k) ≡ handed Q l k
+    -- a word is sent in the round after that in which it is handed out
+    sent-next : (Q : Session) (l k : ℕ) → sent Q l (suc k) ≡ handed Q l k
     unfolding sent
-    sent-next Q l k f =
+    sent-next Q l k =
         let e : suc k - 1 ≡ k = omega arith in
-        cond-false _ _ f ∙ ap (handed Q l) e
+        ap (handed Q l) e
 
     pub handed-for : (k : ℕ) → handed S' (π.to i) k ≡ word_for n π (handed S i k)
     handed-for k =
-        sym (sent-next S' (π.to i) k (marks-none' S.setup π ok zero-u (π.to i) below'))
-        ∙ sent-for k ∙ ap (word_for n π) (sent-next S i k (marks-none S.setup π ok zero-u i below))
+        sym (sent-next S' (π.to i) k) ∙ sent-for k ∙ ap (word_for n π) (sent-next S i k)
 
     -- the same of view words, which are 0 where the setup is not partitionable
 
@@ -261,13 +260,12 @@ module _ (S : Session) (ok : Accepted S) (unoffered : NoChanges S) (zero-u : u S
         go l true = sym (view-word-for n π few (view_of S i k) l)
         go l false = sym (word-zero n π)
 
-    view-sent-next : (Q : Session) (l k : ℕ) → bit Q.setup.marks l ≡ false → view_word_sent Q l (suc k) ≡ view_word_handed Q l k
+    view-sent-next : (Q : Session) (l k : ℕ) → view_word_sent Q l (suc k) ≡ view_word_handed Q l k
     unfolding view_word_sent
-    view-sent-next Q l k f =
+    view-sent-next Q l k =
         let e : suc k - 1 ≡ k = omega arith in
-        cond-false _ _ f ∙ ap (view_word_handed Q l) e
+        ap (view_word_handed Q l) e
 
     pub view-handed-for : (k : ℕ) → view_word_handed S' (π.to i) k ≡ word_for n π (view_word_handed S i k)
     view-handed-for k =
-        sym (view-sent-next S' (π.to i) k (marks-none' S.setup π ok zero-u (π.to i) below'))
-        ∙ view-sent-for k ∙ ap (word_for n π) (view-sent-next S i k (marks-none S.setup π ok zero-u i below))
+        sym (view-sent-next S' (π.to i) k) ∙ view-sent-for k ∙ ap (word_for n π) (view-sent-next S i k)

@@ -6,9 +6,10 @@ use native.Mathlib.Omega.{arith}
 use native.Mathlib.Nat.{add_comm, mul_assoc, mod-lt}
 use lib.Dec.{eqb, ltb}
 use lib.Pow.{pow_pos, pow-add, split, high, low, shr-shr, mod-pow-add}
-use borrow.Author.Tests.{eqb-true, eq-eqb, ltb-true, ltb-false, lt-ltb, le-ltb, ne_eqb}
+use borrow.Author.Tests.{eqb-true, eq-eqb, ltb-true, lt-ltb, le-ltb, ne_eqb}
+use Rattle.words.specs.Word.{is_vector}
 use Rattle.words.specs.Bits.{bit}
-use Rattle.words.proofs.Truth.{iff-eq}
+use Rattle.words.proofs.Truth.{iff-eq, and_false_r}
 use Rattle.words.proofs.BitLaws.{bit-low, bit-mod, bit-ext, pack-ext}
 use Rattle.rules.specs.Hearing.{bus_word, reception_of, is_heard, heard_row, cause_in, entry_of}
 use Rattle.rules.specs.Causes.{cause_of}
@@ -114,8 +115,8 @@ module _ (n : ℕ) (π : Renumbering n) where
         word-cases n on w (λ r. reception_of n on (word_for n π w) ≡ reception_for r)
         (λ e. sym (word-lost n on (word_for n π w) e))
         (λ e k. sym (word-other n on (word_for n π w) e (λ z. k (sym (word-kind w) ∙ z))))
-        (λ e k l. sym (word-stray n on (word_for n π w) e (word-kind w ∙ k) refl
-        (ltb-false _ (2 ^ n) (word-rest w ∙ le-ltb (w % 2 ^ 28) (2 ^ n) l))))
+        (λ e k l. let f : is_vector 5 n (word_for n π w) ≡ false = and_false_r (eqb (word_for n π w / 2 ^ 28) 5) _ (word-rest w ∙ le-ltb (w % 2 ^ 28) (2 ^ n) l) in
+        sym (word-stray n on (word_for n π w) refl (and_false_r on _ f) e (word-kind w ∙ k)))
         (λ e k l. let l' = ltb-true _ (2 ^ n) (word-rest w ∙ lt-ltb (w % 2 ^ 28) (2 ^ n) l) in
         sym (word-clean n on (word_for n π w) e (word-kind w ∙ k) refl l') ∙ ap Heard (word_row w l'))
 

@@ -1,17 +1,15 @@
--- Where u is 0 every read place is N, and nobody has a send mark.
+-- Where u is 0 every read place is N.
 use Prim.Native.Nat.{ℕ, ◌<◌}
-use mathlib.Core.Path.{◌≡◌, refl, ap}
-use mathlib.Core.Bool.{Bool, true, false, not, ◌&&◌}
+use mathlib.Core.Path.{◌≡◌, ap}
+use mathlib.Core.Bool.{true, false, not}
 use mathlib.Core.Logic.{⊎_elim}
 use mathlib.Core.List.{List}
 use native.Mathlib.Omega.{arith}
-use lib.Dec.{leb, ltb}
 use lib.ListN.{get_or}
-use borrow.Author.Tests.{eqb-true, eq-eqb, lt-leb, not-false}
+use borrow.Author.Tests.{eqb-true, eq-eqb, not-false}
 use Rattle.words.specs.Bits.{b2n}
-use Rattle.words.proofs.Truth.{which, clash, and_false_r}
+use Rattle.words.proofs.Truth.{which}
 use Rattle.words.proofs.CountLaws.{any_none, any-empty}
-use Rattle.setup.specs.Check.{mark_fits}
 use Rattle.rules.specs.Lag.{skewed}
 
 pub skew-none : (n : ℕ) (places : List ℕ) → b2n (skewed n places) ≡ 0 → skewed n places ≡ false
@@ -25,12 +23,3 @@ places-full n places f j h = eqb-true _ _ (not-false _ (any_none n _ f j h))
 pub full-places : (n : ℕ) (places : List ℕ) → ((j : ℕ) → j < n → get_or places j 0 ≡ n) → skewed n places ≡ false
 unfolding skewed
 full-places n places e = any-empty n _ (λ j h. ap not (eq-eqb _ _ (e j h)))
-
-pub mark-none : (j n : ℕ) (mark : Bool) (place : ℕ) → j < n → place ≡ n → mark_fits j mark place ≡ true → mark ≡ false
-unfolding mark_fits
-mark-none j n false place h e t = refl
-mark-none j n true place h e t = clash (ltb 0 j && leb place j) t (and_false_r (ltb 0 j) _ (lt-leb place j (omega arith)))
-
-pub mark-ok : (j : ℕ) (mark : Bool) (place : ℕ) → mark ≡ false → mark_fits j mark place ≡ true
-unfolding mark_fits
-mark-ok j mark place e = rw e

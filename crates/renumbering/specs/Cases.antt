@@ -40,15 +40,15 @@ four a b c d = (a ∷ b ∷ c ∷ d ∷ []) ++ replicate 12 0
 abbrev pub four_doubles : ℕ → ℕ → ℕ → ℕ → List Float
 four_doubles a b c d = (double a ∷ double b ∷ double c ∷ double d ∷ []) ++ replicate 12 (double 0)
 
--- a partitionable setup with this number's send mark, and these read places and criticalities
-abbrev pub setup_with : ℕ → List ℕ → List ℕ → Setup
-setup_with marks places criticality = record { n = 4; q = 5; partitionable = true; limits = Counts 6 7; marks = marks; places = places; criticality = criticality }
+-- a partitionable setup with these read places and criticalities
+abbrev pub setup_with : List ℕ → List ℕ → Setup
+setup_with places criticality = record { n = 4; q = 5; partitionable = true; limits = Counts 6 7; places = places; criticality = criticality }
 
 -- The state of module 3, which heard modules 1, 2 and 4, with penalties and with scores, and with a change pending. The view word of module 2 was missing,
 -- and it is out.
 abbrev pub before : State
 before = record {
-  setup = setup_with 4 (four 4 1 2 3) (four 10 20 30 40);
+  setup = setup_with (four 4 1 2 3) (four 10 20 30 40);
   own = 3;
   counters = record { view = 13; penalty = four 0 8 1 0; reward = four 0 0 2 0; score = four_doubles 5 6 7 8; returns = four 0 4 0 0 };
   previous = record { heard = 11; rows = four 15 1 0 6 };
@@ -61,7 +61,7 @@ before = record {
 -- it became the state of module 4, which heard modules 1, 2 and 3; the view word of module 3 was missing
 abbrev pub after : State
 after = record {
-  setup = setup_with 8 (four 3 4 1 2) (four 40 10 20 30);
+  setup = setup_with (four 3 4 1 2) (four 40 10 20 30);
   own = 4;
   counters = record { view = 11; penalty = four 0 0 8 1; reward = four 0 0 0 2; score = four_doubles 8 5 6 7; returns = four 0 0 4 0 };
   previous = record { heard = 7; rows = four 12 15 2 0 };

@@ -2,14 +2,15 @@
 use Rattle.std.specs.Prelude.{ℕ, ◌+◌, ◌-◌, ◌*◌, ◌/◌, cond, List, [], ◌∷◌, length}
 use Rattle.words.specs.Word.{word_at, kind_unit, number_unit}
 use Rattle.words.specs.Runs.{Run, one, runs_of}
-use Rattle.setup.specs.Setup.{module_word, mark_in, place_in, criticality_in, front_in}
+use Rattle.setup.specs.Setup.{module_word, place_in, criticality_in, front_in}
 use Rattle.script.specs.Words.{cast_at, events_at, kind_of, cast_in, sender_in, receivers_in}
 use Rattle.script.specs.Effect.{told_at, play_at}
 use Rattle.renumbering.specs.Renumbering.{Renumbering, vector_for, word_for}
 
--- the word of module j + 1: its new number, and send mark, read place and criticality by the word w that it had
+-- the word of module j + 1: its new number, and read place and criticality by the word w that it had; it is written without the send mark
+-- (document 02, E12)
 abbrev pub module_word_for : ℕ → ℕ → ℕ
-module_word_for j w = module_word j (mark_in w) (place_in w) (criticality_in w)
+module_word_for j w = module_word j (place_in w) (criticality_in w)
 
 module _ (n : ℕ) (π : Renumbering n) where
   -- the cast: the rule-breakers

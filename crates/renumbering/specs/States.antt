@@ -9,14 +9,13 @@ use Rattle.presence.specs.declared.State.{State}
 use Rattle.renumbering.specs.Renumbering.{Renumbering, vector_for, array_for, doubles_for, rows_for, view_words_for}
 
 module _ (n : ℕ) (π : Renumbering n) where
-  -- send marks, read places and criticalities move; N, Q, head bit 5 and the limits stay
+  -- read places and criticalities move; N, Q, head bit 5 and the limits stay
   abbrev pub setup_for : Setup → Setup
   setup_for s = record {
     n = s.n;
     q = s.q;
     partitionable = s.partitionable;
     limits = s.limits;
-    marks = vector_for n π s.marks;
     places = array_for n π s.places;
     criticality = array_for n π s.criticality;
   }

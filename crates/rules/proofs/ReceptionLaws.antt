@@ -8,10 +8,10 @@ use lib.ListN.{get_or}
 use lib.Dec.{eqb, ltb}
 use lib.Pow.{pow_mono}
 use borrow.Author.Tests.{eqb-true, eqb-false, ltb-true, ltb-false, eq-eqb, ne_eqb, lt-ltb, le-ltb}
-use Rattle.words.specs.Word.{word_at}
+use Rattle.words.specs.Word.{word_at, is_vector}
 use Rattle.words.specs.Bits.{bit, pack}
 use Rattle.words.specs.Array.{array, replaced, Filled}
-use Rattle.words.proofs.Truth.{cond-true, cond-false}
+use Rattle.words.proofs.Truth.{cond-true, cond-false, and_l, and_r}
 use Rattle.words.proofs.BitLaws.{bit-pack, bit-mod}
 use Rattle.words.proofs.ArrayLaws.{array_at, array-ext, replaced-ahead, replaced-array}
 use Rattle.rules.specs.Hearing.{bus_word, reception_of, is_heard, heard_row, word_heard, entry_of, reading_of}
@@ -33,9 +33,18 @@ module _ (n : ℕ) (on : Bool) (w : ℕ) where
   unfolding reception_of
   word-other e k = sym (cond-true _ _ e ∙ cond-false _ _ (ne_eqb (w / 2 ^ 28) 5 k))
 
-  pub word-stray : {power : ℕ} → on ≡ true → w / 2 ^ 28 ≡ 5 → power ≡ 2 ^ n → power ≤ w % 2 ^ 28 → StrayBits ≡ reception_of n on w
+  pub word-stray : {v : Bool} → v ≡ is_vector 5 n w → on && v ≡ false → on ≡ true → w / 2 ^ 28 ≡ 5 → StrayBits ≡ reception_of n on w
   unfolding reception_of
-  word-stray e k p l = sym (cond-true _ _ e ∙ cond-true _ _ (eq-eqb (w / 2 ^ 28) 5 k) ∙ cond-false _ _ (le-ltb (w % 2 ^ 28) (2 ^ n) (omega (arith, p, l))))
+  word-stray p t e k =
+      let i : eqb (w / 2 ^ 28) 5 ≡ true = eq-eqb (w / 2 ^ 28) 5 k in
+      let f : ltb (w % 2 ^ 28) (2 ^ n) ≡ false = rw (e, p, i) at t in
+      sym (cond-true _ _ e ∙ cond-true _ _ i ∙ cond-false _ _ f)
+
+  pub word-heard : {v : Bool} → v ≡ is_vector 5 n w → on && v ≡ true → Heard (w % 2 ^ 28) ≡ reception_of n on w
+  unfolding reception_of
+  word-heard p t =
+      let v : is_vector 5 n w ≡ true = sym p ∙ and_r on _ t in
+      sym (cond-true _ _ (and_l on _ t) ∙ cond-true _ _ (and_l (eqb (w / 2 ^ 28) 5) _ v) ∙ cond-true _ _ (and_r (eqb (w / 2 ^ 28) 5) _ v))
 
   pub word-clean : {power : ℕ} → on ≡ true → w / 2 ^ 28 ≡ 5 → power ≡ 2 ^ n → w % 2 ^ 28 < power → Heard (w % 2 ^ 28) ≡ reception_of n on w
   unfolding reception_of

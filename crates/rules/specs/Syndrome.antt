@@ -22,7 +22,3 @@ judgement_of n view aligned own =
     let health = health_of n (voters_of n view aligned) aligned.rows own in
     let accusations = accusations_of n (voters_of n view aligned) aligned.rows health in
     record { health = health; accusations = accusations; syndrome = syndrome_of n aligned.heard accusations }
-
--- Rule 7: with the send mark the syndrome of round k - 1, else that of round k.
-unfoldable pub outgoing_of : Bool → ℕ → ℕ → ℕ
-outgoing_of mark latest syndrome = bus_word (cond mark latest syndrome)

@@ -3,8 +3,8 @@ ghost use Rattle.std.specs.Prelude.{◌≡◌, ◌*◌, ◌^◌, ◌≤◌, ◌<
 ghost use Rattle.rules.specs.Hearing.{bus_word, reception_of, is_heard, heard_row, cause_in, entry_of, reading_of, causes_of};
 
 use crate::{Entry, Reading, Reception};
-use words::bits::{bit_at, power, with_bit};
-use words::word::{KIND, word_at};
+use words::bits::{bit_at, with_bit};
+use words::word::{KIND, is_vector, word_at};
 
 // The bus word of a syndrome.
 pub fn bus_word(v: u32) -> u32
@@ -14,21 +14,22 @@ pub fn bus_word(v: u32) -> u32
     5 * KIND + v
 }
 
-// Reads a bus word: its controller bit is `on`. A word is heard where this says so, and nowhere else is it decided.
+// Reads a bus word: its controller bit is `on`. A word is heard where this says so, and nowhere else is it decided. That it is heard is tested first,
+// by one comparison: of most words it is the only one.
 pub fn receive(n: usize, on: bool, w: u32) -> Reception
-    requires { n < 32 }
+    requires { n ≤ 28 }
     ensures { result ≡ reception_of n on w }
 {
+    if on & is_vector(5, n, w) {
+        return Reception::Heard(w % KIND);
+    }
     if !on {
         return Reception::ControllerLoss;
     }
     if w / KIND != 5 {
         return Reception::WrongKind;
     }
-    if power(n) <= w % KIND {
-        return Reception::StrayBits;
-    }
-    Reception::Heard(w % KIND)
+    Reception::StrayBits
 }
 
 impl Reception {
@@ -71,7 +72,7 @@ impl Reception {
 
 // One module: its controller bit is `on`, its word is w.
 fn entry(n: usize, on: bool, w: u32) -> Entry
-    requires { n < 32 }
+    requires { n ≤ 28 }
     ensures { result ≡ entry_of n on w }
 {
     let r = receive(n, on, w);

@@ -5,10 +5,9 @@ ghost use Rattle.words.specs.Array.{array, Filled};
 ghost use Rattle.rules.specs.Accusation.{accusations_of};
 ghost use Rattle.rules.specs.Hearing.{reading_of};
 ghost use Rattle.rules.specs.Alignment.{aligned_of};
-ghost use Rattle.rules.specs.Syndrome.{syndrome_of, judgement_of, outgoing_of};
+ghost use Rattle.rules.specs.Syndrome.{syndrome_of, judgement_of};
 
 use crate::accuse::{accusations, clean};
-use crate::hearing::bus_word;
 use crate::splice::{aligned_heard, read_aligned};
 use crate::{Judged, Judgement, Reading};
 use vote::health::health;
@@ -82,12 +81,4 @@ pub fn judged_read(
         health,
         syndrome,
     }
-}
-
-// Rule 7: the word handed out.
-pub fn outgoing(mark: bool, latest: u32, syndrome: u32) -> u32
-    requires { (latest < 2 ^ 28) × (syndrome < 2 ^ 28) }
-    ensures { result ≡ outgoing_of mark latest syndrome }
-{
-    bus_word(pick(mark, latest, syndrome))
 }

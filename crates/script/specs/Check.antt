@@ -1,4 +1,4 @@
--- Which run scripts are accepted, and the number and index by which the others are refused: 16, then 1 to 6 and 22, then 12, 13 and 15 word by word, 14 last.
+-- Which run scripts are accepted, and the number and index by which the others are refused: 16, then 1 to 5 and 22, then 12, 13 and 15 word by word, 14 last.
 -- (document 01, "Answers and their order")
 use Rattle.std.specs.Prelude.{ℕ, zero, suc, ◌+◌, ◌-◌, ◌/◌, Bool, false, cond, not, ◌&&◌, ◌||◌, List, [], ◌∷◌, length, eqb, leb, ltb}
 use Rattle.words.specs.Word.{word_at}

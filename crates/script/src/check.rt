@@ -1,4 +1,4 @@
-// The check of a run script in lent bytes: 16, then 1 to 6 and 22, then 12, 13 and 15 word by word, 14 last.
+// The check of a run script in lent bytes: 16, then 1 to 5 and 22, then 12, 13 and 15 word by word, 14 last.
 ghost use Rattle.std.specs.Prelude.{◌≡◌, ◌-◌, ◌/◌, ◌%◌, ◌≤◌, length};
 ghost use Rattle.words.specs.Verdict.{single, outcome};
 ghost use Rattle.script.specs.Words.{most_bytes, most_rounds, cast_ok, event_ok, play_ok};
@@ -155,7 +155,7 @@ fn check_play(s: &[u8], n: usize) -> Verdict
     check_tail(s, n, w % KIND, place + 1)
 }
 
-// Numbers 16, 1 to 6 and 22, 12 to 15 of a run script.
+// Numbers 16, 1 to 5 and 22, 12 to 15 of a run script.
 pub fn check(s: &[u8]) -> Verdict
     ensures { result ≡ check_script s.now }
 {

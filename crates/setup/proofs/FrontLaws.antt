@@ -1,19 +1,17 @@
 -- Bytes whose first words are those of a setup: what holds of one holds of the other.
-use Rattle.std.proofs.Common.{◌≡◌, ℕ, ◌+◌, ◌<◌, ◌≤◌, Bool, true, List, length, get_or, take, sym, refl, ap, ◌∙◌, subst, ap₂, arith, length-take-le, get_or-take}
+use Rattle.std.proofs.Common.{◌≡◌, ℕ, ◌+◌, ◌<◌, ◌≤◌, Bool, true, cond, ◌&&◌, ltb, leb, List, length, get_or, take, sym, refl, ap, ◌∙◌, subst, ap₂, arith, length-take-le, get_or-take}
 use native.Mathlib.Decide.{dec_lt}
 use lib.ListN.{get_or-eq_default}
 use Rattle.words.specs.Word.{word_at, bytes_of}
 use Rattle.words.proofs.ByteLaws.{bytes-ext}
-use Rattle.words.specs.Bits.{pack}
 use Rattle.words.specs.Array.{array}
-use Rattle.words.proofs.BitLaws.{pack-ext}
 use Rattle.words.proofs.ArrayLaws.{array-ext}
 use Rattle.words.proofs.WordLaws.{read_take}
-use Rattle.words.proofs.ByteLaws.{bytes-own}
 use Rattle.words.specs.Verdict.{all_right}
 use Rattle.setup.specs.Layout.{front_words, setup_words, setup_length}
-use Rattle.setup.specs.Setup.{return_limit_in, partitionable_in, size_in, mark_in, place_in, criticality_in, fades_in, front_in, limits_in, setup_of, setup_bytes}
-use Rattle.setup.specs.Check.{module_ok, mark_ok, limit_tests, length_in, check_setup}
+use Rattle.setup.specs.SendMark.{unmarked, unmarked_from}
+use Rattle.setup.specs.Setup.{return_limit_in, partitionable_in, size_in, place_in, criticality_in, fades_in, front_in, limits_in, setup_of, setup_bytes}
+use Rattle.setup.specs.Check.{module_ok, limit_tests, length_in, check_setup}
 use Rattle.words.specs.declared.Verdict.{Verdict}
 use Rattle.setup.proofs.BoundLaws.{front-least, limits-same, right-same, fades-same}
 use Rattle.setup.proofs.SetupLaws.{SetupFits}
@@ -35,7 +33,6 @@ module _ (a b : List ℕ) (n : ℕ) (same : (i : ℕ) → i < setup_words (front
             subst (λ (x : Bool). all_right (limit_tests x (word_at b)) ≡ true) form-same
             (right-same (fades_in (word_at a)) (word_at a) (word_at b) (λ i h. same i (omega arith)) f.limits);
         each = λ j h. subst (λ (w : ℕ). module_ok n j w ≡ true) (module-same j h) (f.each j h);
-        marks = λ j h. subst (λ (w : ℕ). mark_ok j w ≡ true) (module-same j h) (f.marks j h);
       }
 
   pub setup-same : size_in (word_at a 0) ≡ n → setup_of a ≡ setup_of b
@@ -48,16 +45,13 @@ module _ (a b : List ℕ) (n : ℕ) (same : (i : ℕ) → i < setup_words (front
       let l : limits_in (fades_in (word_at a)) (word_at a) ≡ limits_in (fades_in (word_at b)) (word_at b) =
       limits-same (fades_in (word_at a)) (word_at a) (word_at b) (λ i h. same i (omega arith)) ∙ ap (λ (x : Bool). limits_in x (word_at b)) form-same
       in
-      let m : pack n (λ j. mark_in (word_at a (front_in (word_at a) + j))) ≡ pack n (λ j. mark_in (word_at b (front_in (word_at b) + j))) =
-      pack-ext n _ _ (λ j h. ap mark_in (module-same j h))
-      in
       let p : array n (λ j. place_in (word_at a (front_in (word_at a) + j))) ≡ array n (λ j. place_in (word_at b (front_in (word_at b) + j))) =
       array-ext n _ _ (λ j h. ap place_in (module-same j h))
       in
       let c : array n (λ j. criticality_in (word_at a (front_in (word_at a) + j))) ≡ array n (λ j. criticality_in (word_at b (front_in (word_at b) + j))) =
       array-ext n _ _ (λ j h. ap criticality_in (module-same j h))
       in
-      rw (e, z, q, t, l, m, p, c)
+      rw (e, z, q, t, l, p, c)
 
 -- a byte of a front part, or none
 take-small : (s : List ℕ) (k : ℕ) → k ≤ length s → ((i : ℕ) → get_or s i 0 < 256) → (i : ℕ) → get_or (take k s) i 0 < 256
@@ -110,14 +104,14 @@ module _ (s : List ℕ) (f : HeadFits s) (w : WordsFit s (size_in (word_at s 0))
   pub front-setup : setup_of front ≡ setup_of s
   front-setup = sym (setup-same s front size same-front refl)
 
-  -- the setup that is read is in range, and written as the same bytes
+  -- the setup that is read is in range, and written as the same words without their marks
   pub setup-fits : SetupFits (setup_of s)
   setup-fits = subst SetupFits front-setup (read_fits front front-accepted)
 
-  pub setup-written : ((i : ℕ) → get_or s i 0 < 256) → setup_bytes (setup_of s) ≡ bytes_of (setup_words (front_in (word_at s)) size) (word_at s)
+  pub setup-written : ((i : ℕ) → get_or s i 0 < 256) → setup_bytes (setup_of s) ≡ bytes_of (setup_words (front_in (word_at s)) size) (unmarked_from (front_in (word_at s)) size (word_at s))
+  unfolding unmarked_from
   setup-written b =
-      let l : length front ≡ length_in s = length-take-le (length_in s) s room in
       ap setup_bytes (sym front-setup)
       ∙ written_read front front-accepted (take-small s (length_in s) room b)
-      ∙ sym (bytes-own front count (take-small s (length_in s) room b) l)
-      ∙ bytes-ext count _ _ front_same
+      ∙ ap₂ (λ (x y : ℕ). bytes_of (setup_words x y) (unmarked_from x y (word_at front))) (ap front_words (sym (form-same s front size same-front))) (ap size_in (front_same 0 (omega arith)))
+      ∙ bytes-ext count _ _ (λ i h. ap (λ (w : ℕ). cond (leb (front_in (word_at s)) i && ltb i (front_in (word_at s) + size)) (unmarked w) w) (front_same i h))

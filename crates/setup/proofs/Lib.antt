@@ -6,5 +6,6 @@ pub mod SetupLaws
 pub mod SetupAnswerLaws
 pub mod SetupReadLaws
 pub mod ModuleLaws
+pub mod SendMarkLaws
 pub mod SetupRoundTrip
 pub mod FrontLaws

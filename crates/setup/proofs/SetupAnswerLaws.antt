@@ -5,7 +5,7 @@ use Rattle.words.specs.Verdict.{verdict, accepted, is_accepted, single, and_then
 use Rattle.words.specs.declared.Verdict.{Verdict}
 use Rattle.words.proofs.Truth.{cond-true, cond-false}
 use Rattle.words.proofs.VerdictLaws.{and-then-next, and-then-assoc, and-then-stops, and-then-goes, single-ok, single-refused}
-use Rattle.words.proofs.SearchLaws.{two-after}
+use Rattle.words.proofs.SearchLaws.{one-after}
 use Rattle.setup.specs.Layout.{front_words, setup_length}
 use Rattle.setup.specs.Limits.{fades}
 use Rattle.setup.specs.Setup.{size_in, fades_in, front_in, front_of, setup_of, setup_bytes, blank_setup}
@@ -55,13 +55,13 @@ module _ {fading : Bool} {front : ℕ} (s : List ℕ) (form : fading ≡ fades_i
   pub length-by : {n k : ℕ} → n ≡ size_in (word_at s 0) → k ≡ setup_length front n → k ≡ length_in s
   length-by h k = k ∙ ap₂ setup_length (at ∙ ap front_words form) h
 
-  pub words-by : {v₀ v₁ v₂ : Verdict} (n : ℕ) → v₀ ≡ first_refusal (limit_tests fading (word_at s))
-      → v₁ ≡ and_then v₀ (outcome (module_tests (word_at s) front n 5)) → v₂ ≡ and_then v₁ (outcome (module_tests (word_at s) front n 6)) → v₂ ≡ check_words s n
+  pub words-by : {v₀ v₁ : Verdict} (n : ℕ) → v₀ ≡ first_refusal (limit_tests fading (word_at s))
+      → v₁ ≡ and_then v₀ (outcome (module_tests (word_at s) front n)) → v₁ ≡ check_words s n
   unfolding check_words
-  words-by {v₀} {v₁} n a b c =
+  words-by {v₀} n a b =
       let f : front ≡ front_in (word_at s) = at ∙ ap front_words form in
-      two-after (limit_tests (fades_in (word_at s)) (word_at s)) _ _ (a ∙ ap (λ (x : Bool). first_refusal (limit_tests x (word_at s))) form)
-      (b ∙ ap (λ (k : ℕ). and_then v₀ (outcome (module_tests (word_at s) k n 5))) f) (c ∙ ap (λ (k : ℕ). and_then v₁ (outcome (module_tests (word_at s) k n 6))) f)
+      one-after (limit_tests (fades_in (word_at s)) (word_at s)) _ (a ∙ ap (λ (x : Bool). first_refusal (limit_tests x (word_at s))) form)
+      (b ∙ ap (λ (k : ℕ). and_then v₀ (outcome (module_tests (word_at s) k n))) f)
 
 pub struct-length : {fading : Bool} {front k : ℕ} (s : Setup) → fading ≡ fades s.limits → front ≡ front_words fading → k ≡ setup_length front s.n
     → k ≡ setup_length (front_of s) s.n

@@ -7,7 +7,7 @@ use Rattle.words.specs.declared.Verdict.{Verdict}
 use Rattle.words.proofs.Truth.{and_l, and_r, and-true}
 use Rattle.words.proofs.VerdictLaws.{Passed, numbered, and-then-next, and-then-pass, all-passed, passed-all, tests-pass, tests-ok, right-join, numbers-join}
 use Rattle.setup.specs.Setup.{size_in, fades_in, front_in}
-use Rattle.setup.specs.Check.{whole, head_ok, module_ok, mark_ok, limit_tests, module_test, module_tests, head_tests, word_tests, length_in, check_head, check_words, check_setup, check_front}
+use Rattle.setup.specs.Check.{whole, head_ok, module_ok, limit_tests, module_tests, head_tests, word_tests, length_in, check_head, check_words, check_setup, check_front}
 use Rattle.setup.proofs.WordFields.{head-made}
 use Rattle.setup.proofs.BoundLaws.{limit-numbers}
 
@@ -47,37 +47,36 @@ pub head_ok_lem : (s : List ℕ) (fits : Bool) → HeadFits s → fits ≡ true 
 unfolding check_head Passed
 head_ok_lem s fits h f = tests-ok (head_tests s fits) (λ _ _. whole_of s h.whole h.room, (λ _ _. h.head, (λ _ _. f, tt)))
 
--- ---- numbers 4 to 6 and 22
+-- ---- numbers 4, 5 and 22
 
 pub record WordsFit (s : List ℕ) (n : ℕ) : Type 0 where
   pub limits : all_right (limit_tests (fades_in (word_at s)) (word_at s)) ≡ true
   pub each : (j : ℕ) → j < n → module_ok n j (word_at s (front_in (word_at s) + j)) ≡ true
-  pub marks : (j : ℕ) → j < n → mark_ok j (word_at s (front_in (word_at s) + j)) ≡ true
 
--- the tests of the module words, by 5 and by 6
-abbrev pub both_tests : List ℕ → ℕ → List Test
-both_tests s n = module_tests (word_at s) (front_in (word_at s)) n 5 ∷ module_tests (word_at s) (front_in (word_at s)) n 6 ∷ []
+-- the tests of the module words
+abbrev pub modules_tested : List ℕ → ℕ → List Test
+modules_tested s n = module_tests (word_at s) (front_in (word_at s)) n ∷ []
 
 pub word-numbers : (s : List ℕ) (n : ℕ) → numbered (word_tests s n) ≡ true
 unfolding numbered
-word-numbers s n = numbers-join (limit_tests (fades_in (word_at s)) (word_at s)) (both_tests s n) (limit-numbers (fades_in (word_at s)) (word_at s)) refl
+word-numbers s n = numbers-join (limit_tests (fades_in (word_at s)) (word_at s)) (modules_tested s n) (limit-numbers (fades_in (word_at s)) (word_at s)) refl
 
 pub words-pass : (s : List ℕ) (n : ℕ) → (check_words s n).number ≡ 0 → WordsFit s n
-unfolding check_words module_test Passed
+unfolding check_words Passed
 words-pass s n e =
     let ts = limit_tests (fades_in (word_at s)) (word_at s) in
-    let t : all_right ts && all_right (both_tests s n) ≡ true =
-    sym (right-join ts (both_tests s n)) ∙ passed-all (word_tests s n) (tests-pass (word_tests s n) (word-numbers s n) e)
+    let t : all_right ts && all_right (modules_tested s n) ≡ true =
+    sym (right-join ts (modules_tested s n)) ∙ passed-all (word_tests s n) (tests-pass (word_tests s n) (word-numbers s n) e)
     in
-    let (each, (marks, _)) = all-passed (both_tests s n) (and_r (all_right ts) _ t) in
-    record { limits = and_l (all_right ts) _ t; each = each; marks = marks }
+    let (each, _) = all-passed (modules_tested s n) (and_r (all_right ts) _ t) in
+    record { limits = and_l (all_right ts) _ t; each = each }
 
 pub words-ok : (s : List ℕ) (n : ℕ) → WordsFit s n → check_words s n ≡ accepted
-unfolding check_words module_test Passed
+unfolding check_words Passed
 words-ok s n f =
     let ts = limit_tests (fades_in (word_at s)) (word_at s) in
-    let t : all_right (both_tests s n) ≡ true = passed-all (both_tests s n) (f.each, (f.marks, tt)) in
-    tests-ok (word_tests s n) (all-passed (word_tests s n) (right-join ts (both_tests s n) ∙ and-true (all_right ts) _ f.limits t))
+    let t : all_right (modules_tested s n) ≡ true = passed-all (modules_tested s n) (f.each, tt) in
+    tests-ok (word_tests s n) (all-passed (word_tests s n) (right-join ts (modules_tested s n) ∙ and-true (all_right ts) _ f.limits t))
 
 -- ---- a setup by itself, and one at the front of a script
 

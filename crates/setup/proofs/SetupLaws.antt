@@ -8,7 +8,7 @@ use Rattle.words.proofs.Truth.{and_l, and_r, and-true}
 use Rattle.words.proofs.VerdictLaws.{between_is, between-of, and-then-next, and-then-pass}
 use Rattle.setup.specs.Limits.{most_return_limit, most_criticality}
 use Rattle.setup.specs.Setup.{front_in, setup_bytes}
-use Rattle.setup.specs.Check.{module_fits, mark_fits, module_ok, mark_ok, setup_roomy, limit_tests, check_words, room_verdict, setup_verdict}
+use Rattle.setup.specs.Check.{module_fits, module_ok, setup_roomy, limit_tests, check_words, room_verdict, setup_verdict}
 use Rattle.setup.specs.declared.Setup.{Setup}
 use Rattle.setup.proofs.BoundLaws.{LimitsFit, fit-room, limits-right, right-fit}
 use Rattle.setup.proofs.SetupCheckLaws.{WordsFit, words-pass, words-ok}
@@ -27,7 +27,6 @@ pub record SetupFits (s : Setup) : Type 0 where
   pub limits : LimitsFit s.limits
   pub each : (j : ℕ) → j < s.n → ModuleFits s.n (get_or s.places j 0) (get_or s.criticality j 0)
   pub roomy : setup_roomy s ≡ true
-  pub marks : (j : ℕ) → j < s.n → mark_fits j (bit s.marks j) (get_or s.places j 0) ≡ true
 
 pub module-is : (n place criticality : ℕ) → module_fits n place criticality ≡ true → ModuleFits n place criticality
 unfolding module_fits
@@ -47,7 +46,7 @@ unfolding setup_verdict
 verdict-room s e = (and-then-pass (room_verdict s) (check_words (setup_bytes s) s.n) e).0
 
 pub verdict-fits : (s : Setup) → (setup_verdict s).number ≡ 0 → SetupFits s
-unfolding setup_verdict module_ok mark_ok
+unfolding setup_verdict module_ok
 verdict-fits s e =
     let (a, b) = and-then-pass (room_verdict s) (check_words (setup_bytes s) s.n) e in
     let m = room-pass s a in
@@ -64,7 +63,6 @@ verdict-fits s e =
           module-is s.n _ _
           (rw (k.place j h, k.criticality j h) at (and_r (eqb (word_at (setup_bytes s) (front_in (word_at (setup_bytes s)) + j) / number_unit) (4 * 2 ^ 5 + (j + 1))) _ (w.each j h)));
       roomy = m.roomy;
-      marks = λ j h. rw (k.mark j h, k.place j h) at (w.marks j h);
     }
 
 pub fits-room : (s : Setup) → SetupFits s → Room s
@@ -72,7 +70,7 @@ fits-room s f = record { q = f.q-most; least = f.least; most = f.most; limits = 
 
 -- its words pass
 pub fits-words : (s : Setup) → SetupFits s → WordsFit (setup_bytes s) s.n
-unfolding module_ok mark_ok
+unfolding module_ok
 fits-words s f =
     let t = stands s in
     let k = fields_back s (fits-room s f) in
@@ -81,7 +79,6 @@ fits-words s f =
       each = λ j h.
           and-true (eqb (word_at (setup_bytes s) (front_in (word_at (setup_bytes s)) + j) / number_unit) (4 * 2 ^ 5 + (j + 1))) _ (eq-eqb _ _ (k.number j h))
           (rw (k.place j h, k.criticality j h) (module-of s.n _ _ (f.each j h)));
-      marks = λ j h. rw (k.mark j h, k.place j h) (f.marks j h);
     }
 
 pub fits-verdict : (s : Setup) → SetupFits s → setup_verdict s ≡ accepted

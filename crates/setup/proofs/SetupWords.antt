@@ -11,10 +11,10 @@ use Rattle.words.proofs.VerdictLaws.{Passed, numbered, all-passed, passed-all, t
 use Rattle.words.specs.Verdict.{single, accepted, all_right}
 use Rattle.setup.specs.Layout.{limit_words, front_words, setup_length}
 use Rattle.setup.specs.Limits.{fades, most_return_limit}
-use Rattle.setup.specs.Setup.{head_word, return_limit_in, partitionable_in, size_in, module_word, mark_in, place_in, criticality_in, fades_in, limits_in, limit_list, front_in, front_of, setup_runs, setup_bytes}
+use Rattle.setup.specs.Setup.{head_word, return_limit_in, partitionable_in, size_in, module_word, place_in, criticality_in, fades_in, limits_in, limit_list, front_in, front_of, setup_runs, setup_bytes}
 use Rattle.setup.specs.Check.{setup_roomy, limit_room, room_tests, room_verdict}
 use Rattle.setup.specs.declared.Setup.{Setup}
-use Rattle.setup.proofs.WordFields.{HeadMade, head-is, head_of, size_back, return_back, partitionable-back, number-back, mark-back, place-back, criticality-back}
+use Rattle.setup.proofs.WordFields.{HeadMade, head-is, head_of, size_back, return_back, partitionable-back, number-back, place-back, criticality-back}
 use Rattle.setup.proofs.BoundLaws.{LimitsRoom, LimitsStand, room-numbers, room-passed, passed-room, fades-back, limits-back}
 
 pub record Room (s : Setup) : Type 0 where
@@ -55,34 +55,28 @@ room-ok s f =
     in
     tests-ok (room_tests s) (λ _ _. head_of s.q s.n (room-head s f), all-passed _ t)
 
--- ---- marks, read places and criticalities that have room
+-- ---- read places and criticalities that have room
 
 module _ (s : Setup) (e : setup_roomy s ≡ true) where
-  pub marks-small : s.marks < 2 ^ s.n
-  unfolding setup_roomy
-  marks-small =
-      ltb-true _ _ (and_l (ltb s.marks (2 ^ s.n)) _ (and_l (ltb s.marks (2 ^ s.n) && bounded s.n 31 s.places) _ e))
-
   pub places-bounded : bounded s.n 31 s.places ≡ true
   unfolding setup_roomy
-  places-bounded = and_r (ltb s.marks (2 ^ s.n)) _ (and_l (ltb s.marks (2 ^ s.n) && bounded s.n 31 s.places) _ e)
+  places-bounded = and_l (bounded s.n 31 s.places) _ e
 
   pub criticality-bounded : bounded s.n 131071 s.criticality ≡ true
   unfolding setup_roomy
-  criticality-bounded = and_r (ltb s.marks (2 ^ s.n) && bounded s.n 31 s.places) _ e
+  criticality-bounded = and_r (bounded s.n 31 s.places) _ e
 
-pub roomy_of : (s : Setup) → s.marks < 2 ^ s.n → clear_from s.n s.places ≡ true → clear_from s.n s.criticality ≡ true
+pub roomy_of : (s : Setup) → clear_from s.n s.places ≡ true → clear_from s.n s.criticality ≡ true
     → ((j : ℕ) → j < s.n → get_or s.places j 0 < 2 ^ 5) → ((j : ℕ) → j < s.n → get_or s.criticality j 0 < 2 ^ 17) → setup_roomy s ≡ true
 unfolding setup_roomy
-roomy_of s m a b p c =
-    and-true (ltb s.marks (2 ^ s.n) && bounded s.n 31 s.places) _
-    (and-true (ltb s.marks (2 ^ s.n)) _ (lt-ltb s.marks (2 ^ s.n) m) (bounded_of s.n 31 s.places (λ j h. omega (arith, p j h)) a))
+roomy_of s a b p c =
+    and-true (bounded s.n 31 s.places) _ (bounded_of s.n 31 s.places (λ j h. omega (arith, p j h)) a)
     (bounded_of s.n 131071 s.criticality (λ j h. omega (arith, c j h)) b)
 
 -- ---- its words
 
 abbrev pub module_of : Setup → ℕ → ℕ
-module_of s j = module_word j (bit s.marks j) (get_or s.places j 0) (get_or s.criticality j 0)
+module_of s j = module_word j (get_or s.places j 0) (get_or s.criticality j 0)
 
 pub written-length : (s : Setup) → length (setup_bytes s) ≡ setup_length (front_of s) s.n
 unfolding setup_bytes total
@@ -111,7 +105,6 @@ pub record FieldsBack (s : Setup) : Type 0 where
   pub partitionable : partitionable_in (word_at (setup_bytes s) 0) ≡ s.partitionable
   pub limits : limits_in (fades_in (word_at (setup_bytes s))) (word_at (setup_bytes s)) ≡ s.limits
   pub number : (j : ℕ) → j < s.n → word_at (setup_bytes s) (front_in (word_at (setup_bytes s)) + j) / number_unit ≡ 4 * 2 ^ 5 + (j + 1)
-  pub mark : (j : ℕ) → j < s.n → mark_in (word_at (setup_bytes s) (front_in (word_at (setup_bytes s)) + j)) ≡ bit s.marks j
   pub place : (j : ℕ) → j < s.n → place_in (word_at (setup_bytes s) (front_in (word_at (setup_bytes s)) + j)) ≡ get_or s.places j 0
   pub criticality : (j : ℕ) → j < s.n → criticality_in (word_at (setup_bytes s) (front_in (word_at (setup_bytes s)) + j)) ≡ get_or s.criticality j 0
 
@@ -136,11 +129,10 @@ module _ (s : Setup) (f : Room s) where
         limits =
             ap (λ (b : Bool). limits_in b (word_at (setup_bytes s))) form ∙ limits-back (word_at (setup_bytes s)) s.limits f.limits w.limits;
         number = λ j h.
-            ap (λ (w : ℕ). w / number_unit) (modules j h) ∙ number-back j (bit s.marks j) _ _ (place-small j h) (criticality-small j h);
-        mark = λ j h. ap mark_in (modules j h) ∙ mark-back j (bit s.marks j) _ _ (place-small j h) (criticality-small j h);
-        place = λ j h. ap place_in (modules j h) ∙ place-back j (bit s.marks j) _ _ (place-small j h) (criticality-small j h);
+            ap (λ (w : ℕ). w / number_unit) (modules j h) ∙ number-back j _ _ (place-small j h) (criticality-small j h);
+        place = λ j h. ap place_in (modules j h) ∙ place-back j _ _ (place-small j h) (criticality-small j h);
         criticality = λ j h.
-            ap criticality_in (modules j h) ∙ criticality-back j (bit s.marks j) _ _ (place-small j h) (criticality-small j h);
+            ap criticality_in (modules j h) ∙ criticality-back j _ _ (place-small j h) (criticality-small j h);
       }
 
 -- ---- the words as they are written, one after the other

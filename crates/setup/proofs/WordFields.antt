@@ -6,7 +6,8 @@ use Rattle.words.specs.Verdict.{between}
 use Rattle.words.proofs.Truth.{and_l, and_r, and-true, iff-eq}
 use Rattle.words.proofs.BitLaws.{b2n-bit, b2n-le}
 use Rattle.setup.specs.Limits.{most_return_limit, least_modules, most_modules}
-use Rattle.setup.specs.Setup.{head_word, return_limit_in, partitionable_in, size_in, limit_word, limit_in, module_word, mark_in, place_in, criticality_in}
+use Rattle.setup.specs.SendMark.{unmarked}
+use Rattle.setup.specs.Setup.{head_word, return_limit_in, partitionable_in, size_in, limit_word, limit_in, module_word, place_in, criticality_in}
 use Rattle.setup.specs.Check.{head_fits, head_ok, limit_ok}
 use Rattle.words.proofs.VerdictLaws.{between_is, between-of}
 
@@ -140,45 +141,21 @@ limit-back kind v h = omega arith
 
 -- ---- a module word
 
-pub module-made : (j w : ℕ) → w / 2 ^ 23 ≡ 4 * 2 ^ 5 + (j + 1) → module_word j (mark_in w) (place_in w) (criticality_in w) ≡ w
+-- but for its mark a word is made of its fields
+pub module-made : (j w : ℕ) → w / 2 ^ 23 ≡ 4 * 2 ^ 5 + (j + 1) → module_word j (place_in w) (criticality_in w) ≡ unmarked w
 module-made j w e =
-    let m : b2n (mark_in w) ≡ w / 2 ^ 22 % 2 = b2n-bit w 22 in
-    let a : w / 2 ^ 22 ≡ w / 2 ^ 23 * 2 + w / 2 ^ 22 % 2 = omega arith in
     let b : w / 2 ^ 17 ≡ w / 2 ^ 22 * 2 ^ 5 + w / 2 ^ 17 % 2 ^ 5 = omega arith in
-    let c : w ≡ w / 2 ^ 17 * 2 ^ 17 + w % 2 ^ 17 = omega arith in
     omega arith
 
--- the fields of a word that was made of a number, a bit, a read place and a criticality
-module _ (j bit place criticality : ℕ) (hb : bit ≤ 1) (hp : place < 2 ^ 5) (hc : criticality < 2 ^ 17) where
-  abbrev made : ℕ
-  made = 4 * 2 ^ 28 + (j + 1) * 2 ^ 23 + bit * 2 ^ 22 + place * 2 ^ 17 + criticality
+-- the fields of a word that was made of a number, a read place and a criticality
+module _ (j place criticality : ℕ) (hp : place < 2 ^ 5) (hc : criticality < 2 ^ 17) where
+  pub number-back : module_word j place criticality / 2 ^ 23 ≡ 4 * 2 ^ 5 + (j + 1)
+  number-back = omega arith
 
-  number_at : made / 2 ^ 23 ≡ 4 * 2 ^ 5 + (j + 1)
-  number_at = omega arith
-
-  bit_at : made / 2 ^ 22 % 2 ≡ bit
-  bit_at =
-      let e : made / 2 ^ 22 ≡ (4 * 2 ^ 5 + (j + 1)) * 2 + bit = omega arith in
+  pub place-back : place_in (module_word j place criticality) ≡ place
+  place-back =
+      let e : module_word j place criticality / 2 ^ 17 ≡ (4 * 2 ^ 5 + (j + 1)) * 2 ^ 6 + place = omega arith in
       rw e (omega arith)
 
-  place_at : made / 2 ^ 17 % 2 ^ 5 ≡ place
-  place_at =
-      let e : made / 2 ^ 17 ≡ ((4 * 2 ^ 5 + (j + 1)) * 2 + bit) * 2 ^ 5 + place = omega arith in
-      rw e (omega arith)
-
-  criticality-at : made % 2 ^ 17 ≡ criticality
-  criticality-at = omega arith
-
-module _ (j : ℕ) (mark : Bool) (place criticality : ℕ) (hp : place < 2 ^ 5) (hc : criticality < 2 ^ 17) where
-  pub number-back : module_word j mark place criticality / 2 ^ 23 ≡ 4 * 2 ^ 5 + (j + 1)
-  number-back = number_at j (b2n mark) place criticality (b2n-le mark) hp hc
-
-  pub mark-back : mark_in (module_word j mark place criticality) ≡ mark
-  mark-back =
-      b2n-same _ mark (b2n-bit (module_word j mark place criticality) 22 ∙ bit_at j (b2n mark) place criticality (b2n-le mark) hp hc)
-
-  pub place-back : place_in (module_word j mark place criticality) ≡ place
-  place-back = place_at j (b2n mark) place criticality (b2n-le mark) hp hc
-
-  pub criticality-back : criticality_in (module_word j mark place criticality) ≡ criticality
-  criticality-back = criticality-at j (b2n mark) place criticality (b2n-le mark) hp hc
+  pub criticality-back : criticality_in (module_word j place criticality) ≡ criticality
+  criticality-back = omega arith

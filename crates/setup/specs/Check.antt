@@ -1,6 +1,6 @@
--- Which setups are accepted, and the number and index by which the others are refused: numbers 1 to 6, and 22 in the place of 4 where a setup
--- fades. (document 01, "Answers and their order"; the limits stand in the table of "What runs"; document 02, E9)
-use Rattle.std.specs.Prelude.{ℕ, ◌+◌, ◌-◌, ◌*◌, ◌/◌, ◌%◌, ◌^◌, Bool, true, false, cond, not, ◌&&◌, ◌||◌, List, [], ◌∷◌, ◌++◌, length, take, ◌==◌, nat_le, nat_lt}
+-- Which setups are accepted, and the number and index by which the others are refused: numbers 1 to 5, and 22 in the place of 4 where a setup
+-- fades. (document 01, "Answers and their order"; the limits stand in the table of "What runs"; document 02, E9, and E12: number 6 is no longer given)
+use Rattle.std.specs.Prelude.{ℕ, ◌+◌, ◌-◌, ◌*◌, ◌/◌, ◌%◌, ◌^◌, Bool, true, false, cond, not, ◌&&◌, List, [], ◌∷◌, ◌++◌, length, take, ◌==◌, nat_le, nat_lt}
 use Rattle.words.specs.Word.{word_at, field, kind_unit, number_unit}
 use Rattle.words.specs.Array.{bounded}
 use Rattle.words.specs.Verdict.{is_accepted, between, Test, single, each, and_then, outcome, first_refusal}
@@ -8,7 +8,7 @@ use Rattle.words.specs.declared.Verdict.{Verdict}
 use Rattle.doubles.specs.Double.{double_in, is_double}
 use Rattle.setup.specs.Layout.{head_at, form_at, penalty_limit_at, reward_limit_at, factor_at, score_limit_at, setup_length}
 use Rattle.setup.specs.Limits.{least_modules, most_modules, most_return_limit, most_penalty_limit, most_reward_limit, most_criticality, factor_fits, limit_fits}
-use Rattle.setup.specs.Setup.{return_limit_in, size_in, limit_word, place_unit, mark_in, place_in, criticality_in, fades_in, front_in, front_of, setup_of, setup_bytes, blank_setup}
+use Rattle.setup.specs.Setup.{return_limit_in, size_in, limit_word, place_unit, place_in, criticality_in, fades_in, front_in, front_of, setup_of, setup_bytes, blank_setup}
 use Rattle.setup.specs.declared.Limits.{Limits}
 use Rattle.setup.specs.declared.Limits.TheVariants.{Counts, Fading}
 use Rattle.setup.specs.declared.Setup.{Setup}
@@ -36,17 +36,9 @@ limit_ok kind most w = between (limit_word kind 1) (limit_word kind most) w
 unfoldable pub module_fits : ℕ → ℕ → ℕ → Bool
 module_fits n place criticality = nat_le place n && between 1 most_criticality criticality
 
--- kind 4, the number j + 1 in its turn, fields in range, else number 5
+-- kind 4, the number j + 1 in its turn, fields in range, else number 5; bit 22 is not looked at
 unfoldable pub module_ok : ℕ → ℕ → ℕ → Bool
 module_ok n j w = w / number_unit == 4 * 2 ^ 5 + (j + 1) && module_fits n (place_in w) (criticality_in w)
-
--- no send mark, or one on a module other than 1 whose read place is below its number j + 1
-unfoldable pub mark_fits : ℕ → Bool → ℕ → Bool
-mark_fits j mark place = not mark || (nat_lt 0 j && nat_le place j)
-
--- no send mark, or one that fits, else number 6
-unfoldable pub mark_ok : ℕ → ℕ → Bool
-mark_ok j w = mark_fits j (mark_in w) (place_in w)
 
 -- ---- bytes
 
@@ -70,18 +62,13 @@ limit_tests false w =
     ∷ single (limit_ok 3 most_reward_limit (w reward_limit_at)) 4 reward_limit_at
     ∷ []
 
--- number 5 or 6 of the word of module j + 1, which stands after the `front` words before the first
-unfoldable pub module_test : (ℕ → ℕ) → ℕ → ℕ → ℕ → ℕ → Bool
-module_test w front n number j = cond (number == 5) (module_ok n j (w (front + j))) (mark_ok j (w (front + j)))
+-- number 5 of the words of n modules, which stand after the `front` words before the first
+abbrev pub module_tests : (ℕ → ℕ) → ℕ → ℕ → Test
+module_tests w front n = each n (λ j. module_ok n j (w (front + j))) 5 front
 
--- one of them of all n modules
-abbrev pub module_tests : (ℕ → ℕ) → ℕ → ℕ → ℕ → Test
-module_tests w front n number = each n (module_test w front n number) number front
-
--- numbers 4 or 22, 5 and 6, each at its word: the limits, then the n module words, first by 5 and then by 6
+-- numbers 4 or 22, and 5, each at its word: the limits, then the n module words
 abbrev pub word_tests : List ℕ → ℕ → List Test
-word_tests s n =
-    limit_tests (fades_in (word_at s)) (word_at s) ++ (module_tests (word_at s) (front_in (word_at s)) n 5 ∷ module_tests (word_at s) (front_in (word_at s)) n 6 ∷ [])
+word_tests s n = limit_tests (fades_in (word_at s)) (word_at s) ++ (module_tests (word_at s) (front_in (word_at s)) n ∷ [])
 
 unfoldable pub check_words : List ℕ → ℕ → Verdict
 check_words s n = first_refusal (word_tests s n)
@@ -104,9 +91,9 @@ setup_part s = take (cond (is_accepted (check_front s)) (length_in s) 0) s
 
 -- ---- a setup that is already a struct
 
--- read places and criticalities have room in their words, and they and the marks hold nothing from n on
+-- read places and criticalities have room in their words, and hold nothing from n on
 unfoldable pub setup_roomy : Setup → Bool
-setup_roomy s = nat_lt s.marks (2 ^ s.n) && bounded s.n (2 ^ 5 - 1) s.places && bounded s.n (place_unit - 1) s.criticality
+setup_roomy s = bounded s.n (2 ^ 5 - 1) s.places && bounded s.n (place_unit - 1) s.criticality
 
 -- its limits have room in their words: P and R are not too wide for them, factor and limit are doubles, as those of code always are
 abbrev pub limit_room : Limits → List Test
@@ -120,13 +107,13 @@ room_tests s = single (head_fits s.q s.n) 2 head_at ∷ (limit_room s.limits ++ 
 unfoldable pub room_verdict : Setup → Verdict
 room_verdict s = first_refusal (room_tests s)
 
--- the verdict on such a setup, number 2, 4, 22, 5 or 6, or 0: whether its words have room for it, then that on its words
+-- the verdict on such a setup, number 2, 4, 22 or 5, or 0: whether its words have room for it, then that on its words
 unfoldable pub setup_verdict : Setup → Verdict
 setup_verdict s = and_then (room_verdict s) (check_words (setup_bytes s) s.n)
 
 -- ---- reading and writing
 
--- reading: 1 to 6 and 22; what is held where a setup is refused is blank
+-- reading: 1 to 5 and 22; what is held where a setup is refused is blank
 unfoldable pub read_setup : List ℕ → SetupRead
 read_setup s =
     let v = check_setup s in

@@ -4,7 +4,7 @@
 use Rattle.std.specs.Prelude.{ℕ, ◌+◌, ◌*◌, ◌/◌, ◌%◌, ◌^◌, Bool, true, false, List, [], ◌∷◌, replicate, ◌==◌, slice_index}
 use Rattle.words.specs.Word.{word_at, field, kind_unit, number_unit}
 use Rattle.words.specs.Runs.{Run, one, runs_of}
-use Rattle.words.specs.Bits.{b2n, bit, pack}
+use Rattle.words.specs.Bits.{b2n, bit}
 use Rattle.words.specs.Array.{array}
 use Rattle.doubles.specs.Double.{double_in, high_word, low_word}
 use Rattle.setup.specs.Layout.{head_at, form_at, penalty_limit_at, reward_limit_at, factor_at, score_limit_at, limit_words, front_words}
@@ -45,22 +45,15 @@ limit_word kind limit = kind * kind_unit + limit
 abbrev pub limit_in : ℕ → ℕ
 limit_in w = w % kind_unit
 
--- the units of the send mark and the read place in a module word: the criticality stands below both
-abbrev pub mark_unit : ℕ
-mark_unit = 2 ^ 22
-
+-- the unit of the read place in a module word: the criticality stands below it
 abbrev pub place_unit : ℕ
 place_unit = 2 ^ 17
 
--- kind 4, of module j + 1: 27..23 number, 22 send mark, 21..17 read place, 16..0 criticality
-abbrev pub module_word : ℕ → Bool → ℕ → ℕ → ℕ
-module_word j mark place criticality = 4 * kind_unit + (j + 1) * number_unit + b2n mark * mark_unit + place * place_unit + criticality
+-- kind 4, of module j + 1: 27..23 number, 22 clear (document 02, E12), 21..17 read place, 16..0 criticality
+abbrev pub module_word : ℕ → ℕ → ℕ → ℕ
+module_word j place criticality = 4 * kind_unit + (j + 1) * number_unit + place * place_unit + criticality
 
--- the send mark in such a word
-abbrev pub mark_in : ℕ → Bool
-mark_in w = bit w 22
-
--- the read place in it
+-- the read place in such a word, whatever its bit 22 is
 abbrev pub place_in : ℕ → ℕ
 place_in w = field 17 5 w
 
@@ -100,7 +93,6 @@ setup_of s =
       q = return_limit_in (word_at s head_at);
       partitionable = partitionable_in (word_at s head_at);
       limits = limits_in (fades_in (word_at s)) (word_at s);
-      marks = pack n (λ j. mark_in (word_at s (front + j)));
       places = array n (λ j. place_in (word_at s (front + j)));
       criticality = array n (λ j. criticality_in (word_at s (front + j)));
     }
@@ -114,7 +106,7 @@ abbrev pub setup_runs : Setup → List Run
 setup_runs s =
     one (head_word s.q s.partitionable s.n)
     ∷ record { count = limit_words (fades s.limits); word = λ i. slice_index (limit_list s.limits) i }
-    ∷ record { count = s.n; word = λ j. module_word j (bit s.marks j) (slice_index s.places j) (slice_index s.criticality j) }
+    ∷ record { count = s.n; word = λ j. module_word j (slice_index s.places j) (slice_index s.criticality j) }
     ∷ []
 
 -- their bytes
@@ -123,4 +115,4 @@ setup_bytes s = runs_of (setup_runs s)
 
 -- What is held where no setup was accepted, which document 01 leaves free: all zeros. No accepted setup has N = 0.
 unfoldable pub blank_setup : Setup
-blank_setup = record { n = 0; q = 0; partitionable = false; limits = Counts 0 0; marks = 0; places = replicate 16 0; criticality = replicate 16 0 }
+blank_setup = record { n = 0; q = 0; partitionable = false; limits = Counts 0 0; places = replicate 16 0; criticality = replicate 16 0 }

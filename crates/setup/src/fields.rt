@@ -12,7 +12,6 @@ use crate::word::head_fits;
 use crate::write::write_words;
 use words::Verdict;
 use words::array::bounded;
-use words::bits::power;
 use words::check::{accept, refusal};
 
 // Whether read places and criticalities have room in their words, and nothing stands in the entries from n on.
@@ -22,9 +21,7 @@ fn roomy(setup: Setup) -> bool
 {
     let places = setup.places;
     let criticality = setup.criticality;
-    (setup.marks < power(setup.n))
-        & bounded(setup.n, 31, places)
-        & bounded(setup.n, PLACE - 1, criticality)
+    bounded(setup.n, 31, places) & bounded(setup.n, PLACE - 1, criticality)
 }
 
 // Number 2, 4, 22 or 5 where its words have no room for a setup.
@@ -45,7 +42,7 @@ fn room_verdict(setup: Setup) -> Verdict
     accept()
 }
 
-// Numbers 4 to 6 and 22 of its words, which are written to `out`.
+// Numbers 4, 5 and 22 of its words, which are written to `out`.
 fn words_verdict(setup: Setup, out: &mut [u8]) -> Verdict
     requires { ((room_verdict setup).number ≡ 0) × (length out.old ≡ setup_length (front_of setup) setup.n) }
     ensures { result ≡ check_words (setup_bytes setup) setup.n }
@@ -55,7 +52,7 @@ fn words_verdict(setup: Setup, out: &mut [u8]) -> Verdict
     check_words(out, fades(limits), setup.n)
 }
 
-// Numbers 2, 4 to 6 and 22 of any setup.
+// Numbers 2, 4, 5 and 22 of any setup.
 pub fn verdict(setup: Setup) -> Verdict
     ensures { result ≡ setup_verdict setup }
 {

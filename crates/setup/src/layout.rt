@@ -15,7 +15,7 @@ pub const FACTOR_AT: usize = 2;
 
 pub const SCORE_LIMIT_AT: usize = 4;
 
-// 2^22 and 2^17: the send mark and the read place of a module word stand there, and the criticality below them.
+// 2^22 and 2^17: the retired send mark and the read place of a module word stand there, and the criticality below them.
 pub const MARK: u32 = 4194304;
 
 pub const PLACE: u32 = 131072;

@@ -1,4 +1,4 @@
-// A setup: N, by which limits account is kept, and for each module its send mark, read place and criticality.
+// A setup: N, by which limits account is kept, and for each module its read place and criticality.
 #![tactic(auto)]
 
 // How account is kept: by counts, with the penalty limit P and the reward limit R, or by fading scores, with their factor and their limit.
@@ -8,7 +8,7 @@ pub enum Limits {
     Fading(f64, f64),
 }
 
-// The entries of module j + 1 stand at j; bit j of `marks` is its send mark. Entries from n on are 0.
+// The entries of module j + 1 stand at j. Entries from n on are 0.
 #[derive(Clone, Copy)]
 pub struct Setup {
     pub n: usize,
@@ -17,7 +17,6 @@ pub struct Setup {
     // Whether modules send view words too, for stands whose cable may tear.
     pub partitionable: bool,
     pub limits: Limits,
-    pub marks: u32,
     pub places: [u32; 16],
     pub criticality: [u32; 16],
 }
@@ -37,11 +36,13 @@ pub struct SetupPart {
     pub setup: Setup,
 }
 
-// What the words of the modules say together: whether they are right, and, where they are, whether some read place is not n.
+// What the words of the modules say together: whether they are right, and, where they are, whether some read place is not n; and whether one of them has
+// the send mark.
 #[derive(Clone, Copy)]
 pub struct ModulesPart {
     pub good: bool,
     pub skew: bool,
+    pub marked: bool,
 }
 
 pub mod bounds;
@@ -54,4 +55,4 @@ pub mod read;
 mod word;
 pub mod write;
 
-pub use word::{head_ok, limit_ok};
+pub use word::{head_ok, limit_ok, unmarked};

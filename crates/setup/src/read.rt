@@ -9,9 +9,9 @@ ghost use Rattle.setup.specs.Check.{word_tests, read_setup};
 use crate::bounds::{fades_at, front_words, limits_at, limits_right};
 use crate::check::{check, size_at};
 use crate::layout::PLACE;
-use crate::word::{mark_ok, module_ok};
+use crate::word::module_ok;
 use crate::{Limits, Setup, SetupPart, SetupRead};
-use words::bits::{bit_at, with_bit};
+use words::bits::bit_at;
 use words::word::{field, word_at};
 
 // What is answered where no setup was accepted: all zeros.
@@ -25,7 +25,6 @@ pub fn blank() -> Setup
         q: 0,
         partitionable: false,
         limits: Limits::Counts(0, 0),
-        marks: 0,
         places,
         criticality,
     }
@@ -41,13 +40,11 @@ pub fn load_setup(s: &[u8], fades: bool, n: usize) -> SetupPart
     let right = limits_right(s, fades);
     let limits = limits_at(s, fades);
     let mut good = true;
-    let mut marks: u32 = 0;
     let mut places = [0u32; 16];
     let mut criticality = [0u32; 16];
     for j in 0..n {
         let w = word_at(s, front + j);
-        good = good & (module_ok(n, j, w) & mark_ok(j, w));
-        marks = with_bit(marks, j, bit_at(w, 22));
+        good = good & module_ok(n, j, w);
         places[j] = field(w, 17, 5);
         criticality[j] = w % PLACE;
     }
@@ -58,14 +55,13 @@ pub fn load_setup(s: &[u8], fades: bool, n: usize) -> SetupPart
             q: field(head, 8, 20),
             partitionable: bit_at(head, 5),
             limits,
-            marks,
             places,
             criticality,
         },
     }
 }
 
-// Numbers 1 to 6 and 22, and the setup where none of them refuses it.
+// Numbers 1 to 5 and 22, and the setup where none of them refuses it.
 pub fn read(s: &[u8]) -> SetupRead
     ensures { result ≡ read_setup s.now }
 {

@@ -1,12 +1,13 @@
 // Tests of single words of a setup, and of the fields that they hold.
 ghost use Rattle.std.specs.Prelude.{◌≡◌, ◌^◌, ◌<◌};
-ghost use Rattle.setup.specs.Check.{head_fits, module_fits, mark_fits, head_ok, limit_ok, module_ok, mark_ok};
+ghost use Rattle.setup.specs.SendMark.{unmarked as unmarked_of};
+ghost use Rattle.setup.specs.Check.{head_fits, module_fits, head_ok, limit_ok, module_ok};
 
 use crate::layout::{
-    LEAST_MODULES, MOST_CRITICALITY, MOST_MODULES, MOST_RETURN_LIMIT, PARTITIONABLE, PLACE, RETURN,
+    LEAST_MODULES, MARK, MOST_CRITICALITY, MOST_MODULES, MOST_RETURN_LIMIT, PARTITIONABLE, PLACE,
+    RETURN,
 };
 use std::num::wrapping_sub_u32;
-use words::bits::bit_at;
 use words::word::{KIND, NUMBER, field};
 
 // A read place from 0 to n, a criticality from 1 to 100,000.
@@ -14,14 +15,6 @@ pub fn module_fits(n: usize, place: u32, criticality: u32) -> bool
     ensures { result ≡ module_fits n place criticality }
 {
     (place as usize <= n) & ((1 <= criticality) & (criticality <= MOST_CRITICALITY))
-}
-
-// No send mark, or one on a module other than 1 whose read place is below its number j + 1. (Compared in 32 bits, as four modules at a time are.)
-pub fn mark_fits(j: usize, mark: bool, place: u32) -> bool
-    requires { j < 16 }
-    ensures { result ≡ mark_fits j mark place }
-{
-    !mark | ((0 < j) & (place <= j as u32))
 }
 
 // A return limit up to 1,000,000, N from 2 to 16.
@@ -57,10 +50,9 @@ pub fn module_ok(n: usize, j: usize, w: u32) -> bool
     (w / NUMBER == 128 + (j as u32 + 1)) & module_fits(n, field(w, 17, 5), w % PLACE)
 }
 
-// The send mark of module j + 1.
-pub fn mark_ok(j: usize, w: u32) -> bool
-    requires { j < 16 }
-    ensures { result ≡ mark_ok j w }
+// A module word without the send mark.
+pub fn unmarked(w: u32) -> u32
+    ensures { result ≡ unmarked_of w }
 {
-    mark_fits(j, bit_at(w, 22), field(w, 17, 5))
+    w / NUMBER * NUMBER + w % MARK
 }

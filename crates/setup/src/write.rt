@@ -1,6 +1,5 @@
 // Writing a setup as words.
 ghost use Rattle.std.specs.Prelude.{◌≡◌, ◌^◌, ◌<◌, ◌≤◌, length, slice_index};
-ghost use Rattle.words.specs.Bits.{bit};
 ghost use Rattle.words.specs.Runs.{put_run};
 ghost use Rattle.setup.specs.Layout.{setup_length};
 ghost use Rattle.setup.specs.Setup.{head_word, module_word, front_of, setup_bytes};
@@ -9,9 +8,9 @@ ghost use Rattle.setup.specs.Check.{room_verdict, write_verdict, written_setup};
 use crate::Setup;
 use crate::bounds::{fades, front_words, put_limits};
 use crate::fields::verdict;
-use crate::layout::{MARK, PARTITIONABLE, PLACE, RETURN, setup_length};
+use crate::layout::{PARTITIONABLE, PLACE, RETURN, setup_length};
 use words::Verdict;
-use words::bits::{bit_at, flag};
+use words::bits::flag;
 use words::check::{accept, refusal};
 use words::word::{KIND, NUMBER, put_word};
 
@@ -24,27 +23,26 @@ fn head_word(q: u32, partitionable: bool, n: usize) -> u32
 }
 
 // The word of module j + 1.
-pub fn module_word(j: usize, mark: bool, place: u32, criticality: u32) -> u32
+pub fn module_word(j: usize, place: u32, criticality: u32) -> u32
     requires { (j < 16) × (place < 2 ^ 5) × (criticality < 2 ^ 17) }
-    ensures { result ≡ module_word j mark place criticality }
+    ensures { result ≡ module_word j place criticality }
 {
-    4 * KIND + (j as u32 + 1) * NUMBER + flag(mark) * MARK + place * PLACE + criticality
+    4 * KIND + (j as u32 + 1) * NUMBER + place * PLACE + criticality
 }
 
 // Writes the module words.
 fn write_modules(setup: Setup, out: &mut [u8])
     requires { ((room_verdict setup).number ≡ 0) × (length out.old ≡ setup_length (front_of setup) setup.n) }
     ensures { out.new ≡ put_run out.old (front_of setup) setup.n
-        (λ j. module_word j (bit setup.marks j) (slice_index setup.places j) (slice_index setup.criticality j)) }
+        (λ j. module_word j (slice_index setup.places j) (slice_index setup.criticality j)) }
 {
     let n = setup.n;
     let limits = setup.limits;
     let front = front_words(fades(limits));
-    let marks = setup.marks;
     let places = setup.places;
     let criticality = setup.criticality;
     for j in 0..n {
-        let w = module_word(j, bit_at(marks, j), places[j], criticality[j]);
+        let w = module_word(j, places[j], criticality[j]);
         put_word(out, front + j, w);
     }
 }

@@ -1,4 +1,5 @@
 pub mod Text
 pub mod Lines
+pub mod JudgeLines
 pub mod Wrote
 pub mod Cases

@@ -2,8 +2,7 @@
 ghost use Rattle.std.specs.Prelude.{◌≡◌, ◌^◌, ◌≤◌, ◌<◌};
 ghost use Rattle.views.specs.ViewWord.{view_word, view_word_heard};
 
-use words::bits::power;
-use words::word::KIND;
+use words::word::{KIND, is_vector};
 
 // The view word of a view.
 pub fn view_word(v: u32) -> u32
@@ -18,5 +17,5 @@ pub(crate) fn view_heard(n: usize, w: u32) -> bool
     requires { n ≤ 16 }
     ensures { result ≡ view_word_heard n w }
 {
-    (w / KIND == 10) & (w % KIND < power(n))
+    is_vector(10, n, w)
 }

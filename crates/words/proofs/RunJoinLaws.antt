@@ -1,5 +1,5 @@
 -- Runs that follow other runs: how many words they have, where they stand, and that they are written in their turn.
-use Rattle.std.proofs.Common.{◌≡◌, ℕ, ◌+◌, List, [], ◌∷◌, ◌++◌, ap, ◌∙◌, subst, arith}
+use Rattle.std.proofs.Common.{◌≡◌, ℕ, ◌+◌, ◌<◌, ◌≤◌, List, [], ◌∷◌, ◌++◌, sym, refl, ap, ◌∙◌, subst, arith}
 use Rattle.words.specs.Runs.{Run, total, put_run, put_runs}
 use Rattle.words.proofs.RunLaws.{Follows}
 
@@ -32,3 +32,12 @@ put-join s at (r ∷ rs) qs =
     let e : at + r.count + total rs ≡ at + (r.count + total rs) = omega arith in
     put-join (put_run s at r.count r.word) (at + r.count) rs qs
     ∙ ap (λ (k : ℕ). put_runs (put_runs (put_run s at r.count r.word) (at + r.count) rs) k qs) e
+
+-- words that are the same where the runs stand
+pub follow-ext : (w w' : ℕ → ℕ) (at : ℕ) (rs : List Run) → ((i : ℕ) → at ≤ i → i < at + total rs → w i ≡ w' i) → Follows w at rs → Follows w' at rs
+unfolding Follows total
+follow-ext w w' at [] e f = tt
+follow-ext w w' at (r ∷ rs) e (a, b) = (
+  λ j h. sym (e (at + j) (omega arith) (omega arith)) ∙ a j h,
+  follow-ext w w' (at + r.count) rs (λ i l h. e i (omega arith) (omega arith)) b,
+)

@@ -53,9 +53,7 @@ pub ends-well : {r : Verdict} → r ≡ accepted → r ≡ first_refusal []
 unfolding then_tests
 ends-well a = a
 
--- two tests after others, each after the answer before it
-pub two-after : {v₀ v₁ v₂ : Verdict} (ts : List Test) (a b : Test) → v₀ ≡ first_refusal ts → v₁ ≡ and_then v₀ (outcome a) → v₂ ≡ and_then v₁ (outcome b)
-    → v₂ ≡ first_refusal (ts ++ (a ∷ b ∷ []))
+-- one test after others, after their answer
+pub one-after : {v₀ v₁ : Verdict} (ts : List Test) (a : Test) → v₀ ≡ first_refusal ts → v₁ ≡ and_then v₀ (outcome a) → v₁ ≡ first_refusal (ts ++ (a ∷ []))
 unfolding then_tests
-two-after ts a b e₀ e₁ e₂ =
-    e₂ ∙ ap (λ (v : Verdict). and_then v (outcome b)) (e₁ ∙ ap (λ (v : Verdict). and_then v (outcome a)) e₀) ∙ sym (then-join accepted ts (a ∷ b ∷ []))
+one-after ts a e₀ e₁ = e₁ ∙ ap (λ (v : Verdict). and_then v (outcome a)) e₀ ∙ sym (then-join accepted ts (a ∷ []))

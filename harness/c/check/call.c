@@ -26,19 +26,24 @@ struct functions {
     presence_word (*page_write)(uint8_t *, size_t, uint32_t, uint32_t);
     presence_word (*page_interrupt)(const uint8_t *, size_t);
     presence_cause (*read_cause)(uint32_t, uint32_t, uint32_t);
+    presence_judged (*judge)(const uint8_t *, size_t);
+    presence_answer (*link_list)(const uint8_t *, size_t, const uint8_t *,
+                                 size_t, uint8_t *, size_t);
 };
 
 static const struct functions of_library = {
     presence_check_setup, presence_open, presence_step, presence_save,
     presence_change, presence_outgoing, presence_outgoing_view,
     presence_page_open, presence_page_step, presence_page_read,
-    presence_page_write, presence_page_interrupt, presence_read_cause
+    presence_page_write, presence_page_interrupt, presence_read_cause,
+    presence_judge, presence_link_list
 };
 
 static const struct functions of_plain = {
     plain_check_setup, plain_open, plain_step, plain_save, plain_change,
     plain_outgoing, plain_outgoing_view, plain_page_open, plain_page_step,
-    plain_page_read, plain_page_write, plain_page_interrupt, plain_read_cause
+    plain_page_read, plain_page_write, plain_page_interrupt, plain_read_cause,
+    plain_judge, plain_link_list
 };
 
 static struct reply of_answer(presence_answer a)
@@ -54,6 +59,11 @@ static struct reply of_word(presence_word w)
 static struct reply of_cause(presence_cause c)
 {
     return (struct reply){c.number, c.index, c.cause, c.row};
+}
+
+static struct reply of_judged(presence_judged j)
+{
+    return (struct reply){j.number, j.index, j.round, 0};
 }
 
 /* Makes the call, on the output and the page lent. */
@@ -92,9 +102,14 @@ static struct reply make(const struct functions *f, const struct call *c,
     case INTERRUPT:
         return of_word(f->page_interrupt(page, c->page_len));
     case READ_CAUSE:
+        return of_cause(f->read_cause(c->n, c->argument, c->value));
+    case JUDGE:
+        return of_judged(f->judge(c->in, c->in_len));
+    case LIST:
         break;
     }
-    return of_cause(f->read_cause(c->n, c->argument, c->value));
+    return of_answer(f->link_list(c->in, c->in_len, c->read, c->read_len, out,
+                                  c->out_len));
 }
 
 struct reply make_on_library(const struct call *c, uint8_t *out, uint8_t *page)

@@ -12,14 +12,14 @@
 enum op {
     SETUP, OPEN, STEP, SAVE, CHANGE, OUTGOING, OUTGOING_VIEW,
     PAGE_OPEN, PAGE_STEP, PAGE_READ, PAGE_WRITE, INTERRUPT,
-    READ_CAUSE
+    READ_CAUSE, JUDGE, LIST
 };
 
 struct call {
     enum op op;
-    const uint8_t *in; /* setup or image */
+    const uint8_t *in; /* setup, image or log; for a list the link's image */
     size_t in_len;
-    const uint8_t *read; /* or the new setup of a change */
+    const uint8_t *read; /* or the new setup of a change, or a list's views */
     size_t read_len;
     uint32_t argument; /* own number, controller bits or bit, lead, or offset */
     size_t out_len;
@@ -31,8 +31,9 @@ struct call {
 
 /* The answer of any call. */
 struct reply {
-    uint32_t number, index;
-    uint32_t value; /* health, word or cause */
+    uint32_t number;
+    uint64_t index;
+    uint64_t value; /* health, word, cause or round */
     uint32_t row;   /* of a bus word that is heard, else 0 */
 };
 

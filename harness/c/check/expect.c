@@ -5,6 +5,7 @@
 
 #include "check/place.h"
 #include "check/report.h"
+#include "check/words.h"
 
 void both(const struct call *c, struct result *r)
 {
@@ -14,17 +15,22 @@ void both(const struct call *c, struct result *r)
     call_plain(c, &p);
     same("number, against plain.c", r->reply.number, p.reply.number);
     same("index, against plain.c", r->reply.index, p.reply.index);
-    same("health, word or cause, against plain.c", r->reply.value,
+    same("health, word, cause or round, against plain.c", r->reply.value,
          p.reply.value);
     same("row, against plain.c", r->reply.row, p.reply.row);
     if (r->reply.number == 0 && p.reply.number == 0 &&
         memcmp(r->out, p.out, c->out_len) != 0)
-        differ("image, against plain.c", 1, 0);
+        differ("image or list, against plain.c", 1, 0);
     if (memcmp(r->page, p.page, c->page_len) != 0)
         differ("page, against plain_page.c", 1, 0);
+    if (r->reply.number == 6)
+        differ("number that is retired", 6, 0);
+    if (r->reply.number == 0 && c->out_len > 0 && c->op != LIST &&
+        has_marks(r->out))
+        differ("send mark in what is written", 1, 0);
 }
 
-void expect(const struct call *c, uint32_t number, uint32_t index,
+void expect(const struct call *c, uint32_t number, uint64_t index,
             struct result *r)
 {
     both(c, r);
@@ -81,10 +87,15 @@ void save(const uint8_t *in, size_t in_len, size_t out_len, uint32_t number,
     struct call c = {.op = SAVE, .in = in, .in_len = in_len,
                      .out_len = out_len};
     struct result r;
+    uint8_t wanted[OUT_MAX];
 
     expect(&c, number, index, &r);
     same("health of a saving", r.reply.value, 0);
-    if (r.reply.number == 0 && memcmp(r.out, in, in_len) != 0)
+    if (r.reply.number != 0)
+        return;
+    memcpy(wanted, in, in_len);
+    mark_image(wanted, 0, 0);
+    if (memcmp(r.out, wanted, in_len) != 0)
         differ("saved image is not the image", 1, 0);
 }
 

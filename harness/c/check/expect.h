@@ -7,11 +7,12 @@
 
 #include "check/call.h"
 
-/* The library and plain.c must agree.  The result is the library's. */
+/* The library and plain.c must agree; no answer is 6, and no image that is
+   written has a send mark.  The result is the library's. */
 void both(const struct call *c, struct result *r);
 
 /* The same, and number and index must be those given; so in all below. */
-void expect(const struct call *c, uint32_t number, uint32_t index,
+void expect(const struct call *c, uint32_t number, uint64_t index,
             struct result *r);
 
 void check_setup(const uint8_t *in, size_t in_len, uint32_t number,
@@ -27,7 +28,7 @@ uint32_t step(const uint8_t *in, size_t in_len, const uint8_t *read,
               size_t read_len, uint32_t controller, size_t out_len,
               uint32_t number, uint32_t index, uint8_t *image);
 
-/* The image saved must be the image passed. */
+/* The image saved must be the image passed, without its send marks. */
 void save(const uint8_t *in, size_t in_len, size_t out_len, uint32_t number,
           uint32_t index);
 

@@ -8,7 +8,7 @@
 #include "check/words.h"
 #include "plain.h"
 
-/* All l = N, no marks. */
+/* All l = N, no send marks. */
 static void put_modules(enum form form, uint8_t *setup, uint32_t n,
                         uint32_t criticality)
 {
@@ -63,7 +63,7 @@ static uint32_t random_return_limit(void)
 /* Any Q and any modules. */
 static void random_rest(enum form form, uint8_t *setup, uint32_t n, uint32_t u)
 {
-    uint32_t j, l, mark, criticality, some = 0;
+    uint32_t j, l, criticality, some = 0;
 
     put(setup, 0, head_word(form, n, random_return_limit()));
     for (j = 1; j <= n; j++) {
@@ -72,9 +72,9 @@ static void random_rest(enum form form, uint8_t *setup, uint32_t n, uint32_t u)
             l = below(n);
         if (l < n)
             some = 1;
-        mark = j > 1 && l < j ? below(2) : 0;
         criticality = below(4) == 0 ? 1 + below(100000) : 1 + below(3);
-        put(setup, module_at(form, j), module_word(j, mark, l, criticality));
+        put(setup, module_at(form, j),
+            module_word(j, below(2), l, criticality));
     }
 }
 
@@ -144,7 +144,8 @@ void new_limits(uint8_t *to, const uint8_t *setup, uint32_t n)
     for (j = 1; j <= n; j++) {
         word = get(setup, module_at(COUNTS, j));
         put(to, module_at(COUNTS, j),
-            (word & ~0x1FFFFu) | beside(word & 0x1FFFF, 100000));
+            module_word(j, below(2), word >> 17 & 0x1F,
+                        beside(word & 0x1FFFF, 100000)));
     }
 }
 
@@ -280,6 +281,7 @@ void fresh_image(enum form form, uint8_t *image, const uint8_t *setup,
     uint32_t j;
 
     memcpy(image, setup, setup_bytes(form, n));
+    mark_setup(image, 0);
     put(image, own_at(form, n), own_word(own, ones(n)));
     for (j = 1; j <= n; j++) {
         put(image, previous_at(form, n, j), previous_word(j, 1, ones(n)));
@@ -313,6 +315,13 @@ void drop_pending(uint8_t *image, uint32_t n)
 {
     move_views(image, n, new_p_at(n));
     put(image, left_at(COUNTS, n), 0);
+}
+
+void put_marks(uint8_t *image)
+{
+    uint32_t marks = random32();
+
+    mark_image(image, marks, random32());
 }
 
 void lived_image(enum form form, uint8_t *image, const uint8_t *setup,

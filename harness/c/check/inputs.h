@@ -6,7 +6,7 @@
 
 #include "check/words.h"
 
-/* Setup with counts, all l = N, no marks, Q = 0. */
+/* Setup with counts, all l = N, no send marks, Q = 0. */
 void make_setup(enum form form, uint8_t *setup, uint32_t n, uint32_t p,
                 uint32_t r, uint32_t criticality);
 
@@ -19,7 +19,7 @@ void make_fading_setup(enum form form, uint8_t *setup, uint32_t n,
 void usual_setup(enum form form, uint8_t *setup, uint32_t n);
 
 /* Any accepted setup with these limits; with u = 0 all l are N.  Q is 0 in a
-   quarter of them, else mostly low. */
+   quarter of them, else mostly low.  Half of the modules have a send mark. */
 void random_setup(enum form form, uint8_t *setup, uint32_t n, uint32_t u,
                   uint32_t p, uint32_t r);
 void random_fading_setup(enum form form, uint8_t *setup, uint32_t n, uint32_t u,
@@ -32,7 +32,7 @@ void low_setup(enum form form, uint8_t *setup, uint32_t n, uint32_t u);
 void any_setup(enum form form, uint8_t *setup, uint32_t n, uint32_t u);
 
 /* Other limits and criticalities for an accepted setup with counts, at times
-   the same; all else as it is. */
+   the same; other send marks; all else as it is. */
 void new_limits(uint8_t *to, const uint8_t *setup, uint32_t n);
 
 /* A factor from 0.0 to 1.0, both often, and a limit up to 1,000,000.0. */
@@ -48,7 +48,7 @@ double random_limit(void);
 uint32_t random_read(enum form form, uint8_t *read, uint32_t n,
                      uint32_t faults);
 
-/* A fresh image, as documents 01 and 02 describe it. */
+/* A fresh image, as documents 01 and 02 describe it: without send marks. */
 void fresh_image(enum form form, uint8_t *image, const uint8_t *setup,
                  uint32_t n, uint32_t own);
 
@@ -57,6 +57,10 @@ void fresh_image(enum form form, uint8_t *image, const uint8_t *setup,
 void put_pending(uint8_t *image, const uint8_t *setup, uint32_t n,
                  uint32_t left);
 void drop_pending(uint8_t *image, uint32_t n);
+
+/* The image with any send marks, in its pending words too, as one may have that
+   was saved before E12. */
+void put_marks(uint8_t *image);
 
 /* An image after some rounds by plain.c, with many different words; where it
    has views, the module is out or not. */

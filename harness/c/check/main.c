@@ -6,13 +6,14 @@
  * Each call is made with every block in memory of exactly its length, at
  * changing addresses (all of 0..7 modulo 8).  After each call the inputs and
  * the bytes around output and page must be as before, and after a refused call
- * output and page too.  Results are compared with plain.c and plain_page.c, and
- * where a test knows the answer from document 01 or 02, with that.  The tests
- * are in groups/, what they share stands beside this file.
+ * output and page too.  Results are compared with plain.c, plain_page.c,
+ * plain_judge.c and plain_link.c, and where a test knows the answer from
+ * document 01 or 02, with that.  The tests are in groups/, what they share
+ * stands beside this file.
  *
  * Prints one line per group with the number of calls and of differences;
  * exit status 0 only if there are no differences.  Answer 11 cannot be
- * provoked and is not tested.
+ * provoked and is not tested; answer 6 is a difference wherever it is given.
  */
 #include "check/groups/groups.h"
 #include "check/report.h"
@@ -33,6 +34,7 @@ static void (*const groups[])(void) = {
     group_changes,
     group_changes_refused,
     group_pending_refused,
+    group_marks,
     group_views,
     group_views_refused,
     group_torn_cable,
@@ -44,7 +46,11 @@ static void (*const groups[])(void) = {
     group_page_lives,
     group_page_views,
     group_page_words,
-    group_causes
+    group_causes,
+    group_judge,
+    group_judge_refused,
+    group_lists,
+    group_lists_refused
 };
 
 int main(int argc, char **argv)

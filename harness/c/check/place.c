@@ -105,7 +105,7 @@ void place_call(const struct call *c, size_t in_off, size_t read_off,
     same_outside(out.bytes, c->out_len, pattern, a.number == 0);
     same_outside_page(page.bytes, c, pattern, a.number == 0);
     if (a.number != 0) {
-        same("health, word or cause of a refused call", a.value, 0);
+        same("health, word, cause or round of a refused call", a.value, 0);
         same("row of a refused call", a.row, 0);
     }
 

@@ -7,7 +7,7 @@
 
 static const char *group_name;
 static unsigned long calls, differences, all_calls, all_differences;
-static unsigned long answered[25]; /* calls of the library by answer number */
+static unsigned long answered[27]; /* calls of the library by answer number */
 
 void begin_group(const char *name)
 {

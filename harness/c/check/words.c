@@ -209,6 +209,49 @@ uint32_t view_of(enum form form, const uint8_t *image, uint32_t n)
                        : PRESENCE_VIEW(image, n);
 }
 
+/* The form of an accepted setup or image, but for the views. */
+static enum form form_of(const uint8_t *bytes)
+{
+    return PRESENCE_IS_FADING(bytes) ? FADING : COUNTS;
+}
+
+/* The word with the mark that bit j-1 of a vector says. */
+static void mark_word(uint8_t *bytes, uint32_t at, uint32_t marks, uint32_t j)
+{
+    uint32_t word = get(bytes, at) & ~SEND_MARK;
+
+    put(bytes, at, marks >> (j - 1) & 1 ? word | SEND_MARK : word);
+}
+
+void mark_setup(uint8_t *setup, uint32_t marks)
+{
+    uint32_t n = get(setup, 0) & 31, j;
+
+    for (j = 1; j <= n; j++)
+        mark_word(setup, module_at(form_of(setup), j), marks, j);
+}
+
+void mark_image(uint8_t *image, uint32_t marks, uint32_t pending_marks)
+{
+    uint32_t n = get(image, 0) & 31, j;
+
+    mark_setup(image, marks);
+    for (j = 1; presence_rounds_left(image, n) > 0 && j <= n; j++)
+        mark_word(image, new_module_at(n, j), pending_marks, j);
+}
+
+int has_marks(const uint8_t *image)
+{
+    uint32_t n = get(image, 0) & 31, j, any = 0;
+
+    for (j = 1; j <= n; j++) {
+        any |= get(image, module_at(form_of(image), j));
+        if (presence_rounds_left(image, n) > 0)
+            any |= get(image, new_module_at(n, j));
+    }
+    return (any & SEND_MARK) != 0;
+}
+
 uint32_t head_word(enum form form, uint32_t n, uint32_t q)
 {
     return 0x10000000 | q << 8 | (has_views(form) ? 0x20 : 0) | n;

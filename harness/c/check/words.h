@@ -72,6 +72,16 @@ size_t read_bytes(enum form form, uint32_t n);
 /* The local view. */
 uint32_t view_of(enum form form, const uint8_t *image, uint32_t n);
 
+/* The send mark of a module word, which is not looked at and never written (E12
+   of document 02). */
+#define SEND_MARK 0x00400000u
+
+/* Puts marks, by a vector of the modules that have one, in a setup; in an image
+   and its pending words, if it has any.  With 0 they are cleared. */
+void mark_setup(uint8_t *setup, uint32_t marks);
+void mark_image(uint8_t *image, uint32_t marks, uint32_t pending_marks);
+int has_marks(const uint8_t *image);
+
 /* Words by what they hold; l is the read place, q the return limit. */
 uint32_t head_word(enum form form, uint32_t n, uint32_t q);
 uint32_t module_word(uint32_t j, uint32_t mark, uint32_t l,

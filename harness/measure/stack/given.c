@@ -22,11 +22,46 @@ static void give_lock(void)
     rounds_put(given.lock.bytes, 3, 1u << 8 | SCANLOCK_MAX_DEPTH << 4);
 }
 
+/* Two rounds from the opening on, with right claims, so that both are judged. */
+static void give_log(uint32_t k)
+{
+    uint8_t image[2][IMAGE_BYTES], *round;
+    uint32_t i, controller;
+
+    memcpy(given.log.bytes, r.setup, r.setup_len);
+    rounds_put(given.log.bytes + r.setup_len, 0, 0xA0000000u | r.own << 16);
+    given.log.len = r.setup_len + 4;
+    OPEN(r.setup, r.setup_len, r.own, image[0], r.image_len);
+    for (i = 0; i < 2; i++) {
+        round = given.log.bytes + given.log.len;
+        controller = r.controller[(k + i) % PERIOD];
+        memcpy(round, r.read[(k + i) % PERIOD], r.read_len);
+        rounds_put(round + r.read_len, 0, controller);
+        rounds_put(round + r.read_len, 1,
+                   STEP(image[i % 2], r.image_len, round, r.read_len,
+                        controller, image[1 - i % 2], r.image_len).health);
+        rounds_put(round + r.read_len, 2,
+                   presence_shown_view(image[1 - i % 2], r.n));
+        given.log.len += r.read_len + 12;
+    }
+}
+
+/* The module is a link too, whose backplanes have 16 cards each. */
+static void give_views(void)
+{
+    uint32_t b;
+
+    given.views.len = given.list.len = PRESENCE_LIST_BYTES(r.n);
+    for (b = 1; b <= r.n; b++)
+        presence_put_view(given.views.bytes, b, 0xFFFF);
+}
+
 int give_opened(char **argument)
 {
     if (!rounds_from(&r, argument))
         return 0;
     give_lock();
+    give_views();
     given.setup.len = r.setup_len;
     memcpy(given.setup.bytes, r.setup, given.setup.len);
     given.own = r.own;
@@ -63,6 +98,7 @@ void give_round(uint32_t k)
 {
     memcpy(given.read.bytes, r.read[k % PERIOD], given.read.len);
     given.controller = r.controller[k % PERIOD];
+    give_log(k);
 }
 
 int give_step(void)

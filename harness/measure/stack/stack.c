@@ -70,11 +70,22 @@ static void try_lengths(struct block *b)
     b->len = right;
 }
 
+/* A log that ends inside its setup. */
+static void try_short_log(void)
+{
+    size_t right = given.log.len;
+
+    given.log.len = given.setup.len - 4;
+    try_calls();
+    given.log.len = right;
+}
+
 static void try_wrong_inputs(void)
 {
     struct block *const blocks[] = {&given.setup, &given.image, &given.read,
                                     &given.page, &given.lock,
-                                    &given.new_setup};
+                                    &given.new_setup, &given.log,
+                                    &given.views};
     uint32_t *const words[] = {&given.own, &given.controller, &given.offset,
                                &given.value, &given.bit, &given.word,
                                &given.n, &given.view, &given.module,
@@ -88,17 +99,21 @@ static void try_wrong_inputs(void)
     try_lengths(&given.out);
     try_lengths(&given.lock_out);
     try_lengths(&given.changed);
+    try_lengths(&given.list);
+    try_short_log();
     for (i = 0; i < COUNT(words); i++)
         try_flips(words[i], sizeof *words[i]);
 }
 
 /* The numbers that the header names for a call; with fading it has 22 in the
-   place of 4, and a change never comes further than 23. */
+   place of 4, but a log may have either, and a change never comes further than
+   23. */
 static uint32_t named(const struct call *c)
 {
     uint32_t numbers = c->numbers;
 
-    if (!given_fading() || (numbers & 1u << 4) == 0)
+    if (!given_fading() || (numbers & 1u << 4) == 0 ||
+        (numbers & 1u << 22) != 0)
         return numbers;
     if ((numbers & 1u << 23) != 0)
         numbers &= ~(1u << 0 | 1u << 9 | 1u << 24);

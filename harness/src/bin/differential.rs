@@ -3,21 +3,28 @@
 //!
 //! A round is one of: a setup with openings, a state with its calls, a damaged state, any bytes,
 //! a page with the host's calls, words with the causes why they are not heard, changes of the limits
-//! of a state, or a life of many steps in which each output image is the next input. Openings and
+//! of a state, logs to be judged, lists of links, or a life of many steps in which each output image is the next input. Openings and
 //! steps are made with a page too; in a life the page goes on as the image does, the host reads and
 //! writes it between steps, and changes are offered. In some states a change waits. Some setups are
-//! partitionable, with view words in reads and images. All calls follow from the seed. The first difference is shown with all arguments and ends the run.
+//! partitionable, with view words in reads and images. Setups, images, words of waiting changes and new words have send marks in most calls, on any modules:
+//! both sides must answer as if they were clear and write none. All calls follow from the seed. The first difference is shown with all arguments and ends the run.
 
 use harness::call::{Buffers, Call, Reply};
 use harness::ffi::Library;
 use harness::hex::to_hex;
+use harness::marks::has_marks;
 use harness::model::calls::Model;
 use harness::model::change::MOST_LEAD;
-use harness::model::setup::{Form, Setup, Shape};
+use harness::model::setup::{Form, Holds, Setup, Shape};
 use harness::model::state::{image_length, image_words, read_image, stepped_length, State};
 use harness::model::words::{bytes_of, words_of};
 use harness::random::changes::{lead, more_than_limits, new_limits, pending_state};
 use harness::random::damage::{any_bytes, damaged};
+use harness::random::links::{listing, Listing, WAYS as LINK_WAYS};
+use harness::random::links_reached::LinksReached;
+use harness::random::logs::{log_bytes, WAYS as LOG_WAYS};
+use harness::random::logs_reached::LogsReached;
+use harness::random::marks::{marked, marked_bytes, setup_bytes};
 use harness::random::pages::{offset, page, page_length, value};
 use harness::random::reads::{read, spoiled_controller, word};
 use harness::random::scripts::{script, script_bytes, WAYS};
@@ -34,6 +41,12 @@ struct Comparison {
     calls: u64,
     /// How often each number was answered.
     numbers: BTreeMap<u32, u64>,
+    /// Calls that were given a setup or an image with send marks, accepted and refused.
+    marked: [u64; 2],
+    /// What the logs had in them.
+    logs: LogsReached,
+    /// What the calls for a list had in them.
+    links: LinksReached,
 }
 
 fn main() -> ExitCode {
@@ -46,20 +59,39 @@ fn main() -> ExitCode {
             return ExitCode::from(2);
         }
     };
-    let mut comparison = Comparison { random: Random::new(seed), seed, calls: 0, numbers: BTreeMap::new() };
+    let mut comparison = Comparison {
+        random: Random::new(seed),
+        seed,
+        calls: 0,
+        numbers: BTreeMap::new(),
+        marked: [0; 2],
+        logs: LogsReached::default(),
+        links: LinksReached::default(),
+    };
     for _ in 0..rounds {
         comparison.round();
     }
     let counts: Vec<String> =
         comparison.numbers.iter().map(|(number, count)| format!("{number}:{count}")).collect();
     println!("answers by number {}", counts.join(" "));
+    println!("calls with send marks: {} accepted, {} refused", comparison.marked[0], comparison.marked[1]);
+    println!("logs by what they reach:\n{}", comparison.logs.report().trim_end());
+    print_never(comparison.logs.never());
+    println!("lists by what they reach:\n{}", comparison.links.report().trim_end());
+    print_never(comparison.links.never());
     println!("differential: {} calls, seed {seed}: all equal", comparison.calls);
     ExitCode::SUCCESS
 }
 
+fn print_never(never: Vec<String>) {
+    if !never.is_empty() {
+        println!("  never: {}", never.join("; "));
+    }
+}
+
 impl Comparison {
     fn round(&mut self) {
-        match self.random.below(13) {
+        match self.random.below(15) {
             0 => self.setups(),
             1 => self.damaged_setups(),
             2 => self.states(),
@@ -69,6 +101,8 @@ impl Comparison {
             7 => self.pages(),
             8 => self.causes(),
             9 => self.changes(),
+            10 => self.logs(),
+            11 => self.links(),
             _ => self.life(),
         }
     }
@@ -96,15 +130,16 @@ impl Comparison {
     /// An accepted setup: checked, and opened with numbers in and out of range.
     fn setups(&mut self) {
         let setup = self.setup();
-        let bytes = bytes_of(&setup.words());
-        self.compare(Call::CheckSetup { setup: bytes.clone() });
         for own in 1..=setup.n as u32 {
-            self.open(bytes.clone(), own, 4 * setup.image_length());
+            let bytes = setup_bytes(&mut self.random, &setup);
+            self.compare(Call::CheckSetup { setup: bytes.clone() });
+            self.open(bytes, own, 4 * setup.image_length());
         }
         for _ in 0..3 {
             let own = self.own_number(setup.n);
             let out_len = self.out_length(setup.image_length(), setup.n);
-            self.open(bytes.clone(), own, out_len);
+            let bytes = setup_bytes(&mut self.random, &setup);
+            self.open(bytes, own, out_len);
         }
     }
 
@@ -114,7 +149,8 @@ impl Comparison {
             let bytes = if self.random.chance(1, 12) {
                 bytes_of(&harness::script::check::words(&script(&mut self.random)))
             } else {
-                damaged(&mut self.random, &setup.words())
+                let words = marked(&mut self.random, &setup.words(), Holds::Setup);
+                damaged(&mut self.random, &words)
             };
             self.compare(Call::CheckSetup { setup: bytes.clone() });
             let own = self.own_number(setup.n);
@@ -126,12 +162,13 @@ impl Comparison {
     /// An accepted state: saved, its outgoing words, and several steps from it.
     fn states(&mut self) {
         let (setup, state) = self.state();
-        let bytes = bytes_of(&image_words(&setup, &state));
-        self.outgoing(bytes.clone());
-        self.compare(Call::Save { state: bytes.clone(), out_len: bytes.len() });
+        let image = self.image(&setup, &state);
+        self.outgoing(image.clone());
+        self.compare(Call::Save { out_len: image.len(), state: image });
         for _ in 0..6 {
             let (words, controller) = read(&mut self.random, &setup, &state);
-            self.step(bytes.clone(), bytes_of(&words), controller, 4 * stepped_length(&setup, &state));
+            let bytes = self.image(&setup, &state);
+            self.step(bytes, bytes_of(&words), controller, 4 * stepped_length(&setup, &state));
         }
     }
 
@@ -139,6 +176,7 @@ impl Comparison {
         let (setup, state) = self.state();
         let words = image_words(&setup, &state);
         for _ in 0..6 {
+            let words = marked(&mut self.random, &words, Holds::State);
             let bytes = damaged(&mut self.random, &words);
             self.outgoing(bytes.clone());
             let out_len = self.out_length(image_length(&setup, &state.pending), setup.n);
@@ -175,25 +213,70 @@ impl Comparison {
         }
     }
 
+    /// Logs of a card: sound, with wrong claims, and refused.
+    fn logs(&mut self) {
+        for _ in 0..6 {
+            let way = self.random.below(LOG_WAYS);
+            let log = log_bytes(&mut self.random, way);
+            self.logs.add(&log);
+            self.compare(Call::Judge { log });
+        }
+        // A setup, a state and a script are no logs, but some begin as one.
+        let bytes = match self.random.below(3) {
+            0 => {
+                let (setup, state) = self.state();
+                self.image(&setup, &state)
+            }
+            1 => script_bytes(&mut self.random, 0),
+            _ => any_bytes(&mut self.random),
+        };
+        self.compare(Call::Judge { log: bytes });
+    }
+
+    /// Lists of a link: of the views of backplanes, and refused. A link's state is that of a module.
+    fn links(&mut self) {
+        let (setup, state) = self.state();
+        for _ in 0..14 {
+            let way = self.random.below(LINK_WAYS);
+            let image = self.image(&setup, &state);
+            let given = listing(&mut self.random, image, setup.n, way);
+            self.links.add(&given);
+            let Listing { image, views, out_len } = given;
+            self.compare(Call::List { image, views, out_len });
+        }
+        // No image, but some begin as one.
+        let (image, views) = (any_bytes(&mut self.random), any_bytes(&mut self.random));
+        self.compare(Call::List { image, out_len: views.len(), views });
+    }
+
     /// Changes of an accepted state: new setups that it takes and such that it does not, each with any lead.
     fn changes(&mut self) {
         let (setup, state) = self.state();
-        let bytes = bytes_of(&image_words(&setup, &state));
         for _ in 0..12 {
-            self.change(&setup, bytes.clone());
+            let bytes = self.image(&setup, &state);
+            self.change(&setup, bytes);
         }
     }
 
     /// A change of a state, in which new setup, lead and output may each be wrong. The answer is what was lent if it is accepted.
     fn change(&mut self, setup: &Setup, state: Vec<u8>) -> Option<Buffers> {
-        let new = match self.random.below(8) {
-            0 | 1 => bytes_of(&more_than_limits(&mut self.random, setup).words()),
+        let new = match self.random.below(9) {
+            0 | 1 => {
+                let other = more_than_limits(&mut self.random, setup);
+                setup_bytes(&mut self.random, &other)
+            }
             2 => {
                 let words = new_limits(&mut self.random, setup).words();
+                let words = marked(&mut self.random, &words, Holds::Setup);
                 damaged(&mut self.random, &words)
             }
             3 if self.random.chance(1, 8) => state.clone(),
-            _ => bytes_of(&new_limits(&mut self.random, setup).words()),
+            // The same setup, which may differ in marks alone.
+            4 => setup_bytes(&mut self.random, setup),
+            _ => {
+                let other = new_limits(&mut self.random, setup);
+                setup_bytes(&mut self.random, &other)
+            }
         };
         let lead = lead(&mut self.random);
         let out_len = self.out_length(setup.shape().pending_image_length(), setup.n);
@@ -203,12 +286,17 @@ impl Comparison {
     /// Accepted states with reads and outputs of wrong length and controller bits at N or above.
     fn wrong_lengths(&mut self) {
         let (setup, state) = self.state();
-        let bytes = bytes_of(&image_words(&setup, &state));
         for _ in 0..6 {
+            let bytes = self.image(&setup, &state);
             let out_len = self.out_length(image_length(&setup, &state.pending), setup.n);
             self.compare(Call::Save { state: bytes.clone(), out_len });
-            self.any_step(&setup, &state, bytes.clone());
+            self.any_step(&setup, &state, bytes);
         }
+    }
+
+    /// The image of a state, at times with send marks.
+    fn image(&mut self, setup: &Setup, state: &State) -> Vec<u8> {
+        bytes_of(&marked(&mut self.random, &image_words(setup, state), Holds::State))
     }
 
     /// A step whose read, controller word and output may each be wrong.
@@ -299,7 +387,7 @@ impl Comparison {
         let setup = self.setup();
         let own = self.random.between(1, setup.n as u32);
         let out_len = 4 * setup.image_length();
-        let bytes = bytes_of(&setup.words());
+        let bytes = setup_bytes(&mut self.random, &setup);
         let paged = self.random.chance(1, 2);
         let call = if paged {
             Call::PageOpen { setup: bytes, own, out_len, page_len: 64 }
@@ -311,14 +399,20 @@ impl Comparison {
         for _ in 0..steps {
             held = self.life_step(held, paged);
         }
-        let image = held.out.written().to_vec();
+        let image = self.life_image(&held);
         self.compare(Call::Save { state: image.clone(), out_len: image.len() });
         self.outgoing(image);
     }
 
+    /// The image that the call before wrote, at times with send marks, as old images have them.
+    fn life_image(&mut self, held: &Buffers) -> Vec<u8> {
+        marked_bytes(&mut self.random, held.out.written().to_vec(), Holds::State)
+    }
+
     /// One round of a life, from image and page to image and page.
     fn life_step(&mut self, held: Buffers, paged: bool) -> Buffers {
-        let state_bytes = self.life_change(held.out.written().to_vec());
+        let image = self.life_image(&held);
+        let state_bytes = self.life_change(image);
         let (setup, state) = read_image(&state_bytes).expect("an image of a life is accepted");
         let setup = &setup;
         let out_len = 4 * stepped_length(setup, &state);
@@ -343,7 +437,8 @@ impl Comparison {
         };
         let stepped = self.compare(call).expect("a step of a life is accepted");
         if self.random.chance(1, 10) {
-            self.outgoing(stepped.out.written().to_vec());
+            let image = self.life_image(&stepped);
+            self.outgoing(image);
         }
         stepped
     }
@@ -357,7 +452,8 @@ impl Comparison {
         let lent = if self.random.chance(1, 3) {
             self.change(&setup, image.clone())
         } else {
-            let new = bytes_of(&new_limits(&mut self.random, &setup).words());
+            let new = new_limits(&mut self.random, &setup);
+            let new = setup_bytes(&mut self.random, &new);
             let lead = if self.random.chance(1, 10) { MOST_LEAD } else { self.random.between(1, 6) };
             let out_len = 4 * setup.shape().pending_image_length();
             self.compare(Call::Change { state: image.clone(), setup: new, lead, out_len })
@@ -445,6 +541,7 @@ impl Comparison {
             exit(1);
         }
         *self.numbers.entry(model.number).or_insert(0) += 1;
+        self.marked[usize::from(model.number != 0)] += u64::from(with_marks(&call));
         (model.number == 0).then_some(by_model)
     }
 
@@ -470,6 +567,23 @@ impl Comparison {
         if input_changed {
             println!("  the library changed its input");
         }
+    }
+}
+
+/// Whether a setup or an image that the call is given has send marks.
+fn with_marks(call: &Call) -> bool {
+    let marks = |bytes: &[u8], holds| words_of(bytes).is_some_and(|words| has_marks(&words, holds));
+    match call {
+        Call::CheckSetup { setup } | Call::Open { setup, .. } | Call::PageOpen { setup, .. } => marks(setup, Holds::Setup),
+        Call::Change { state, setup, .. } => marks(state, Holds::State) || marks(setup, Holds::Setup),
+        Call::Step { state, .. }
+        | Call::Save { state, .. }
+        | Call::Outgoing { state }
+        | Call::OutgoingView { state }
+        | Call::PageStep { state, .. } => marks(state, Holds::State),
+        Call::Judge { log } => marks(log, Holds::Run),
+        Call::List { image, .. } => marks(image, Holds::State),
+        _ => false,
     }
 }
 

@@ -4,16 +4,18 @@
 //! Random scripts and random permutations: what the bench prints for the renumbered script must be what it prints for the script, renumbered; and in
 //! every round the library's images and pages of the renumbered rack must be those of the rack, renumbered; there changes of the limits are offered
 //! to all modules between rounds (document 02, E10), which a script does not have. Then single steps from random
-//! images, those that no run reaches too. The first difference ends the run; it also fails if one of the names below was reached by no run.
+//! images, those that no run reaches too. Scripts and single images have send marks on any modules at times, renumbered or not: they decide nothing
+//! (document 02, E12). The first difference ends the run; it also fails if one of the names below was reached by no run.
 
 use harness::ffi::Library;
 use harness::model::calls::Functions;
-use harness::model::setup::{Form, Setup};
+use harness::model::setup::{Form, Holds, Setup};
 use harness::model::state::{image_words, stepped_length, State};
 use harness::model::step::{read_word, Reading};
 use harness::model::views::is_view_word;
 use harness::model::words::{bytes_of, full, words_of};
 use harness::random::changes::{new_limits, pending_state};
+use harness::random::marks::marked;
 use harness::random::pages::page;
 use harness::random::reads::read;
 use harness::random::scripts::script_with_u_0;
@@ -90,7 +92,7 @@ fn compare(runs: usize, seed: u64, bench: &str) -> Result<(), String> {
     for run in 0..runs {
         let script = script_with_u_0(&mut random);
         let renumbering = Renumbering::random(&mut random, script.setup.n);
-        let same = same_lines(bench, &script, &renumbering)
+        let same = same_lines(&mut random, bench, &script, &renumbering)
             .and_then(|output| same_images(&mut random, &script, &renumbering).map(|played| (output, played)));
         let (output, mut played) = same.map_err(|error| {
             format!("DIFFERENCE at run {run}, seed {seed}: {error}\n{}", kept(&script, &renumbering, seed, run))
@@ -130,9 +132,9 @@ fn kept(script: &Script, renumbering: &Renumbering, seed: u64, run: usize) -> St
 }
 
 /// What the bench prints for the script, if it prints the same, renumbered, for the renumbered one.
-fn same_lines(bench: &str, script: &Script, renumbering: &Renumbering) -> Result<String, String> {
-    let printed = |script: &Script| {
-        let output = output_of(bench, &bytes_of(&words(script)))?;
+fn same_lines(random: &mut Random, bench: &str, script: &Script, renumbering: &Renumbering) -> Result<String, String> {
+    let mut printed = |script: &Script| {
+        let output = output_of(bench, &bytes_of(&marked(random, &words(script), Holds::Run)))?;
         String::from_utf8(output).map_err(|error| error.to_string())
     };
     let output = printed(script)?;
@@ -224,9 +226,10 @@ fn same_step(random: &mut Random) -> Result<(), String> {
     let renumbering = Renumbering::random(random, setup.n);
 
     let moved_read = renumbering.read(&read);
-    let (health, image, after_page) = stepped(&setup, &before, &read, controller, &page)?;
+    let (health, image, after_page) = stepped(random, &setup, &before, &read, controller, &page)?;
     let (moved_setup, moved_before) = (renumbering.setup(&setup), renumbering.state(&before));
     let found = stepped(
+        random,
         &moved_setup,
         &moved_before,
         &moved_read,
@@ -243,8 +246,15 @@ fn same_step(random: &mut Random) -> Result<(), String> {
 }
 
 /// Health, image and page after a step by the library.
-fn stepped(setup: &Setup, state: &State, read: &[u32], controller: u32, page: &[u8]) -> Result<(u32, Vec<u8>, Vec<u8>), String> {
-    let image = bytes_of(&image_words(setup, state));
+fn stepped(
+    random: &mut Random,
+    setup: &Setup,
+    state: &State,
+    read: &[u32],
+    controller: u32,
+    page: &[u8],
+) -> Result<(u32, Vec<u8>, Vec<u8>), String> {
+    let image = bytes_of(&marked(random, &image_words(setup, state), Holds::State));
     let (mut out, mut page) = (vec![0; 4 * stepped_length(setup, state)], page.to_vec());
     let answer = Library.page_step(&image, &bytes_of(read), controller, &mut out, &mut page);
     if answer.number != 0 {

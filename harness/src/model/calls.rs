@@ -1,6 +1,8 @@
 //! The calls as C makes them: numbers and byte slices. A refused call writes nothing.
 
 use super::change::{accept, setup_after};
+use super::judge::{judge, Judgement};
+use super::link::list_call;
 use super::page::Page;
 use super::setup::{read_setup, Holds, Setup};
 use super::state::{fresh, handed_out, handed_out_view, image_length, image_words, read_image, stepped_length, State};
@@ -34,6 +36,14 @@ pub struct CauseAnswer {
     pub row: u32,
 }
 
+/// Number, index, and the first wrong round of a log, from 1; 0 if it is accepted or refused.
+#[derive(Clone, Copy, PartialEq, Eq, Debug)]
+pub struct JudgeAnswer {
+    pub number: u32,
+    pub index: u64,
+    pub round: u64,
+}
+
 /// The functions of the library; the model and the linked library both provide them.
 pub trait Functions {
     fn check_setup(&self, setup: &[u8]) -> Answer;
@@ -49,6 +59,8 @@ pub trait Functions {
     fn page_write(&self, page: &mut [u8], offset: u32, value: u32) -> WordAnswer;
     fn page_interrupt(&self, page: &[u8]) -> WordAnswer;
     fn read_cause(&self, n: u32, controller: u32, word: u32) -> CauseAnswer;
+    fn judge(&self, log: &[u8]) -> JudgeAnswer;
+    fn link_list(&self, image: &[u8], views: &[u8], out: &mut [u8]) -> Answer;
 }
 
 pub struct Model;
@@ -70,10 +82,10 @@ impl Functions for Model {
         answer(try_change(state, setup, lead, out))
     }
     fn outgoing(&self, state: &[u8]) -> WordAnswer {
-        word(read_image(state).map(|(setup, state)| handed_out(&setup, &state)))
+        word(read_image(state).map(|(_, state)| handed_out(&state)))
     }
     fn outgoing_view(&self, state: &[u8]) -> WordAnswer {
-        word(read_image(state).map(|(setup, state)| handed_out_view(&setup, &state)))
+        word(read_image(state).map(|(_, state)| handed_out_view(&state)))
     }
     fn page_open(&self, setup: &[u8], own: u32, out: &mut [u8], page: &mut [u8]) -> Answer {
         answer(try_page_open(setup, own, out, page))
@@ -96,6 +108,16 @@ impl Functions for Model {
             Err(refused) => CauseAnswer { number: refused.number, index: refused.index as u32, cause: 0, row: 0 },
         }
     }
+    fn judge(&self, log: &[u8]) -> JudgeAnswer {
+        match judge(log) {
+            Ok(Judgement::Accepted { .. }) => JudgeAnswer { number: 0, index: 0, round: 0 },
+            Ok(Judgement::Wrong { round, .. }) => JudgeAnswer { number: 0, index: 0, round: round as u64 },
+            Err(refused) => JudgeAnswer { number: refused.number, index: refused.index as u64, round: 0 },
+        }
+    }
+    fn link_list(&self, image: &[u8], views: &[u8], out: &mut [u8]) -> Answer {
+        answer(try_link_list(image, views, out))
+    }
 }
 
 fn answer(result: Result<u32, Refusal>) -> Answer {
@@ -112,13 +134,13 @@ fn word(result: Result<u32, Refusal>) -> WordAnswer {
     }
 }
 
-/// Numbers 1 to 6, and 22 in the place of 4.
+/// Numbers 1 to 5, and 22 in the place of 4.
 fn try_check_setup(setup: &[u8]) -> Result<u32, Refusal> {
     read_setup(setup, Holds::Setup)?;
     Ok(0)
 }
 
-/// Numbers 1 to 6, 7, 9.
+/// Numbers 1 to 5, 7, 9.
 fn try_open(setup: &[u8], own: u32, out: &mut [u8]) -> Result<u32, Refusal> {
     let (setup, _) = read_setup(setup, Holds::Setup)?;
     if own < 1 || own > setup.n as u32 {
@@ -127,7 +149,7 @@ fn try_open(setup: &[u8], own: u32, out: &mut [u8]) -> Result<u32, Refusal> {
     write_image(&setup, &fresh(&setup, own as usize), out)
 }
 
-/// Numbers 1 to 8, 9, 10. The output has the length of the image after the step.
+/// Numbers 1 to 5, 7, 8, 9, 10. The output has the length of the image after the step.
 fn try_step(state: &[u8], read: &[u8], controller: u32, out: &mut [u8]) -> Result<Outcome, Refusal> {
     let (setup, mut state) = read_image(state)?;
     let read = words_of(read).filter(|words| words.len() == setup.read_length()).ok_or(refusal(9, 0))?;
@@ -140,13 +162,13 @@ fn try_step(state: &[u8], read: &[u8], controller: u32, out: &mut [u8]) -> Resul
     Ok(outcome)
 }
 
-/// Numbers 1 to 8, 9.
+/// Numbers 1 to 5, 7, 8, 9. Send marks are lost, and nothing else.
 fn try_save(state: &[u8], out: &mut [u8]) -> Result<u32, Refusal> {
     let (setup, state) = read_image(state)?;
     write_image(&setup, &state, out)
 }
 
-/// Numbers 1 to 8 of the state, 1 to 6 of the new setup with 22 in the place of 4, 23, 24, 9.
+/// Numbers 1 to 5, 7 and 8 of the state, 1 to 5 of the new setup with 22 in the place of 4, 23, 24, 9.
 fn try_change(state: &[u8], new: &[u8], lead: u32, out: &mut [u8]) -> Result<u32, Refusal> {
     let (setup, state) = read_image(state)?;
     let state = accept(&setup, &state, new, lead)?;
@@ -162,7 +184,7 @@ fn write_image(setup: &Setup, state: &State, out: &mut [u8]) -> Result<u32, Refu
     Ok(0)
 }
 
-/// Numbers 1 to 6, 7, 9 for the output or the page.
+/// Numbers 1 to 5, 7, 9 for the output or the page.
 fn try_page_open(setup: &[u8], own: u32, out: &mut [u8], page: &mut [u8]) -> Result<u32, Refusal> {
     let mut image = out.to_vec();
     let health = try_open(setup, own, &mut image)?;
@@ -173,7 +195,7 @@ fn try_page_open(setup: &[u8], own: u32, out: &mut [u8], page: &mut [u8]) -> Res
     Ok(health)
 }
 
-/// Numbers 1 to 8, 9 for the read, the output or the page, 10.
+/// Numbers 1 to 5, 7, 8, 9 for the read, the output or the page, 10.
 fn try_page_step(
     state: &[u8],
     read: &[u8],
@@ -207,4 +229,11 @@ fn try_read_cause(n: u32, controller: u32, word: u32) -> Result<Reading, Refusal
         return Err(refusal(10, 0));
     }
     Ok(read_word(n as usize, controller == 1, word))
+}
+
+/// Numbers 1 to 5, 7 and 8 of the link's image, 9 for the views or the list, 26.
+fn try_link_list(image: &[u8], views: &[u8], out: &mut [u8]) -> Result<u32, Refusal> {
+    let list = list_call(image, views, out.len())?;
+    out.copy_from_slice(&bytes_of(&list));
+    Ok(0)
 }

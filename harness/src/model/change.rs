@@ -41,15 +41,11 @@ pub fn accept(setup: &Setup, state: &State, new: &[u8], lead: u32) -> Result<Sta
     Ok(State { pending: Some(Pending { left: lead, setup: new }), ..*state })
 }
 
-/// Whether N, Q, head bit 5, the read places and the marks are the same.
+/// Whether N, Q, head bit 5 and the read places are the same.
 fn same_but_limits(setup: &Setup, new: &Setup) -> bool {
-    let same_module = |j| same_but_criticality(setup.module(j), new.module(j));
+    let same_place = |j| setup.module(j).place == new.module(j).place;
     let same_head = (setup.n, setup.return_limit, setup.partitionable) == (new.n, new.return_limit, new.partitionable);
-    same_head && (1..=setup.n).all(same_module)
-}
-
-fn same_but_criticality(module: &Module, new: &Module) -> bool {
-    (module.place, module.send_mark) == (new.place, new.send_mark)
+    same_head && (1..=setup.n).all(same_place)
 }
 
 /// The rounds-left word, and while a change waits its words of kinds 2, 3 and 4.
@@ -74,7 +70,7 @@ pub fn read_pending(words: &[u32], at: usize, setup: &Setup) -> Result<Option<Pe
     for j in 1..=setup.n {
         let place = at + 2 + j;
         let module = read_module(words[place], j, setup.n);
-        modules[j - 1] = module.filter(|new| same_but_criticality(setup.module(j), new)).ok_or(refusal(8, place))?;
+        modules[j - 1] = module.filter(|new| new.place == setup.module(j).place).ok_or(refusal(8, place))?;
     }
     Ok(Some(Pending { left, setup: Setup { limits, modules, ..*setup } }))
 }

@@ -1,4 +1,4 @@
-//! The setup: kind 1, the words of its limits, then kind 4 for modules 1..N. Numbers 1 to 6, and 22 in the place of 4.
+//! The setup: kind 1, the words of its limits, then kind 4 for modules 1..N. Numbers 1 to 5, and 22 in the place of 4.
 //!
 //! The limits are either counts, kinds 2 and 3, or fading, a kind 0 word and two doubles (document 02, E9).
 
@@ -7,7 +7,6 @@ use super::{refusal, Refusal};
 
 #[derive(Clone, Copy, PartialEq, Eq, Debug, Default)]
 pub struct Module {
-    pub send_mark: bool,
     /// The read place l.
     pub place: u32,
     pub criticality: u32,
@@ -187,7 +186,6 @@ impl Setup {
             let module = self.module(j);
             let word = ModuleWord {
                 number: j as u32,
-                send_mark: module.send_mark,
                 place: module.place,
                 criticality: module.criticality,
             };
@@ -205,7 +203,7 @@ pub enum Holds {
     Run,
 }
 
-/// Numbers 1 to 6, and 22 in the place of 4. The answer is the setup and all words of the bytes.
+/// Numbers 1 to 5, and 22 in the place of 4. The answer is the setup and all words of the bytes, send marks too.
 pub fn read_setup(bytes: &[u8], holds: Holds) -> Result<(Setup, Vec<u32>), Refusal> {
     let words = words_of(bytes).filter(|words| !words.is_empty()).ok_or(refusal(1, 0))?;
     let Head { return_limit, partitionable, n } = read_head(words[0]).ok_or(refusal(2, 0))?;
@@ -228,12 +226,6 @@ pub fn read_setup(bytes: &[u8], holds: Holds) -> Result<(Setup, Vec<u32>), Refus
     for j in 1..=n {
         let at = first + j - 1;
         modules[j - 1] = read_module(words[at], j, n).ok_or(refusal(5, at))?;
-    }
-    for j in 1..=n {
-        let module = &modules[j - 1];
-        if module.send_mark && (j == 1 || module.place as usize >= j) {
-            return Err(refusal(6, first + j - 1));
-        }
     }
     Ok((Setup { n, limits, return_limit, partitionable, modules }, words))
 }
@@ -277,9 +269,5 @@ pub(super) fn read_module(word: u32, j: usize, n: usize) -> Option<Module> {
     let right = module.number as usize == j
         && module.place as usize <= n
         && (1..=100_000).contains(&module.criticality);
-    right.then_some(Module {
-        send_mark: module.send_mark,
-        place: module.place,
-        criticality: module.criticality,
-    })
+    right.then_some(Module { place: module.place, criticality: module.criticality })
 }

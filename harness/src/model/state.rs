@@ -70,17 +70,15 @@ pub fn fresh(setup: &Setup, own: usize) -> State {
     }
 }
 
-/// Rule 7 read from the image: the syndrome that the step which made this state handed out.
-/// A fresh unmarked module hands out the all-ones word, and so does a fresh marked one.
-pub fn handed_out(setup: &Setup, state: &State) -> u32 {
-    let syndrome = if setup.module(state.own).send_mark { state.before } else { state.latest };
-    Vector { kind: 5, bits: syndrome }.word()
+/// Rule 7: the word that the step or the opening which made this state handed out, to be sent in the round after it. It has the latest syndrome, since
+/// no module has the send mark any more (document 02, E12).
+pub fn handed_out(state: &State) -> u32 {
+    Vector { kind: 5, bits: state.latest }.word()
 }
 
-/// The view word beside it, delayed as the syndrome is; 0 where the setup is not partitionable.
-pub fn handed_out_view(setup: &Setup, state: &State) -> u32 {
-    let delayed = setup.module(state.own).send_mark;
-    state.views.map_or(0, |views| view_word(if delayed { views.earlier } else { state.view }))
+/// The view word beside it, with the local view; 0 where the setup is not partitionable.
+pub fn handed_out_view(state: &State) -> u32 {
+    state.views.map_or(0, |_| view_word(state.view))
 }
 
 /// The setup, one 10, N of 11, the latest and the one before as two 12, N of 13 and N of 14 or a pair of plain words for each score, N of 15, the
@@ -132,7 +130,7 @@ pub fn stepped_length(setup: &Setup, state: &State) -> usize {
     image_length(setup, &waits)
 }
 
-/// Numbers 1 to 8. Words are tested in their order, so the first wrong one is named.
+/// Numbers 1 to 5, 7 and 8. Words are tested in their order, so the first wrong one is named.
 pub fn read_image(bytes: &[u8]) -> Result<(Setup, State), Refusal> {
     let (setup, words) = read_setup(bytes, Holds::State)?;
     let n = setup.n;

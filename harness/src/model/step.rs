@@ -1,11 +1,11 @@
 //! One step of one module: rules 1 to 8, struck-off modules, why a word was not heard, modules that come back, fading scores, changes of the
-//! limits, and the adopted view (document 02, E4, E5, E6, E9, E10, E11). Number 10.
+//! limits, and the adopted view (document 02, E4, E5, E6, E9, E10, E11); no send mark (E12). Number 10.
 
 use super::change::due;
 use super::setup::{Limits, Setup};
-use super::state::{handed_out_view, Entry, State};
+use super::state::{handed_out, handed_out_view, Entry, State};
 use super::views::read_views;
-use super::words::{bits, full, has, kind, only, Double, Vector, MAX};
+use super::words::{bits, full, has, kind, only, Double, MAX};
 use super::{refusal, Refusal};
 
 /// Document 02, E5: what reading a bus word answers.
@@ -162,12 +162,6 @@ fn new_syndrome(n: usize, aligned: &[Entry; MAX], accused: &[u32; MAX]) -> u32 {
     (1..=n).filter(right).fold(0, |syndrome, j| syndrome | only(j))
 }
 
-/// Rule 7: the outgoing word.
-fn outgoing_word(send_mark: bool, latest: u32, syndrome: u32) -> u32 {
-    let handed = if send_mark { latest } else { syndrome };
-    Vector { kind: 5, bits: handed }.word()
-}
-
 /// Rule 8 for one module that it finds in the view.
 fn count_present(setup: &Setup, state: &mut State, j: usize, healthy: bool) {
     match setup.limits {
@@ -233,7 +227,7 @@ fn count_absent(setup: &Setup, state: &mut State, j: usize, healthy: bool) {
 pub fn step(setup: &Setup, state: &mut State, read: &[u32], controller: u32) -> Result<Outcome, Refusal> {
     let n = setup.n;
     let u = setup.u();
-    let own = *setup.module(state.own);
+    let place = setup.module(state.own).place as usize;
 
     if controller > full(n) {
         return Err(refusal(10, 0));
@@ -241,7 +235,7 @@ pub fn step(setup: &Setup, state: &mut State, read: &[u32], controller: u32) -> 
 
     // Rules 2 and 3.
     let (this, causes) = read_all(n, controller, read);
-    let aligned = align(n, u, own.place as usize, &state.previous, &this);
+    let aligned = align(n, u, place, &state.previous, &this);
 
     // Rule 4. The state holds the syndromes of rounds k-1 (latest) and k-2 (before).
     let own_syndrome = if u == 0 { state.latest } else { state.before };
@@ -252,12 +246,9 @@ pub fn step(setup: &Setup, state: &mut State, read: &[u32], controller: u32) -> 
     let accused = accusations(n, &rows, health);
     let syndrome = new_syndrome(n, &aligned, &accused);
 
-    // Rule 7.
-    let word = outgoing_word(own.send_mark, state.latest, syndrome);
-
     // The adopted view, from the local views that all sent. The one before this step becomes the earlier one.
     if let Some(views) = &mut state.views {
-        views.step(setup, own.place as usize, &read_views(n, controller, read), state.view);
+        views.step(setup, place, &read_views(n, controller, read), state.view);
     }
 
     // A change that is due takes effect after the vote and before the counting.
@@ -273,6 +264,8 @@ pub fn step(setup: &Setup, state: &mut State, read: &[u32], controller: u32) -> 
     state.previous = this;
     state.before = state.latest;
     state.latest = syndrome;
-    let view_word = handed_out_view(setup, state);
+
+    // Rule 7, with the syndrome of this round.
+    let (word, view_word) = (handed_out(state), handed_out_view(state));
     Ok(Outcome { causes, health, accused, syndrome, found, word, view_word })
 }

@@ -11,7 +11,7 @@ use super::{refusal, Refusal};
 pub struct Views {
     /// The view words of the last read, kind and all; 0 where none was heard. Module j stands at j-1.
     pub words: [u32; MAX],
-    /// The local view before the latest one.
+    /// The local view before the latest one. No rule goes by it any more (document 02, E12).
     pub earlier: u32,
     pub adopted: u32,
     /// Some module had no majority, so nothing is adopted any more.

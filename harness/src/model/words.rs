@@ -1,4 +1,4 @@
-//! The words of document 01 and of document 02, E6, E9 and E11, one struct for each kind; and a double, which is two plain words.
+//! The words of document 01 and of document 02, E6, E9, E11 and E12, one struct for each kind; and a double, which is two plain words.
 //!
 //! `split` answers the fields of a word, or `None` if its kind is another one or a bit that
 //! belongs to no field is set. It does so by writing the fields back and comparing. Ranges of
@@ -119,10 +119,12 @@ impl Amount {
     }
 }
 
-/// Kind 4.
+/// The send mark of a module word in setups from before E12.
+pub const SEND_MARK: u32 = 1 << 22;
+
+/// Kind 4. The send mark is read as if it were clear, and never written (document 02, E12).
 pub struct ModuleWord {
     pub number: u32,
-    pub send_mark: bool,
     pub place: u32,
     pub criticality: u32,
 }
@@ -131,14 +133,13 @@ impl ModuleWord {
     pub fn split(word: u32) -> Option<ModuleWord> {
         let module = ModuleWord {
             number: bits(word, 27, 23),
-            send_mark: bits(word, 22, 22) == 1,
             place: bits(word, 21, 17),
             criticality: bits(word, 16, 0),
         };
-        (module.word() == word).then_some(module)
+        (module.word() == word & !SEND_MARK).then_some(module)
     }
     pub fn word(&self) -> u32 {
-        4 << 28 | self.number << 23 | (self.send_mark as u32) << 22 | self.place << 17 | self.criticality
+        4 << 28 | self.number << 23 | self.place << 17 | self.criticality
     }
 }
 

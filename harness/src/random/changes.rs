@@ -32,32 +32,29 @@ fn beside(random: &mut Random, limit: u32, most: u32) -> u32 {
     }
 }
 
-/// An accepted setup that differs in something else too: in N, in Q, in head bit 5, in a read place, in a mark, or in its form. At times it does not.
+/// An accepted setup that differs in something else too: in N, in Q, in head bit 5, in a read place, or in its form. At times it does not.
 pub fn more_than_limits(random: &mut Random, setup: &Setup) -> Setup {
     let mut new = new_limits(random, setup);
     let at = random.below(setup.n);
     let module = &mut new.modules[at];
-    match random.below(8) {
+    match random.below(7) {
         0 => {
             let (n, u) = (if setup.n == 16 { 15 } else { setup.n + 1 }, random.below(2));
             return setup_of(random, n, u);
         }
-        // One module more, those before as they are; else nothing differs.
-        6 if setup.n < 16 => {
-            new.n += 1;
-            new.modules[setup.n] = Module { send_mark: false, place: random.below(new.n + 1) as u32, criticality: 1 };
-        }
-        6 => {}
-        7 => new.partitionable = !setup.partitionable,
         1 => new.return_limit = if setup.return_limit == 0 { 1 } else { setup.return_limit - 1 },
         2 => new.return_limit = if setup.return_limit == 1_000_000 { 0 } else { setup.return_limit + 1 },
         3 => {
             let place = random.below(setup.n) as u32;
             module.place = if place < module.place { place } else { place + 1 };
-            module.send_mark &= (module.place as usize) < at + 1;
         }
-        // A mark that may stand there; else nothing differs.
-        4 => module.send_mark ^= at > 0 && (module.place as usize) < at + 1,
+        // One module more, those before as they are; else nothing differs.
+        4 if setup.n < 16 => {
+            new.n += 1;
+            new.modules[setup.n] = Module { place: random.below(new.n + 1) as u32, criticality: 1 };
+        }
+        4 => {}
+        5 => new.partitionable = !setup.partitionable,
         _ => {
             new.limits = match setup.limits {
                 Limits::Counts { .. } => Limits::fading(factor(random), limit(random)),

@@ -3,7 +3,7 @@
 use super::doubles::{factor, limit, out_of_range, put, score_below, score_from, wrong_factor, wrong_limit};
 use super::Random;
 use crate::model::setup::{Form, Shape};
-use crate::model::words::{bytes_of, full, kind, Double};
+use crate::model::words::{bytes_of, full, kind, Double, SEND_MARK};
 
 /// Damages words in one or several ways and answers them as bytes.
 /// The result may still be accepted, since some damages change nothing that is tested.
@@ -113,7 +113,8 @@ fn other_tail(random: &mut Random, words: &mut Vec<u32>) {
         words.extend([2 << 28 | random.limit(1_000_000), 3 << 28 | random.limit(8_000_000)]);
         for j in 0..n {
             let module = words[form.first_module() + j];
-            words.push(field(module, 16, 0, random.limit(100_000)));
+            let other_mark = if random.chance(1, 4) { SEND_MARK } else { 0 };
+            words.push(field(module, 16, 0, random.limit(100_000)) ^ other_mark);
         }
     }
     words.extend(views);
@@ -273,13 +274,13 @@ fn spoil_head(random: &mut Random, word: u32, n: u32) -> u32 {
     }
 }
 
-/// Kind 4.
+/// Kind 4. A mark is no damage; with it any field may be wrong or right as without it.
 fn spoil_module(random: &mut Random, word: u32, n: u32) -> u32 {
     match random.below(5) {
         0 => with_other_number(random, word, n),
-        1 => word ^ 1 << 22,
+        1 => word ^ SEND_MARK,
         2 => field(word, 21, 17, random.pick(&[0, n, n + 1, 31])),
-        3 => field(word, 21, 17, number(word)) | 1 << 22,
+        3 => field(word, 21, 17, number(word)) | SEND_MARK,
         _ => field(word, 16, 0, random.pick(&[0, 1, 99_999, 100_000, 100_001, 131_071])),
     }
 }

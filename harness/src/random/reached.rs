@@ -1,21 +1,24 @@
 //! What scripts have in them and what comes of them, by name: to see what random scripts reach.
 
-use crate::model::setup::{Form, Limits, Setup};
+use crate::marks::{has_marks, module_places};
+use crate::model::setup::{Form, Holds, Limits, Setup};
 use crate::model::state::State;
 use crate::model::step::heard_word;
 use crate::model::views::is_view_word;
-use crate::model::words::{full, kind, words_of, MAX};
+use crate::model::words::{full, kind, words_of, MAX, SEND_MARK};
 use crate::script::check::{check, Item, Script, MOST_BYTES, MOST_ROUNDS};
 use crate::script::print::play_rounds;
 use std::collections::{BTreeMap, BTreeSet};
 
 /// Every name, in the order of a report.
-const NAMES: [(&str, &[&str]); 15] = [
-    ("refused", &["1", "2", "3", "4", "22", "5", "6", "12", "13", "14", "15", "16"]),
+const NAMES: [(&str, &[&str]); 17] = [
+    ("refused", &["1", "2", "3", "4", "22", "5", "12", "13", "14", "15", "16"]),
+    ("refused, marks", &["2", "3", "4", "22", "5", "12", "13", "14", "15", "16"]),
     ("22 for", &["a spare bit", "the factor", "the limit"]),
     ("14 for want of", &["cast", "told word", "told view", "play of events", "any play"]),
     ("played", &["N 2", "N 3", "N 4", "N 5", "N 6", "N 7", "N 8", "N 9", "N 10", "N 11", "N 12", "N 13"]),
-    ("played", &["N 14", "N 15", "N 16", "u 0", "u 1", "marks", "several plays"]),
+    ("played", &["N 14", "N 15", "N 16", "u 0", "u 1", "several plays"]),
+    ("played, marks", &["none", "on 1", "l below the number", "l from the number on", "on all", "u 0", "u 1"]),
     ("played", &["100,000 rounds", "65,536 bytes"]),
     ("cast of", &["nobody", "some", "all"]),
     ("events", &["none", "losses", "lies heard", "lies not heard"]),
@@ -64,6 +67,8 @@ impl Reached {
             Ok(script) => self.add_played(&script, bytes, &String::from_utf8_lossy(output)),
             Err(refused) => {
                 self.count("refused", &refused.number.to_string());
+                let words = words_of(bytes).unwrap_or_default();
+                self.count_if(has_marks(&words, Holds::Run), "refused, marks", &refused.number.to_string());
                 if refused.number == 14 {
                     self.count("14 for want of", wanting(bytes));
                 }
@@ -105,6 +110,7 @@ impl Reached {
     fn add_played(&mut self, script: &Script, bytes: &[u8], output: &str) {
         self.count_if(bytes.len() == MOST_BYTES, "played", "65,536 bytes");
         self.count_setup(script);
+        self.count_marks(script, &words_of(bytes).expect("an accepted script has whole words"));
         self.count_rounds(script);
         self.count_events(script);
         self.count("limit", limit_name(script, output));
@@ -124,16 +130,29 @@ impl Reached {
     /// The setup and the cast.
     fn count_setup(&mut self, script: &Script) {
         let n = script.setup.n;
-        let modules = &script.setup.modules[..n];
         self.count("played", &format!("N {n}"));
         self.count("played", if script.setup.u() == 0 { "u 0" } else { "u 1" });
-        self.count_if(modules.iter().any(|module| module.send_mark), "played", "marks");
         let cast = match script.cast {
             0 => "nobody",
             cast if cast == full(n) => "all",
             _ => "some",
         };
         self.count("cast of", cast);
+    }
+
+    /// Send marks, which the script that was read has no more.
+    fn count_marks(&mut self, script: &Script, words: &[u32]) {
+        let (n, places) = (script.setup.n, module_places(words, Holds::Run));
+        let marked: Vec<usize> = (1..=n).filter(|&j| words[places[j - 1]] & SEND_MARK != 0).collect();
+        let from_number_on = |j: &usize| script.setup.module(*j).place as usize >= *j;
+        self.count_if(marked.is_empty(), "played, marks", "none");
+        self.count_if(marked.contains(&1), "played, marks", "on 1");
+        self.count_if(marked.iter().any(|j| *j > 1 && !from_number_on(j)), "played, marks", "l below the number");
+        self.count_if(marked.iter().any(|j| *j > 1 && from_number_on(j)), "played, marks", "l from the number on");
+        self.count_if(marked.len() == n, "played, marks", "on all");
+        if !marked.is_empty() {
+            self.count("played, marks", if script.setup.u() == 0 { "u 0" } else { "u 1" });
+        }
     }
 
     fn count_rounds(&mut self, script: &Script) {

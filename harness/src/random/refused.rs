@@ -1,5 +1,5 @@
-//! Run scripts that are refused, each made of the words of an accepted one. At times they are
-//! refused by another number than the one named, where the accepted script has it so.
+//! Run scripts that are refused, each made of the words of an accepted one; a log begins as a script does, and its setup is made wrong in the same
+//! ways. At times they are refused by another number than the one named, where the accepted script has it so.
 
 use super::doubles::{put, wrong_factor, wrong_limit as no_limit};
 use super::Random;
@@ -38,13 +38,18 @@ pub fn wrong_words(random: &mut Random, mut words: Vec<u32>, way: usize) -> Vec<
         19 => too_many_rounds,
         22 => two_wrong_words,
         23 => wrong_limit,
-        24 => wrong_mark,
         26 => wrong_module,
         31 => wrong_head,
         _ => unreachable!("no way to make words wrong"),
     };
     make_wrong(random, &mut words);
     bytes_of(&words)
+}
+
+/// 2, 4, 22 or 5: a wrong word in the setup, before a sound rest.
+pub fn wrong_setup(random: &mut Random, words: &mut Vec<u32>) {
+    let make_wrong = random.pick(&[wrong_head, wrong_limit, wrong_module]);
+    make_wrong(random, words);
 }
 
 /// N of the accepted script.
@@ -162,15 +167,6 @@ fn wrong_double(random: &mut Random, words: &mut [u32]) {
             put(words, 4, no_limit(random));
         }
     }
-}
-
-/// 6: a mark on module 1, or with l at or above the own number.
-fn wrong_mark(random: &mut Random, words: &mut Vec<u32>) {
-    let n = modules(words) as u32;
-    let j = if random.chance(1, 3) { 1 } else { random.between(1, n) };
-    let place = if j == 1 { random.between(0, n) } else { random.between(j, n) };
-    let at = module_at(words, j as usize);
-    words[at] = 4 << 28 | j << 23 | 1 << 22 | place << 17 | 1;
 }
 
 /// 5: one field of a module word just out of range.

@@ -2,12 +2,13 @@
 
 use super::damage::{any_bytes, damaged};
 use super::doubles::{factor, lively_limit};
+use super::marks::marked_bytes;
 use super::refused;
 use super::setups::{lively_setup, setup, setup_of};
 use super::Random;
-use crate::model::setup::{Limits, Setup};
+use crate::model::setup::{Holds, Limits, Setup};
 use crate::model::state::{handed_out, handed_out_view};
-use crate::model::words::{bytes_of, full, has, only};
+use crate::model::words::{bytes_of, full, has, only, SEND_MARK};
 use crate::script::backplane::Backplane;
 use crate::script::check::{item_words, words};
 use crate::script::print::each_round;
@@ -16,8 +17,16 @@ use crate::script::{Item, Script};
 /// How many ways `script_bytes` knows.
 pub const WAYS: usize = 36;
 
-/// A run script made in one of the ways 0..WAYS-1.
+/// A run script made in one of the ways 0..WAYS-1, at times with send marks.
 pub fn script_bytes(random: &mut Random, way: usize) -> Vec<u8> {
+    let bytes = unmarked_bytes(random, way);
+    if way == 24 {
+        return bytes;
+    }
+    marked_bytes(random, bytes, Holds::Run)
+}
+
+fn unmarked_bytes(random: &mut Random, way: usize) -> Vec<u8> {
     let script = script(random);
     let all = words(&script);
     let (setup, tail) = all.split_at(script.setup.length());
@@ -30,7 +39,7 @@ pub fn script_bytes(random: &mut Random, way: usize) -> Vec<u8> {
         8..=10 => damaged(random, &all),
         11 => [bytes_of(setup), damaged(random, tail)].concat(),
         12 => any_bytes(random),
-        // 2 to 6 and 22: a setup with something wrong, before a sound tail.
+        // 2 to 5 and 22: a setup with something wrong, before a sound tail.
         14 => [damaged(random, setup), bytes_of(tail)].concat(),
         // 1, 3 and 16: too few or too many bytes.
         13 => refused::cut(random, bytes_of(&all)),
@@ -42,7 +51,9 @@ pub fn script_bytes(random: &mut Random, way: usize) -> Vec<u8> {
             bytes.truncate(65_536 - random.below(9));
             bytes
         }
-        15..=19 | 22..=24 | 26 | 31 => refused::wrong_words(random, all, way),
+        15..=19 | 22 | 23 | 26 | 31 => refused::wrong_words(random, all, way),
+        // Accepted, with marks that were refused by 6 (document 02, E12).
+        24 => once_refused(random, script),
         // Accepted, and within the fault limit or just over it.
         28..=30 => bytes_of(&words(&careful_script(random))),
         // Accepted, with modules that leave and return.
@@ -62,6 +73,21 @@ fn most_rounds(random: &mut Random, mut script: Script) -> Vec<u8> {
     script.items = vec![Item::Loss { sender: 1, receivers: 2 }];
     script.items.resize(101, Item::Play { rounds: 1_000 });
     bytes_of(&words(&script))
+}
+
+/// A mark on module 1, or with l at or above the own number; on the others any.
+fn once_refused(random: &mut Random, mut script: Script) -> Vec<u8> {
+    let n = script.setup.n as u32;
+    let j = if random.chance(1, 3) { 1 } else { random.between(1, n) };
+    script.setup.modules[j as usize - 1].place = if j == 1 { random.between(0, n) } else { random.between(j, n) };
+    let mut words = words(&script);
+    for module in 1..=n {
+        let at = script.setup.form().first_module() + module as usize - 1;
+        if module == j || random.chance(1, 3) {
+            words[at] |= SEND_MARK;
+        }
+    }
+    bytes_of(&words)
 }
 
 /// Accepted: nobody or everybody in the cast, limits at their ends.
@@ -229,7 +255,6 @@ pub fn two_faced_script(random: &mut Random) -> Script {
     while setup.n < 3 {
         setup = Setup { partitionable: true, ..lively_setup(random) };
     }
-    setup.modules[..setup.n].iter_mut().for_each(|module| module.send_mark = false);
     let n = setup.n;
     let breaker = random.between(1, n as u32) as usize;
     let others: Vec<usize> = (1..=n).filter(|&j| j != breaker).collect();
@@ -242,7 +267,7 @@ pub fn two_faced_script(random: &mut Random) -> Script {
         let mut round: Vec<Item> = torn(n, part).into_iter().filter(|item| !item.is_by(breaker)).collect();
         for receivers in faces {
             let first = &backplane.states[receivers.trailing_zeros() as usize];
-            let (told, told_view) = (handed_out(&setup, first), Some(handed_out_view(&setup, first)));
+            let (told, told_view) = (handed_out(first), Some(handed_out_view(first)));
             round.push(Item::Lie { sender: breaker, receivers, told, told_view });
         }
         round.push(Item::Play { rounds: 1 });
@@ -268,7 +293,6 @@ pub fn script_with_u_0(random: &mut Random) -> Script {
     let n = script.setup.n;
     for module in &mut script.setup.modules[..n] {
         module.place = n as u32;
-        module.send_mark = false;
     }
     script
 }

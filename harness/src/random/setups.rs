@@ -1,4 +1,4 @@
-//! Accepted setups: every N, both u, marks, counts and fading, limits at both ends, with modules that return and without, partitionable and not.
+//! Accepted setups: every N, both u, counts and fading, limits at both ends, with modules that return and without, partitionable and not.
 
 use super::doubles::{factor, limit, lively_limit};
 use super::Random;
@@ -29,12 +29,7 @@ pub fn setup_of(random: &mut Random, n: usize, u: usize) -> Setup {
     let places = if u == 0 { vec![n; n] } else { places(random, n) };
     let mut modules = [Module::default(); MAX];
     for j in 1..=n {
-        let may_be_marked = j > 1 && places[j - 1] < j;
-        modules[j - 1] = Module {
-            send_mark: may_be_marked && random.chance(1, 2),
-            place: places[j - 1] as u32,
-            criticality: random.limit(100_000),
-        };
+        modules[j - 1] = Module { place: places[j - 1] as u32, criticality: random.limit(100_000) };
     }
     Setup {
         n,

@@ -47,27 +47,18 @@ pub fn add_event(events: &mut Events, sender: usize, receivers: u32, event: Even
 const NOTHING_YET: Outcome =
     Outcome { causes: [0; MAX], health: 0, accused: [0; MAX], syndrome: 0, found: 0, word: 0, view_word: 0 };
 
-/// What a module with this state sends: the word with a syndrome and the one with a view.
-fn both_words(setup: &Setup, state: &State) -> (u32, u32) {
-    (handed_out(setup, state), handed_out_view(setup, state))
-}
-
 pub struct Backplane {
     /// The setup that all were opened from.
     pub setup: Setup,
-    /// The setup that each module has, which a change of the limits makes another (document 02, E10). N, Q, read places and marks stay.
+    /// The setup that each module has, which a change of the limits makes another (document 02, E10). N, Q and read places stay.
     setups: [Setup; MAX],
     pub cast: u32,
     u: usize,
-    /// Modules by read place, smallest first.
-    order: Vec<usize>,
     /// Rounds played.
     pub round: u32,
     /// Module j stands at j-1.
     pub states: [State; MAX],
     pub outcomes: [Outcome; MAX],
-    /// For each module the words that it handed out last: its syndrome's and its view's.
-    handed_out: [(u32, u32); MAX],
     /// The words sent in the round played last.
     pub arrivals: Arrivals,
     /// How senders were heard in the round played last and the two before it.
@@ -79,14 +70,9 @@ pub struct Backplane {
 impl Backplane {
     pub fn new(setup: &Setup, cast: u32) -> Backplane {
         let n = setup.n;
-        let mut order: Vec<usize> = (1..=n).collect();
-        order.sort_by_key(|&j| setup.module(j).place);
-
         let mut states = [fresh(setup, 1); MAX];
-        let mut handed = [(0, 0); MAX];
         for j in 1..=n {
             states[j - 1] = fresh(setup, j);
-            handed[j - 1] = both_words(setup, &states[j - 1]);
         }
 
         // In rounds before 1 all hear all, with all-ones words.
@@ -99,11 +85,9 @@ impl Backplane {
             setups: [*setup; MAX],
             cast,
             u: setup.u(),
-            order,
             round: 0,
             states,
             outcomes: [NOTHING_YET; MAX],
-            handed_out: handed,
             arrivals,
             hearings: [faultless; 3],
             kept_so_far: true,
@@ -114,7 +98,6 @@ impl Backplane {
     pub fn open_anew(&mut self, j: usize) {
         self.setups[j - 1] = self.setup;
         self.states[j - 1] = fresh(&self.setup, j);
-        self.handed_out[j - 1] = both_words(&self.setup, &self.states[j - 1]);
     }
 
     /// Between two rounds: module j is offered a change. A run script has none. A refusal leaves the module as it was.
@@ -130,10 +113,8 @@ impl Backplane {
 
     /// Plays one round; the events count for the words sent in it.
     ///
-    /// A marked module sends the words that its step of this round hands out, another module the
-    /// words that its step of the round before handed out. A module with read place l reads the
-    /// words of this round for j <= l. A marked module j has l < j, so it steps before whoever
-    /// reads its word of this round, if modules step by read place.
+    /// Each module sends the words that its step of the round before handed out, or its opening, so
+    /// all words of the round are known before its steps, whatever the read places are.
     pub fn play_round(&mut self, events: &Events) {
         let n = self.setup.n;
         let earlier = self.arrivals;
@@ -141,16 +122,10 @@ impl Backplane {
         self.round += 1;
 
         for j in 1..=n {
-            if !self.setup.module(j).send_mark {
-                self.send(j, events);
-            }
+            self.send(j, events);
         }
-        for at in 0..n {
-            let j = self.order[at];
+        for j in 1..=n {
             self.step_module(j, &earlier);
-            if self.setup.module(j).send_mark {
-                self.send(j, events);
-            }
         }
 
         // The fault limit, over this round and round k-u-1, by the view of the end of round k+u-1.
@@ -169,7 +144,8 @@ impl Backplane {
 
     /// Puts the words that module j handed out on the bus of this round.
     fn send(&mut self, j: usize, events: &Events) {
-        let (word, view_word) = self.handed_out[j - 1];
+        let state = &self.states[j - 1];
+        let (word, view_word) = (handed_out(state), handed_out_view(state));
         for receiver in 1..=self.setup.n {
             self.arrivals[j - 1][receiver - 1] = match events[j - 1][receiver - 1] {
                 None => Arrival { controller_bit: true, word, view_word },
@@ -203,7 +179,6 @@ impl Backplane {
         if let Some(new) = new {
             *setup = new;
         }
-        self.handed_out[i - 1] = (outcome.word, outcome.view_word);
         self.outcomes[i - 1] = outcome;
     }
 }

@@ -1,4 +1,4 @@
-//! Checking a run script: 16 first, then 1 to 6 (22 in the place of 4), then word by word 12, 13, 15, and 14 last.
+//! Checking a run script: 16 first, then 1 to 5 (22 in the place of 4), then word by word 12, 13, 15, and 14 last.
 
 use crate::model::setup::{read_setup, Holds, Setup};
 use crate::model::words::{full, has, kind, Amount, EventWord, Vector};
@@ -116,7 +116,7 @@ fn read_play(word: u32) -> Option<u32> {
     (1..=MOST_ROUNDS_A_PLAY).contains(&play.value).then_some(play.value)
 }
 
-/// The words of a script, as `check` reads them.
+/// The words of a script, as `check` reads them. Send marks that its setup had are not kept.
 pub fn words(script: &Script) -> Vec<u32> {
     let mut words = script.setup.words();
     words.push(Vector { kind: 6, bits: script.cast }.word());

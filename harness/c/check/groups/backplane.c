@@ -46,13 +46,12 @@ static void send_word(struct backplane *b, uint32_t k, uint32_t j)
 /* Those with read place l make their step of round k. */
 static void step_at(struct backplane *b, uint32_t k, uint32_t l)
 {
-    uint32_t n = b->n, i, of_setup;
+    uint32_t n = b->n, i;
     uint8_t *image;
 
     for (i = 0; i < n; i++) {
         image = b->image[i];
-        of_setup = get(b->setup, module_at(b->form, i + 1));
-        if ((of_setup >> 17 & 0x1F) != l)
+        if ((get(b->setup, module_at(b->form, i + 1)) >> 17 & 0x1F) != l)
             continue;
         if (k == b->change_in)
             change(image, image_bytes(b->form, n), b->new_setup,
@@ -65,8 +64,6 @@ static void step_at(struct backplane *b, uint32_t k, uint32_t l)
         b->view[k][i] = view_of(b->form, image, n);
         b->shown[k][i] = presence_shown_view(image, n);
         b->out[k][i] = presence_is_out(image, n);
-        if (of_setup >> 22 & 1) /* with the mark */
-            take_word(b, i);
     }
 }
 
@@ -76,7 +73,7 @@ void play(struct backplane *b, uint32_t rounds)
 
     open_all(b);
     for (k = 1; k <= rounds; k++) {
-        for (i = 0; i < b->n; i++) /* word of the step before, rule 7 */
+        for (i = 0; i < b->n; i++) /* words of the step before, rule 7 */
             take_word(b, i);
         step_at(b, k, 0);
         for (l = 1; l <= b->n; l++) {

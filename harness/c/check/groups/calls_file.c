@@ -37,7 +37,7 @@ static void do_call(const struct call *c, const struct answer *a)
     };
     struct result r, r_plain;
 
-    if (c->op == OUTGOING) { /* the view word too */
+    if (c->op == OUTGOING && a->is_state) { /* the view word too */
         outgoing(c->in, c->in_len, a->number, a->index);
         if (c->in_len <= OUT_MAX)
             save(c->in, c->in_len, c->in_len, a->number, a->index);

@@ -40,13 +40,14 @@ static int parse_number(const char *text, int base, uint32_t *value)
 /* A call of a file: how many fields stand before and after "=". */
 struct form {
     const char *name;
-    enum op op; /* a state is read by OUTGOING and by SAVE */
+    enum op op; /* of a state OUTGOING; it is read by SAVE too */
     int arguments, answers;
 };
 
 static const struct form forms[] = {
     {"setup", SETUP, 1, 2},
     {"state", OUTGOING, 1, 2},
+    {"outgoing", OUTGOING, 1, 3},
     {"outgoingview", OUTGOING_VIEW, 1, 3},
     {"open", OPEN, 3, 4},
     {"step", STEP, 4, 4},
@@ -59,7 +60,9 @@ static const struct form forms[] = {
     {"pagewrite", PAGE_WRITE, 3, 3}, /* refused */
     {"interrupt", INTERRUPT, 1, 3},
     {"cause", READ_CAUSE, 3, 2},
-    {"cause", READ_CAUSE, 3, 4} /* refused NUMBER at INDEX */
+    {"cause", READ_CAUSE, 3, 4}, /* refused NUMBER at INDEX */
+    {"judge", JUDGE, 1, 3},
+    {"list", LIST, 3, 3}
 };
 
 /* The form of a line that is split into its fields, NULL if it has none. */
@@ -104,8 +107,8 @@ static int parse_page(const char *text, struct call *c)
     return parse_block(text, &c->page, &c->page_len) && c->page_len <= OUT_MAX;
 }
 
-/* The arguments of a call on a page, or of a bus word.  Returns 0 if
-   malformed. */
+/* The arguments of a call on a page, of a bus word, of a log or of a link.
+   Returns 0 if malformed. */
 static int parse_page_call(char **field, struct call *c)
 {
     static uint8_t any[OUT_MAX]; /* what a page holds before it is opened */
@@ -135,6 +138,12 @@ static int parse_page_call(char **field, struct call *c)
         return parse_number(field[1], 10, &c->argument) &&
                parse_number(field[2], 16, &c->value) &&
                parse_number(field[3], 10, &c->n);
+    case JUDGE:
+        return parse_block(field[1], &c->in, &c->in_len);
+    case LIST:
+        return parse_block(field[1], &c->in, &c->in_len) &&
+               parse_block(field[2], &c->read, &c->read_len) &&
+               parse_length(field[3], &c->out_len);
     default:
         return parse_page(field[1], c);
     }
@@ -178,12 +187,22 @@ static int parse_results(char **field, const struct form *form,
 
     switch (form->op) {
     case SETUP:
-    case OUTGOING:
         return 1;
+    case OUTGOING:
+        a->is_state = form->answers == 2;
+        if (a->is_state)
+            return 1;
+        return parse_told(field[0], refused, &a->health);
     case OUTGOING_VIEW:
     case PAGE_READ:
     case INTERRUPT:
         return parse_told(field[0], refused, &a->health);
+    case JUDGE:
+        return refused ? strcmp(field[0], "-") == 0
+                       : parse_number(field[0], 10, &a->health);
+    case LIST:
+        a->image_len = parse_bytes(field[0], a->image, sizeof a->image);
+        return !refused || strcmp(field[0], "-") == 0;
     case PAGE_WRITE:
         if (form->answers == 3)
             return refused && strcmp(field[0], "-") == 0;

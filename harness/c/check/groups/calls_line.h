@@ -1,7 +1,8 @@
 /*
  * calls_line.h - a line of a calls file: a call, and what must come out of it.
- * The head of harness/data/e10-calls.txt says how it is written, and that of
- * own-calls.txt how a cause that is refused.
+ * The head of harness/data/e14-calls.txt says how it is written, and that of
+ * own-calls.txt how a cause that is refused and the words that a state hands
+ * out.
  */
 #ifndef CHECK_CALLS_LINE_H
 #define CHECK_CALLS_LINE_H
@@ -12,11 +13,13 @@
 
 enum line { BLANK_LINE, MALFORMED_LINE, CALL_LINE };
 
-/* What comes out of a call: health, a word or a cause, with a cause the row, an
-   image of image_len bytes if it is accepted, and a page of page_len bytes
-   where the line gives one. */
+/* What comes out of a call: health, a word, a cause or a round, with a cause
+   the row, an image or a list of image_len bytes if it is accepted, and a page
+   of page_len bytes where the line gives one.  Of a state that is read alone no
+   word is told. */
 struct answer {
     uint32_t number, index, health, row;
+    int is_state;
     uint8_t image[LINE_MAX_CHARS], page[LINE_MAX_CHARS];
     long image_len, page_len;
 };

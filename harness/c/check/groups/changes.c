@@ -19,8 +19,8 @@ static struct {
     unsigned long cleared, put_out, back_at_once, raised, cut, kept;
 } seen;
 
-/* The image with the rounds left and the new words behind them, nothing
-   else. */
+/* The image with the rounds left and the new words behind them, without send
+   marks, nothing else. */
 static void accepted(enum form form, const uint8_t *image, uint32_t n,
                      const uint8_t *new_setup, uint32_t lead)
 {
@@ -32,6 +32,7 @@ static void accepted(enum form form, const uint8_t *image, uint32_t n,
            out);
     memcpy(wanted, image, len);
     put_pending(wanted, new_setup, n, lead);
+    mark_image(wanted, 0, 0);
     if (memcmp(out, wanted, long_len) != 0)
         differ("image with a pending change", 1, 0);
     same("rounds left", presence_rounds_left(out, n), lead);
@@ -156,6 +157,7 @@ static void step_follows(const uint8_t *old, const uint8_t *image, uint32_t n,
     memcpy(setup, old, setup_bytes(COUNTS, n));
     if (left == 1)
         memcpy(setup + 4, old + 4 * new_p_at(n), setup_bytes(COUNTS, n) - 4);
+    mark_setup(setup, 0);
     if (memcmp(image, setup, setup_bytes(COUNTS, n)) != 0)
         differ("setup after a step", 1, 0);
     same("rounds left after a step", presence_rounds_left(image, n),

@@ -65,8 +65,8 @@ static void images_refused_first(const struct given *g)
     by_image(copy, len, 8, returns_at(COUNTS, n, n));
     put(copy, own_at(COUNTS, n), own_word(0, 0));
     by_image(copy, len, 7, own_at(COUNTS, n));
-    put(copy, module_at(COUNTS, 1), module_word(1, 1, n, 1));
-    by_image(copy, len, 6, module_at(COUNTS, 1));
+    put(copy, module_at(COUNTS, 1), module_word(1, 1, n, 1)); /* no reason */
+    by_image(copy, len, 7, own_at(COUNTS, n));
     put(copy, module_at(COUNTS, n), module_word(n, 0, n + 1, 1));
     by_image(copy, len, 5, module_at(COUNTS, n));
     put(copy, 2, 0x30000000);
@@ -131,7 +131,8 @@ static void new_setups_refused(const struct given *g)
     by_new_word(g, at, word & ~0x1FFFFu, 5);
     by_new_word(g, at, (word & ~0x1FFFFu) | 100001, 5);
     by_new_word(g, at, word + (1u << 23), 5);
-    by_new_word(g, at, module_word(n, 1, n, 1), 6);
+    by_new_word(g, at, module_word(n, 1, n, 0), 5);
+    by_new_word(g, at, module_word(n, 1, n + 1, 1), 5);
     make_fading_setup(fading, scores, n, 0.5, 3.0);
     put(scores, 1, 1);
     by_new_words(g, scores, setup_bytes(FADING, n), 22, 1);
@@ -157,22 +158,19 @@ static void word_differs(const struct given *g, uint32_t at, uint32_t word)
     differs(g, copy, setup_bytes(COUNTS, g->n));
 }
 
-/* Read place and mark of each module; what is set is accepted in a setup. */
-static void modules_differ(const struct given *g)
+/* The read place of each module, with a send mark and without. */
+static void places_differ(const struct given *g)
 {
-    uint32_t n = g->n, j, l, at, word, mark, other;
+    uint32_t n = g->n, j, l, at, word, other;
 
     for (j = 1; j <= n; j++) {
         at = module_at(COUNTS, j);
         word = get(g->new_setup, at);
         l = word >> 17 & 0x1F;
-        mark = word >> 22 & 1;
         for (other = 0; other <= n; other++)
             if (other != l)
-                word_differs(g, at, module_word(j, mark && other < j, other,
+                word_differs(g, at, module_word(j, below(2), other,
                                                 word & 0x1FFFF));
-        if (j > 1 && l < j)
-            word_differs(g, at, word ^ 1u << 22);
     }
 }
 
@@ -187,7 +185,7 @@ static void setups_differ(const struct given *g)
     word_differs(g, 0, head_word(other_views(g->form), n, q));
     word_differs(g, 0, head_word(g->form, n, q < 1000000 ? q + 1 : 0));
     word_differs(g, 0, head_word(g->form, n, q > 0 ? q - 1 : 1000000));
-    modules_differ(g);
+    places_differ(g);
     low_setup(g->form, other, n == MAX_N ? n - 1 : n + 1, 0);
     differs(g, other, setup_bytes(COUNTS, n == MAX_N ? n - 1 : n + 1));
     if (n < MAX_N) { /* N alone: one module more, those before as they are */

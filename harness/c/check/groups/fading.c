@@ -68,8 +68,9 @@ static const struct course courses[] = {
     {0.5, 1.0, 1, "bgb", 1.0, 0},
 };
 
-/* All l are N; with u = 1 each module steps before its own slot, with marks.
-   Criticalities are as high as they may be, for they count nothing. */
+/* All l are N; with u = 1 each module steps before its own slot, and has a send
+   mark, which decides nothing.  Criticalities are as high as they may be, for
+   they count nothing. */
 static void fading_setup(enum form form, uint8_t *setup, uint32_t n, uint32_t u,
                          const struct course *c)
 {

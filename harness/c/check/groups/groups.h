@@ -19,6 +19,7 @@ void group_fading(void);
 void group_changes(void);
 void group_changes_refused(void);
 void group_pending_refused(void);
+void group_marks(void);
 void group_views(void);
 void group_views_refused(void);
 void group_torn_cable(void);
@@ -31,6 +32,10 @@ void group_page_lives(void);
 void group_page_views(void);
 void group_page_words(void);
 void group_causes(void);
+void group_judge(void);
+void group_judge_refused(void);
+void group_lists(void);
+void group_lists_refused(void);
 
 /* The calls of the file of this name. */
 void group_calls_file(const char *name);

@@ -101,9 +101,12 @@ static void step_follows(enum form form, const uint8_t *setup, uint32_t n,
 {
     struct course c = {.setup = setup, .old = old, .image = image,
                        .form = form, .n = n};
+    uint8_t written[SETUP_MAX];
 
     same("health bits at N or above", health & ~ones(n), 0);
-    if (memcmp(image, setup, setup_bytes(form, n)) != 0)
+    memcpy(written, setup, setup_bytes(form, n));
+    mark_setup(written, 0);
+    if (memcmp(image, written, setup_bytes(form, n)) != 0)
         differ("setup in the image", 1, 0);
     same("own number in the image", get(image, own_at(form, n)) >> 16,
          0xA000 | own);
@@ -115,14 +118,12 @@ static void step_follows(enum form form, const uint8_t *setup, uint32_t n,
     }
 }
 
-/* Rule 7: the latest syndrome, with the mark the one before. */
-static void word_follows(enum form form, const uint8_t *setup, uint32_t n,
-                         uint32_t own, const uint8_t *image, uint32_t word)
+/* Rule 7 since E12 of document 02: the latest syndrome. */
+static void word_follows(enum form form, uint32_t n, const uint8_t *image,
+                         uint32_t word)
 {
-    uint32_t mark = get(setup, module_at(form, own)) >> 22 & 1;
-    uint32_t at = mark ? before_at(form, n) : latest_at(form, n);
-
-    same("word handed out", word, 0x50000000 | (get(image, at) & 0xFFFF));
+    same("word handed out", word,
+         0x50000000 | (get(image, latest_at(form, n)) & 0xFFFF));
 }
 
 /* The image is saved, lost and taken from what was saved. */
@@ -170,11 +171,13 @@ static void life(enum form form, const uint8_t *setup, uint32_t n,
             controller = 0; /* nobody heard */
         if (below(4) == 0)
             put(read, own - 1, word); /* the module's own word */
+        if (below(2) == 0)
+            put_marks(image);
         memcpy(old, image, len);
         health = step(image, len, read, read_len, controller, len, 0, 0, image);
         step_follows(form, setup, n, own, old, image, health);
         word = outgoing(image, len, 0, 0);
-        word_follows(form, setup, n, own, image, word);
+        word_follows(form, n, image, word);
 
         if (below(8) == 0)
             restart(image, len);

@@ -94,20 +94,23 @@ static void limits_refused(enum form form, const uint8_t *image, uint32_t n)
     }
 }
 
-/* Any criticality in range, all else as in the setup. */
+/* Any criticality in range and any send mark, all else as in the setup. */
 static void module_refused(enum form form, const uint8_t *image, uint32_t n,
                            uint32_t j)
 {
     uint32_t at = new_module_at(n, j), b;
-    uint32_t word = get(image, module_at(COUNTS, j)) & ~0x1FFFFu;
+    uint32_t word = get(image, module_at(COUNTS, j)) & ~0x1FFFFu, mark;
 
-    accepted_word(form, image, n, at, word | 1);
-    accepted_word(form, image, n, at, word | 100000);
-    refused_word(form, image, n, at, word);
-    refused_word(form, image, n, at, word | 100001);
-    refused_word(form, image, n, at, word | 0x1FFFF);
-    for (b = 17; b < 32; b++) /* read place, mark, number, kind */
-        refused_word(form, image, n, at, (word | 1) ^ 1u << b);
+    for (mark = 0; mark < 2; mark++, word ^= SEND_MARK) {
+        accepted_word(form, image, n, at, word | 1);
+        accepted_word(form, image, n, at, word | 100000);
+        refused_word(form, image, n, at, word);
+        refused_word(form, image, n, at, word | 100001);
+        refused_word(form, image, n, at, word | 0x1FFFF);
+        for (b = 17; b < 32; b++) /* read place, number, kind */
+            if (1u << b != SEND_MARK)
+                refused_word(form, image, n, at, (word | 1) ^ 1u << b);
+    }
 }
 
 /* Each section of the image before the pending words. */
@@ -154,6 +157,7 @@ static void pending_of(enum form form, uint32_t n, uint32_t u)
     lived_image(form, image, s, n, n, 20);
     new_limits(new_setup, s, n);
     put_pending(image, new_setup, n, 1 + below(1000));
+    put_marks(image);
     save(image, len, len, 0, 0);
     limits_refused(form, image, n);
     for (j = 1; j <= n; j++)

@@ -19,7 +19,8 @@ static uint32_t leaves_in(uint32_t u)
     return 3 + 2 * u;
 }
 
-/* All l are N; with u = 1 each module steps before its own slot, with marks. */
+/* All l are N; with u = 1 each module steps before its own slot, and has a send
+   mark, which decides nothing. */
 static void returning_setup(uint8_t *setup, uint32_t n, uint32_t u, uint32_t q)
 {
     uint32_t j;

@@ -60,7 +60,7 @@ static void front_written(uint32_t n)
          4 * module_at(FADING, 1));
 }
 
-/* What all forms have: Q, read places, marks, criticalities. */
+/* What all forms have: Q, read places, send marks, criticalities. */
 static void setups_of(enum form form, uint32_t n)
 {
     uint8_t setup[SETUP_MAX];
@@ -77,10 +77,8 @@ static void setups_of(enum form form, uint32_t n)
             usual_setup(form, setup, n);
             put(setup, module_at(form, j), module_word(j, 0, l, 100000));
             check_setup(setup, len, 0, 0);
-            if (j > 1 && l < j) {
-                put(setup, module_at(form, j), module_word(j, 1, l, 1));
-                check_setup(setup, len, 0, 0);
-            }
+            put(setup, module_at(form, j), module_word(j, 1, l, 1));
+            check_setup(setup, len, 0, 0);
         }
     for (i = 0; i < 20; i++) {
         any_setup(form, setup, n, i % 2);

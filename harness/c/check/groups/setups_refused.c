@@ -1,4 +1,4 @@
-/* setups_refused.c - setups with a wrong word: answers 2, 4, 5, 6 and 22. */
+/* setups_refused.c - setups with a wrong word: answers 2, 4, 5 and 22. */
 #include "check/groups/groups.h"
 
 #include <string.h>
@@ -163,26 +163,14 @@ static void module_words_refused(enum form form, uint32_t n, uint32_t j)
         /* A second one further on: the first is named. */
         put(s, module_at(form, n), 0);
         refused_setup(form, s, n, 5, at);
-        /* A wrong mark before it: 5 goes before 6. */
+        /* A send mark is not looked at: on it, and on one before it. */
+        put(s, at, wrong[i] | SEND_MARK);
+        refused_setup(form, s, n, 5, at);
         if (j > 1) {
             put(s, module_at(form, 1), module_word(1, 1, 0, 1));
             refused_setup(form, s, n, 5, at);
         }
     }
-}
-
-/* 6 at module j */
-static void marks_refused(enum form form, uint32_t n, uint32_t j)
-{
-    uint8_t s[SETUP_MAX];
-    uint32_t at = module_at(form, j), l;
-
-    /* Every l that is the own number or more; every l at module 1. */
-    for (l = j == 1 ? 0 : j; l <= n; l++)
-        refused_setup_word(form, s, n, at, module_word(j, 1, l, 1), 6);
-    /* Two wrong marks: the first is named. */
-    put(s, module_at(form, n), module_word(n, 1, n, 1));
-    refused_setup(form, s, n, 6, at);
 }
 
 /* What all forms have. */
@@ -191,10 +179,8 @@ static void words_refused(enum form form, uint32_t n)
     uint32_t j;
 
     heads_refused(form, n);
-    for (j = 1; j <= n; j++) {
+    for (j = 1; j <= n; j++)
         module_words_refused(form, n, j);
-        marks_refused(form, n, j);
-    }
 }
 
 void group_setups_refused(void)

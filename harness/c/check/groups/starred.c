@@ -80,7 +80,8 @@ static void starred_two_charges(struct backplane *b, const uint8_t *sheet)
     same("penalty of one that left", get(b->image[0], 15), 0xD1000002);
 }
 
-/* Send marks on 2, 3 and 4, so u = 1. */
+/* Read places 0, 0, 1, 2, so u = 1; send marks on 2, 3 and 4, which decide
+   nothing since E12 of document 02. */
 static void starred_marks(struct backplane *b)
 {
     uint8_t marks[SETUP_MAX];

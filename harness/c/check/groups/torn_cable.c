@@ -21,7 +21,8 @@ enum { TORN = 4, MENDED = 16, LAST = 20 }; /* rounds */
    that heard no common sender. */
 static unsigned long both_adopted, none_common;
 
-/* With u = 1 each module steps before its own slot, half of them with marks. */
+/* With u = 1 each module steps before its own slot; half of them have a send
+   mark, which decides nothing. */
 static void torn_setup(enum form form, uint8_t *setup, uint32_t n, uint32_t u)
 {
     uint32_t j;

@@ -113,16 +113,12 @@ static void views_follow(enum form form, const uint8_t *old,
     seen.were_out += was_out;
 }
 
-/* With the mark the local view before the latest step, else the latest. */
-static void word_follows(enum form form, const uint8_t *image, uint32_t n)
+/* The local view, with a send mark or without. */
+static void word_follows(const uint8_t *image, uint32_t n)
 {
-    uint32_t own = get(image, own_at(form, n)) >> 16 & 31;
-    uint32_t mark = get(image, module_at(form, own)) >> 22 & 1;
-    uint32_t at = mark ? earlier_view_at(image, n) : local_view_at(image, n);
-
     same("view word handed out",
          outgoing_view(image, presence_image_bytes(image, n), 0, 0),
-         0xA0000000 | get(image, at));
+         0xA0000000 | get(image, local_view_at(image, n)));
 }
 
 /* The image of the same module without views. */
@@ -175,13 +171,15 @@ static void life(enum form form, uint32_t n, uint32_t u, uint32_t steps)
         offer(form, image, n);
         if (below(4) == 0) /* as if it were opened anew */
             put(image, out_at(image, n), 0);
+        if (below(2) == 0)
+            put_marks(image);
         controller = random_read(form, read, n, below(6));
         memcpy(old, image, sizeof old);
         health = step(image, presence_image_bytes(image, n), read, 8 * n,
                       controller, presence_stepped_bytes(image, n), 0, 0,
                       image);
         views_follow(form, old, image, read, n, controller);
-        word_follows(form, image, n);
+        word_follows(image, n);
         rest_is_as_without(old, image, read, n, controller, health);
     }
 }

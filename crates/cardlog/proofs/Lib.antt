@@ -1,0 +1,12 @@
+pub mod EndLaws
+pub mod JudgeRoundLaws
+pub mod OwnLaws
+pub mod BeginLaws
+pub mod SameWords
+pub mod WholeLaws
+pub mod PieceLaws
+pub mod JudgeLentLaws
+pub mod CardLaws
+pub mod LifeLaws
+pub mod JudgePromise
+pub mod Cases

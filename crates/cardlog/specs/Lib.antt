@@ -1,0 +1,5 @@
+pub mod Log
+pub mod Judge
+pub mod Pieces
+pub mod Promise
+pub mod Cases

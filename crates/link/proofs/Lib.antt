@@ -1,0 +1,5 @@
+pub mod ListLaws
+pub mod ListMeans
+pub mod Stand
+pub mod Cases
+pub mod StandCases
