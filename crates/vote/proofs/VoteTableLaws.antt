@@ -28,9 +28,9 @@ entry-at votes ones hv ho =
     let place : (votes * 16 + ones) % 16 ≡ ones = omega arith in
     table_at entry_of_place (votes * 16 + ones) (omega arith) ∙ ap₂ table_entry row place
 
--- what an entry says, with the own syndrome's bit where nobody votes; of the two decisions the character `1` is the odd one
+-- what an entry says, with the own syndrome's bit where nobody votes
 abbrev said : ℕ → Bool → Bool
-said entry own = cond (eqb entry empty) own (eqb (entry % 2) 1)
+said entry own = cond (eqb entry empty) own (eqb entry good)
 
 said-decision : (votes ones : ℕ) (own : Bool) → ones ≤ votes → said (table_entry votes ones) own ≡ decision votes ones own
 unfolding decision table_entry
