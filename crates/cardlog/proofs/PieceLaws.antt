@@ -11,7 +11,7 @@ use Rattle.setup.specs.Setup.{fades_in}
 use Rattle.setup.proofs.BoundLaws.{front-most}
 use Rattle.cardlog.specs.Log.{log_size, begin_length, round_words, round_length, round_at}
 use Rattle.cardlog.specs.Judge.{finding_of}
-use Rattle.cardlog.specs.Pieces.{SoundJudging, begun_with, round_taken, taken_all, ended, Fed, begins, goes_on_lem, InPieces}
+use Rattle.cardlog.specs.Pieces.{SoundJudging, begun_with, round_taken, taken_all, ended, Fed, begins, goes_on, InPieces}
 use Rattle.cardlog.specs.declared.Judging.{Judging}
 use Rattle.cardlog.proofs.BeginLaws.{begun-sound, begun-words}
 use Rattle.cardlog.proofs.JudgeRoundLaws.{all-counts, all_sound}
@@ -71,7 +71,7 @@ fed-split : (bytes : List ℕ) (j : Judging) → Fed bytes j → Split bytes j
 unfolding taken_all
 fed-split bytes j (begins front h) =
     record { front = front; body = []; count = 0; joined = sym (append-nil front); front_length = h; body-length = omega arith; held = refl }
-fed-split bytes j (goes_on_lem {bytes = b} {j = i} piece m fed h) =
+fed-split bytes j (goes_on {bytes = b} {j = i} piece m fed h) =
     let s = fed-split b i fed in
     let z : i.read ≡ (begun_with s.front).read = ap (λ (x : Judging). x.read) s.held ∙ (all-counts (begun_with s.front) s.body s.count).read in
     let l : length piece ≡ m * round_length (begun_with s.front).read = h ∙ ap (λ (x : ℕ). m * round_length x) z in
