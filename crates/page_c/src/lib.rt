@@ -9,7 +9,7 @@ ghost use Rattle.page.specs.Host.{written, read_call, write_call, interrupt_call
 use calls::{Answer, WordAnswer};
 use page::{host, with_page};
 
-// Opens module `own` of a setup, and writes its image and its page: 1 to 6 and 22, 7, 9 for the output or the page.
+// Opens module `own` of a setup, and writes its image and its page: 1 to 5 and 22, 7, 9 for the output or the page.
 #[unsafe(no_mangle)]
 pub extern "C" fn presence_page_open(
     bytes: &[u8],
@@ -23,7 +23,7 @@ pub extern "C" fn presence_page_open(
     with_page::presence_page_open(bytes, own, out, page)
 }
 
-// One step, from image to image, with the page beside it: 1 to 8 and 22, 9 for the read, the output or the page, 10.
+// One step, from image to image, with the page beside it: 1 to 5, 7, 8 and 22, 9 for the read, the output or the page, 10.
 #[unsafe(no_mangle)]
 pub extern "C" fn presence_page_step(
     image: &[u8],
