@@ -12,8 +12,8 @@ use borrow.Rule.Slice.PartMut.{put_mid, same_len_mid}
 use Rattle.words.proofs.Truth.{which, and_l, and_r, or_l, cond-true, cond-false}
 
 -- the loop goes on while a read brought something and there is room
-pub goes_on_lem : (more : Bool) (got room : ℕ) → more && ltb got room ≡ true → (more ≡ true) × (got < room)
-goes_on_lem more got room t = (and_l more _ t, ltb-true got room (and_r more _ t))
+pub going_on : (more : Bool) (got room : ℕ) → more && ltb got room ≡ true → (more ≡ true) × (got < room)
+going_on more got room t = (and_l more _ t, ltb-true got room (and_r more _ t))
 
 -- what is left to do
 pub turn-less : {more : Bool} {room after got part : ℕ} → more ≡ true → got < room → after ≡ room → part ≤ room - got

@@ -21,7 +21,7 @@ use Rattle.text.specs.JudgeLines.{accepted_line, refused_at}
 use Rattle.text.specs.Wrote.{Wrote}
 use Rattle.cardlog.specs.Log.{begin_length, round_words, round_length}
 use Rattle.cardlog.specs.Judge.{finding_of}
-use Rattle.cardlog.specs.Pieces.{SoundJudging, begun_with, taken_all, ended, Fed, begins, goes_on_lem}
+use Rattle.cardlog.specs.Pieces.{SoundJudging, begun_with, taken_all, ended, Fed, begins, goes_on}
 use Rattle.cardlog.specs.declared.Finding.{Finding}
 use Rattle.cardlog.specs.declared.Judging.{Judging}
 use Rattle.cardlog.proofs.JudgeRoundLaws.{all-counts, all_sound}
@@ -105,7 +105,7 @@ module _ {count : ℕ} {j : Judging} (f : FedBy count j) where
       whole-fed =
           record {
             bytes = f.bytes ++ piece;
-            fed = subst (Fed (f.bytes ++ piece)) (sym (q ∙ ap (taken_all j piece) whole-count)) (goes_on_lem piece m f.fed whole_length);
+            fed = subst (Fed (f.bytes ++ piece)) (sym (q ∙ ap (taken_all j piece) whole-count)) (goes_on piece m f.fed whole_length);
             counted = length-append f.bytes piece ∙ omega (arith, f.counted, piece-length, k);
           }
 

@@ -2,9 +2,13 @@
 // counted leaves none out and takes none twice.
 ghost use Rattle.std.specs.Prelude.{◌≡◌, true, ◌+◌, ◌≤◌, ◌<◌, ◌^◌, length};
 
-// How many bytes were read, and whether a read failed.
+use std::io::Read;
+use std::rt::Stdin;
+
+// Standard input, how many bytes were read, and whether a read failed.
 #[derive(Clone, Copy)]
 pub struct Input {
+    from: Stdin,
     bytes: u64,
     failed: bool,
 }
@@ -24,23 +28,26 @@ struct Part {
 }
 
 // Reads once.
-fn read_once(buf: &mut [u8]) -> Part
+fn read_once(from: Stdin, buf: &mut [u8]) -> Part
     ensures { (result.got ≤ length buf.old) × (length buf.new ≡ length buf.old) }
 {
-    let answer = libc::read(0, buf);
-    let got = io::count(answer, buf);
-    Part {
-        got,
-        failed: answer < 0,
+    let mut from = from;
+    match from.read(buf) {
+        Ok(got) => Part { got, failed: false },
+        Err(_) => Part {
+            got: 0,
+            failed: true,
+        },
     }
 }
 
 impl Input {
     // Nothing so far.
-    pub fn start() -> Input
+    pub fn start(from: Stdin) -> Input
         ensures { result.bytes ≡ 0 }
     {
         Input {
+            from,
             bytes: 0,
             failed: false,
         }
@@ -56,13 +63,17 @@ impl Input {
         let mut more = true;
         let mut failed = self.failed;
         while more & (got < buf.len()) {
-            let part = read_once(&mut buf[got..]);
+            let part = read_once(self.from, &mut buf[got..]);
             failed = failed | part.failed;
             more = 0 < part.got;
             got += part.got;
         }
         let bytes = self.bytes + got as u64;
-        let input = Input { bytes, failed };
+        let input = Input {
+            from: self.from,
+            bytes,
+            failed,
+        };
         Piece { got, input }
     }
 

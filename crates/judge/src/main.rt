@@ -9,9 +9,10 @@ ghost use Rattle.cardlog.specs.Log.{begin_length};
 ghost use Rattle.judge.specs.Output.{finding_line};
 ghost use Rattle.judge.specs.Read.{FedBy, FoundAfter, Printed};
 
-use input::{Input, Piece};
 use cardlog::whole::begin_length;
 use cardlog::{Finding, Judging};
+use input::{Input, Piece};
+use std::rt::Stdin;
 use text::judge_line::{put_accepted, put_refused, put_wrong};
 
 // So many words are read at most, and what follows them is left: 4 EiB of log.
@@ -92,11 +93,11 @@ fn judge_rounds(begun: Judging, start: Input, block: &mut [u8]) -> Outcome
 }
 
 // Reads the log and judges it.
-fn judge(front: &mut [u8], block: &mut [u8]) -> Outcome
+fn judge(from: Stdin, front: &mut [u8], block: &mut [u8]) -> Outcome
     requires { (length front.old ≡ 152) × (length block.old ≡ 65536) }
     ensures { FoundAfter result.input.bytes result.found }
 {
-    let piece = read_front(Input::start(), front);
+    let piece = read_front(Input::start(from), front);
     let got = piece.got;
     let input = piece.input;
     let begun = Judging::begin(&front[..got]);
@@ -134,11 +135,11 @@ fn put_finding(found: Finding, out: &mut [u8]) -> usize
 }
 
 // Reads and judges the log, and puts the line of what was found into the buffer.
-fn judge_line(front: &mut [u8], block: &mut [u8], out: &mut [u8]) -> Line
+fn judge_line(from: Stdin, front: &mut [u8], block: &mut [u8], out: &mut [u8]) -> Line
     requires { (length front.old ≡ 152) × (length block.old ≡ 65536) × (length out.old ≡ 153) }
     ensures { Printed result.input.bytes (take result.end out.new) × (result.end ≤ 153) × (length out.new ≡ 153) }
 {
-    let outcome = judge(front, block);
+    let outcome = judge(from, front, block);
     let found = outcome.found;
     let input = outcome.input;
     let end = put_finding(found, out);
@@ -146,11 +147,11 @@ fn judge_line(front: &mut [u8], block: &mut [u8], out: &mut [u8]) -> Line
 }
 
 // `main` can have no contract: that it writes the line, and only where no read failed, is read off it.
-fn main() {
+fn main(rt: HostRuntime) {
     let mut front = [0u8; 152];
     let mut block = [0u8; 65536];
     let mut out = [0u8; 153];
-    let line = judge_line(&mut front, &mut block, &mut out);
+    let line = judge_line(rt.stdin(), &mut front, &mut block, &mut out);
     let input = line.input;
     if input.has_failed() {
         io::write_all(
