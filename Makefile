@@ -1,6 +1,6 @@
 # make run      builds the bench and plays examples/sheet.hex, document 01's bench sheet
 # make test     the gate: proves everything, tries every wrong program that must be refused, then runs the harness
-# make harness  the harness alone: Rust implementations of the documents and a C program against the proved library and the bench
+# make harness  the harness alone: Rust implementations of the documents and a C program against the proved library and the two programs
 # make edits    tries every wrong program and keeps all that the prover says of it, by which each slip is refused for itself; the gate does it too
 # make tools-test   the tests of the tools for run scripts and what the bench prints, alone; harness runs them too
 # make soak     the harness on a hundred million calls, a million histories of the scan lock, a hundred thousand run scripts, twenty thousand
@@ -8,11 +8,11 @@
 # make measure  instructions of a step, of the judge and of a list of usable cards beside plain C, stack of every call, code size, and the
 #               times of step and judge beside the Rust implementation
 # make time     time of the bench beside the Rust player: 100,000 rounds of 16 modules
-.PHONY: run test harness harness-model harness-calls harness-scripts harness-edits harness-tools harness-c edits tools-test soak measure time library bench rust clean
+.PHONY: run test harness harness-model harness-calls harness-scripts harness-edits harness-tools harness-c edits tools-test soak measure time library bench judge rust clean
 
 LIB := target/staticlib
 # the crates whose calls are exported, each by a thin crate of its own, NAME_c
-EXPORTS := calls lockcalls page
+EXPORTS := calls lockcalls page cardlog link
 BENCH := target/bin/bench
 JUDGE := target/bin/judge
 RUST := target/harness/release
@@ -43,15 +43,19 @@ endif
 	mkdir -p $(dir $(BENCH))
 	cp crates/bench/out/bench $(BENCH)
 
-# the proved judge, $(JUDGE)
+# the proved judge, $(JUDGE), in the same way
 judge:
-	rt check judge
+ifndef GIRMAUT_GATE
+	cd crates/judge && rt run </dev/null >/dev/null
+endif
+	mkdir -p $(dir $(JUDGE))
+	cp crates/judge/out/judge $(JUDGE)
 
 rust: library
 	$(CARGO) build $(CARGO_FLAGS)
 
 # two parts at a time; each prints what it has to say when it is done
-harness: rust bench
+harness: rust bench judge
 	$(MAKE) --no-print-directory -j2 -O harness-tools harness-c harness-calls harness-model harness-scripts
 
 # with the flags of the build, so that nothing is built twice
@@ -88,7 +92,7 @@ harness-c:
 edits:
 	tools/tryedits
 
-tools-test: bench
+tools-test: bench judge
 	$(TOOLS_TEST)
 
 soak: rust bench judge

@@ -5,31 +5,15 @@ An edit is a comment in the first line, which says for each slip what must be so
 
     file: PATH      holds for what follows, below src/, specs/ or proofs/ of the crate
     law: NAME       the law that the slip that follows makes false, and that has to refuse it: LAW, or FILE.LAW where two files have one of that name, or MODULE::FUNCTION;
-                    every slip that is in no function names one, in a definition or, as in a table, in the code. Where two slips are for one law, each names the
-                    field of the law's proof that it makes false, LAW/FIELD; where two are in one function, the answer in its proof, MODULE::FUNCTION/ANSWER
-    also: same slip the replacement that follows belongs to the slip before it; a slip in a definition and in the code, with the proofs between them or not,
-                    is in both alike, and its law has to refuse it
+                    every slip that is in no function names one, in a definition or, as in a table, in the code
+    also: same slip the replacement that follows belongs to the slip before it
     old: TEXT       stands once in the file
     new: TEXT
 
 `rt` reads file:, old: and new:, and passes over every other line.
 """
 import collections
-import os
 import re
-
-from pagetools import ROOT, read
-
-def files(crate):
-    """The edits of a crate, those of both folders: where each stands, by its name."""
-    folder = os.path.join(ROOT, "crates", crate, "must-fail")
-    found = {}
-    for part in (folder, os.path.join(folder, "further")):
-        for name in sorted(os.listdir(part)) if os.path.isdir(part) else ():
-            if name.endswith(".edit"):
-                found[name.removesuffix(".edit")] = os.path.join(part, name)
-    return dict(sorted(found.items()))
-
 
 Slip = collections.namedtuple("Slip", "file law places")
 
@@ -63,17 +47,12 @@ def reason(edit):
     return found[1].strip()
 
 
-def parts(slip):
-    """The folders of the crate that a slip changes."""
-    return {file.split("/")[0] for file, _ in slip.places}
+def is_alike(edit):
+    """Whether an edit makes one slip in definition and code alike, or in the proofs too: then it is a law or a case that has to refuse it."""
+    return reason(edit).endswith("though definition and code have it alike") or "\nfile: proofs/" in edit
 
 
-def is_alike(slip):
-    """Whether a slip is in definition and code alike: then the contracts have it too, and it is a law or a case that has to refuse it."""
-    return {"specs", "src"} <= parts(slip)
-
-
-Error = collections.namedtuple("Error", "file line column name")
+Error = collections.namedtuple("Error", "file name")
 
 
 # what the prover says of a declaration that it did not check, since another that it rests on was refused
@@ -112,18 +91,9 @@ def function_refused(log, name):
     return any(error.file in files for error in errors(log))
 
 
-def field_of(error, proofs):
-    """The field of a law's proof that an error is in, or None."""
-    return field_at(read(os.path.join(proofs, os.path.basename(error.file))), error.line, error.column)
-
-
-def law_refused(log, law, proofs):
-    """Whether the prover refused a law, a theorem or a case for itself, or the field of it that is named; FILE.LAW names its file, and
-    MODULE::FUNCTION stands for a function, or for one answer in its proof. `proofs` is the folder of the proofs as they are without the edit: an edit
-    leaves every line where it was."""
-    law, _, part = law.partition("/")
+def law_refused(log, law):
+    """Whether the prover refused a law, a theorem or a case for itself; FILE.LAW names its file, and MODULE::FUNCTION stands for a function."""
     if "::" in law:
-        return part in answers(log, law) if part else function_refused(log, law)
+        return function_refused(log, law)
     file, _, name = law.rpartition(".")
-    found = [error for error in errors(log) if error.name == name and re.fullmatch(r"\w+/%s\.antt" % (file or r"[^/]+"), error.file)]
-    return any(not part or part == field_of(error, proofs) for error in found)
+    return any(error.name == name and re.fullmatch(r"\w+/%s\.antt" % (file or r"[^/]+"), error.file) for error in errors(log))

@@ -1,6 +1,5 @@
 """How edits that must be refused are read, and what the prover says of them: tools/mustfail.py on small made-up edits and logs."""
 
-import contextlib
 import importlib.machinery
 import importlib.util
 import os
@@ -33,7 +32,6 @@ note: src/part.rt:23:1: it is not proved that what the function ensures holds wh
 fn some::part::right: proved
 fn some::part::low: not proved
 fn some::part::high: not proved; it calls `some::part::low`, which is not proved
-fn some::part::cites: not proved
 fn some::Card::both: not proved; it calls `some::part::low`, which is not proved
 fn some::part::looped: not proved; it calls `some::part::low` and `some::part::made`, which are not proved
 fn some::part::again: not proved; it calls `some::part::low`, which is not proved
@@ -63,16 +61,6 @@ new:     low
 """
 
 
-@contextlib.contextmanager
-def proofs():
-    """A folder of proofs that has TABLE and nothing of the others."""
-    with tempfile.TemporaryDirectory() as folder:
-        for name, text in (("Table", TABLE), ("PartLaws", "\n" * 9)):
-            with open(os.path.join(folder, name + ".antt"), "w", encoding="utf-8") as file:
-                file.write(text)
-        yield folder
-
-
 class Functions(unittest.TestCase):
     def refused(self, name):
         return mustfail.function_refused(LOG, name)
@@ -85,9 +73,6 @@ class Functions(unittest.TestCase):
         self.assertFalse(self.refused("part::high"))
         self.assertFalse(self.refused("part::over"))
         self.assertFalse(self.refused("part::waits"))
-
-    def test_one_whose_proof_only_cites_a_wrong_law_is_not(self):
-        self.assertFalse(self.refused("part::cites"))
 
     def test_a_wrong_one_that_calls_a_wrong_one_is(self):
         self.assertTrue(self.refused("Card::both"))
@@ -110,36 +95,21 @@ class Functions(unittest.TestCase):
 
 
 class Laws(unittest.TestCase):
-    def refused(self, law):
-        with proofs() as folder:
-            return mustfail.law_refused(LOG, law, folder)
-
     def test_a_wrong_law_is_refused_for_itself_and_one_that_uses_it_is_not(self):
-        self.assertTrue(self.refused("cut-law"))
-        self.assertFalse(self.refused("user-law"))
-        self.assertFalse(self.refused("other-law"))
+        self.assertTrue(mustfail.law_refused(LOG, "cut-law"))
+        self.assertFalse(mustfail.law_refused(LOG, "user-law"))
+        self.assertFalse(mustfail.law_refused(LOG, "other-law"))
 
     def test_a_law_may_be_named_with_its_file(self):
-        self.assertTrue(self.refused("PartLaws.cut-law"))
-        self.assertFalse(self.refused("OtherLaws.cut-law"))
-
-    def test_a_field_of_a_law_may_be_named(self):
-        self.assertTrue(self.refused("table-right"))
-        self.assertEqual([self.refused("table-right/" + field) for field in ("first", "second", "third", "fourth", "fifth")], [False, True, False, True, False])
-        self.assertTrue(self.refused("Table.table-right/second"))
+        self.assertTrue(mustfail.law_refused(LOG, "PartLaws.cut-law"))
+        self.assertFalse(mustfail.law_refused(LOG, "OtherLaws.cut-law"))
 
     def test_an_answer_in_the_proof_of_a_function_is_no_law(self):
-        self.assertFalse(self.refused("returns"))
+        self.assertFalse(mustfail.law_refused(LOG, "returns"))
 
     def test_a_function_can_stand_for_a_law(self):
-        self.assertTrue(self.refused("part::low"))
-        self.assertFalse(self.refused("part::high"))
-
-    def test_an_answer_of_a_function_can_stand_for_a_law(self):
-        self.assertTrue(self.refused("part::low/returns"))
-        self.assertTrue(self.refused("Card::both/loop-again"))
-        self.assertFalse(self.refused("Card::both/returns"))
-        self.assertFalse(self.refused("part::high/close"))
+        self.assertTrue(mustfail.law_refused(LOG, "part::low"))
+        self.assertFalse(mustfail.law_refused(LOG, "part::high"))
 
 
 class Edits(unittest.TestCase):
@@ -153,11 +123,10 @@ class Edits(unittest.TestCase):
         twice = EDIT.replace("file: src/part.rt\n", "")
         self.assertEqual([slip.law for slip in mustfail.slips(twice)], ["cut-law", None, None])
 
-    def test_a_slip_in_definition_and_code_is_in_both_alike(self):
-        self.assertEqual([mustfail.is_alike(slip) for slip in mustfail.slips(EDIT)], [False, False, False])
-        joined = mustfail.slips(EDIT.replace("file: src/part.rt\n", "file: src/part.rt\nalso: same slip\n"))
-        self.assertEqual([mustfail.is_alike(slip) for slip in joined], [True, False])
-        self.assertEqual([mustfail.parts(slip) for slip in joined], [{"specs", "src"}, {"src"}])
+    def test_an_edit_that_has_it_alike_says_so_or_changes_proofs(self):
+        self.assertFalse(mustfail.is_alike(EDIT))
+        self.assertTrue(mustfail.is_alike(EDIT.replace("low\nfile", "low, though definition and code have it alike\nfile", 1)))
+        self.assertTrue(mustfail.is_alike(EDIT.replace("src/", "proofs/")))
 
 
 class Alone(unittest.TestCase):

@@ -4,8 +4,8 @@ Every function that outsiders can call, and every inner function that another cr
 not prove it. No function of the first kind has a `requires`; one of the second kind that no other crate calls has to be private.
 
 And every slip is refused for itself, whatever else its edit has: one in the code by the contract of its own function, one in a definition by
-the law that it names. A slip in definition, code and proofs alike is one for the theorems: its functions are proved with it, and still it is
-refused.
+the law that it names. An edit that makes its slip in definition, code and proofs alike is one for the theorems: every function is proved with
+it, and still it is refused.
 """
 
 import os
@@ -93,11 +93,12 @@ def outsiders(page):
 
 
 def edits(crate):
-    return list(mustfail.files(crate))
+    folder = os.path.join(CRATES, crate, "must-fail")
+    return sorted(name[:-5] for name in os.listdir(folder) if name.endswith(".edit")) if os.path.isdir(folder) else []
 
 
 def edit_text(crate, edit):
-    return text(mustfail.files(crate)[edit])
+    return text(CRATES, crate, "must-fail", edit + ".edit")
 
 
 def every_edit():
@@ -113,17 +114,12 @@ def function_at(crate, file, old):
     return next((name_of(crate, file[4:-3], f.struct, f.name) for f in functions(source) if f.first <= at <= f.last), None)
 
 
-def functions_of(crate, slip):
-    """The functions in whose code a slip is."""
-    return {function_at(crate, *place) for place in slip.places} - {None}
-
-
 def slips(crate, content):
-    """Each slip of an edit, by what has to refuse it for itself: the functions in whose code it is, and the law that it names. Where it names an
-    answer in the proof of its function, this alone has to; where definition and code have it alike, the contracts have it too: then only the law."""
+    """Each slip of an edit, by what has to refuse it for itself: the functions in whose code it is, and the law that it names. In an edit that has
+    its slip in definition and code alike, the contracts have it too: then only the laws."""
     for slip in mustfail.slips(content):
-        inside = set() if mustfail.is_alike(slip) else functions_of(crate, slip)
-        yield inside - {(slip.law or "").partition("/")[0]}, slip.law
+        inside = set() if mustfail.is_alike(content) else {function_at(crate, *place) for place in slip.places} - {None}
+        yield inside, slip.law
 
 
 def name_of(crate, module, struct, name):
@@ -177,19 +173,12 @@ class WrongPrograms(unittest.TestCase):
 
     def test_what_c_calls_requires_nothing(self):
         exported = [(crate, name, f.requires) for crate in LISTED for name, f in reachable(crate) if f.exported]
-        self.assertEqual(len(exported), 24)
+        self.assertEqual(len(exported), 22)
         self.assertEqual([name for _, name, requires in exported if requires], [])
 
     def test_both_pages_mean_the_same_outsiders(self):
         self.assertEqual(len(outsiders("WRONG-PROGRAMS.md")), 1)
         self.assertEqual(outsiders("WRONG-PROGRAMS.md"), outsiders("DECISIONS.md"))
-
-    def test_rt_tries_both_edits_of_a_function_that_outsiders_can_call_and_one_of_every_crate(self):
-        tried = {crate: {name for name, path in mustfail.files(crate).items() if os.path.basename(os.path.dirname(path)) == "must-fail"} for crate in os.listdir(CRATES)}
-        for (crate, name), named in self.called.items():
-            with self.subTest(f"{crate} {name}"):
-                self.assertLessEqual(named, tried[crate])
-        self.assertEqual([crate for crate, names in tried.items() if not names], [])
 
     def test_each_row_names_two_edits_of_its_crate(self):
         for (crate, name), named in self.table.items():
@@ -207,36 +196,33 @@ class WrongPrograms(unittest.TestCase):
                         self.assertNotEqual(mustfail.listed(log).get(name), "proved")
                         self.assertIn(name, mustfail.listed(log))
 
-    def test_a_slip_in_definition_and_code_alike_says_so_and_names_its_law(self):
+    def test_an_edit_of_definition_and_code_alike_changes_both(self):
         for crate, edit, content in every_edit():
-            found = mustfail.slips(content)
-            alike = [slip for slip in found if mustfail.is_alike(slip)]
-            with self.subTest(f"{crate} {edit}"):
-                self.assertEqual(len(alike), len(re.findall(r"\bhave it (?:alike|so)\b", mustfail.reason(content))))
-                self.assertEqual([slip.places for slip in alike if not slip.law], [])
-                self.assertEqual([slip.places for slip in found if "proofs" in mustfail.parts(slip) and slip not in alike], [])
+            if "alike" in mustfail.reason(content) or mustfail.is_alike(content):
+                with self.subTest(f"{crate} {edit}"):
+                    self.assertLessEqual({"specs", "src"}, {file.split("/")[0] for slip in mustfail.slips(content) for file, _ in slip.places})
 
     @unittest.skipUnless(IN_GATE or os.path.isdir(LOGS), "no edit has been tried: tools/tryedits does")
     def test_with_a_slip_in_the_proofs_too_every_function_is_proved(self):
         for crate, edit, content in every_edit():
-            found = mustfail.slips(content)
-            proved = [slip for slip in found if "proofs" in mustfail.parts(slip)]
-            log = self.tried(crate, edit) if proved else None
+            log = self.tried(crate, edit) if "\nfile: proofs/" in content else None
             if log is not None:
-                for name in set(mustfail.listed(log)) if proved == found else set().union(*(functions_of(crate, slip) for slip in proved)):
-                    with self.subTest(f"{crate} {edit} {name}"):
-                        self.assertEqual(mustfail.listed(log).get(name), "proved")
+                with self.subTest(f"{crate} {edit}"):
+                    self.assertEqual(set(mustfail.listed(log).values()), {"proved"})
 
     def test_each_slip_that_is_in_no_function_names_its_law(self):
         for crate, edit, content in every_edit():
             with self.subTest(f"{crate} {edit}"):
-                self.assertEqual([slip.places for slip, (inside, law) in zip(mustfail.slips(content), slips(crate, content)) if not inside and not law], [])
+                found = list(slips(crate, content))
+                if mustfail.is_alike(content):
+                    self.assertTrue(any(law for _, law in found), "one `law:` for the whole edit")
+                else:
+                    self.assertEqual([slip.places for slip, (inside, law) in zip(mustfail.slips(content), found) if not inside and not law], [])
 
     def test_each_law_that_a_slip_names_is_one_of_its_crate(self):
         for crate, edit, content in every_edit():
             for law in filter(None, (law for _, law in slips(crate, content))):
                 with self.subTest(f"{crate} {edit} {law}"):
-                    law = law.partition("/")[0]
                     if "::" in law:
                         self.assertIn(law, [name_of(crate, module, f.struct, f.name) for module, source in sources(crate).items() for f in functions(source)])
                     else:
@@ -248,8 +234,7 @@ class WrongPrograms(unittest.TestCase):
         for crate, edit, content in every_edit():
             with self.subTest(f"{crate} {edit}"):
                 found = Counter(who for inside, law in slips(crate, content) for who in (*inside, law) if who)
-                whole = {who.partition("/")[0] for who in found if "/" in who} & set(found)
-                self.assertEqual([who for who, times in found.items() if times > 1 or who in whole], [], "two slips, of which one may hide the other; or write `also:`")
+                self.assertEqual([who for who, times in found.items() if times > 1], [], "two slips, of which one may hide the other; or write `also:`")
 
     @unittest.skipUnless(IN_GATE or os.path.isdir(LOGS), "no edit has been tried: tools/tryedits does")
     def test_each_slip_is_refused_for_itself(self):
@@ -261,7 +246,7 @@ class WrongPrograms(unittest.TestCase):
                         self.assertTrue(mustfail.function_refused(log, name), mustfail.listed(log).get(name, "not named"))
                 if law:
                     with self.subTest(f"{crate} {edit} {law}"):
-                        self.assertTrue(mustfail.law_refused(log, law, os.path.join(CRATES, crate, "proofs")), "not refused, or not for itself")
+                        self.assertTrue(mustfail.law_refused(log, law), "not refused, or not for itself")
 
 
 if __name__ == "__main__":

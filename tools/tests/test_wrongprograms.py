@@ -8,7 +8,6 @@ import unittest
 
 from common import ROOT, TOOLS, tool
 
-import mustfail
 import pagetools
 
 loader = importlib.machinery.SourceFileLoader("wrongprograms", os.path.join(TOOLS, "wrongprograms"))
@@ -25,7 +24,9 @@ class Page(unittest.TestCase):
 
     def test_every_edit_has_one_line(self):
         rows = re.findall(r"^\| (\w+) \| (\w+) \| (?:code|definition|code, definition|code, definition, proofs) \| \S.* \| (?:`[^|]+`)? \|$", pagetools.read(wrongprograms.PAGE), re.M)
-        there = [(crate, name) for crate in sorted(os.listdir(os.path.join(ROOT, "crates"))) for name in mustfail.files(crate)]
+        folders = os.path.join(ROOT, "crates")
+        there = [(crate, name[:-5]) for crate in sorted(os.listdir(folders)) if os.path.isdir(os.path.join(folders, crate, "must-fail"))
+                 for name in sorted(os.listdir(os.path.join(folders, crate, "must-fail"))) if name.endswith(".edit")]
         self.assertGreater(len(there), 30)
         self.assertEqual(rows, there)
 
@@ -41,7 +42,7 @@ class Page(unittest.TestCase):
 
     def test_an_edit_without_a_reason_is_named(self):
         for wrong in (ONE.split("\n", 1)[1], "#\n" + ONE.split("\n", 1)[1], ONE.replace("src/", "proofs/")):
-            with self.assertRaisesRegex(ValueError, "setup, edit head"):
+            with self.assertRaisesRegex(ValueError, "crates/setup/must-fail/head.edit"):
                 wrongprograms.table([("setup", "head", wrong)])
 
 
