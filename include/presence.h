@@ -25,6 +25,15 @@
  *   presence_page_write      the host's write of flags or enable
  *   presence_page_interrupt  whether the interrupt to the host is on
  *
+ * One for those who are sent logs of another maker's cards:
+ *
+ *   presence_judge           log  -> whether all that the card claims is right
+ *
+ * And one for stands of several backplanes (see SEVERAL BACKPLANES):
+ *
+ *   presence_link_list       image of a link and the views of the backplanes
+ *                                 -> which cards of the stand are usable
+ *
  * All are in libgirmaut.a (make library); libcalls.a (harness/staticlib calls)
  * has the first eight alone.
  *

@@ -120,13 +120,16 @@ played-health-requires c =
     let o = words_right_lem _ s f r.0 good in
     let (h, k) = part_held _ (λ i. omega (arith, c.shared_slice_known-1.given i)) o z.2 form (r.1 (not-false _ good)) in
     let l = both-lengths _ _ _ _ c.if-out-long.false in
-    record { image_value = (o, sym (state-size _ s f refl), form ∙ sym (read-form _), h, c.turned-limits.ensures _ _ k); partitionable_value = (
+    record {
+      image_value = (o, sym (state-size _ s f refl), form ∙ sym (read-form _), h, c.turned-limits.ensures _ _ k);
+      partitionable_value = (
         parted-by _ c.word_at.ensures c.bit_at-partitionable.ensures ∙ sym (read-parted _),
         l.1 ∙ ap (λ (k : ℕ). k * 4) c.read_words.ensures,
         rw c.power.ensures at c.if-power-controller.false,
         l.0 ∙ c.image_length-long.ensures ∙ (λ i. image_length (c.front_words.ensures.0 i) c.image_size-n.result (c.left_after.ensures i) c.bit_at-partitionable.result),
         (r.1 (not-false _ good)).marked,
-      ) }
+      );
+    }
 
 pub returns : goal.returns
 returns c =

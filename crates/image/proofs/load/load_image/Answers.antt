@@ -35,8 +35,7 @@ check_change-change-requires c =
 pub views_good-views-requires : goal.views_good-views-requires
 views_good-views-requires c =
     let f = c.front_words-front.ensures in
-    let head = c.word_at-head.ensures in
-    (
+    let head = c.word_at-head.ensures in (
       f.2,
       c.requires.n_bound.0,
       length_found c.args.fades c.args.n (word_at c.args.s.now) f.0 c.left_at-at.ensures c.word_at-left.ensures
@@ -66,8 +65,11 @@ pub load_accounts-right-requires : goal.load_accounts-right-requires
 load_accounts-right-requires c =
     let q = c.field-q.ensures ∙ ap return_limit_in c.word_at-head.ensures in
     let a = c.requires.n_bound in
-    record { n_bound = asked_by _ _ c.args.fades c.limits_at-limits.ensures c.front_words-front.ensures.0 a.0 (omega (arith, a.1)) (sym c.limits_right.ensures ∙ not-false _ c.if-not-limits_right.false-raw) q
-          (omega (arith, q, a.4)) c.load_modules-modules.ensures.1 c.load_words-alone.ensures.2; first_value = (c.requires.criticality_value.2, c.requires.criticality_value.3, c.requires.criticality_value.4) }
+    record {
+      n_bound = asked_by _ _ c.args.fades c.limits_at-limits.ensures c.front_words-front.ensures.0 a.0 (omega (arith, a.1)) (sym c.limits_right.ensures ∙ not-false _ c.if-not-limits_right.false-raw) q
+          (omega (arith, q, a.4)) c.load_modules-modules.ensures.1 c.load_words-alone.ensures.2;
+      first_value = (c.requires.criticality_value.2, c.requires.criticality_value.3, c.requires.criticality_value.4);
+    }
 
 pub returns : goal.returns
 returns c =

@@ -7,8 +7,7 @@ use Rattle.text.proofs.judge_line.put_accepted.Goals as goal
 
 pub returns : goal.returns
 unfolding accepted_line
-returns c =
-    (
-      wrote_then (wrote_then c.put_text-a.ensures c.put_wide-b.ensures.0) c.put_text.ensures,
-      omega (arith, c.put_text-a.ensures.next, c.put_wide-b.ensures.1, c.put_text.ensures.next),
-    )
+returns c = (
+  wrote_then (wrote_then c.put_text-a.ensures c.put_wide-b.ensures.0) c.put_text.ensures,
+  omega (arith, c.put_text-a.ensures.next, c.put_wide-b.ensures.1, c.put_text.ensures.next),
+)
