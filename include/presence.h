@@ -43,15 +43,15 @@
  * variables and no C library calls, but presence_judge calls memcpy.  With
  * counts and with fading (see SETUP), with head bit 5 and without, an accepted
  * presence_step takes 1,096 bytes of stack (measured with an older kit, for N =
- * 2, 4, 8 and 16)
- * and a refused one 1,240, presence_page_step 1,360 and 1,496,
+ * 2, 4, 8 and 16) and a refused one 1,240, presence_page_step 1,360 and 1,496,
  * presence_page_open 408, presence_open 296, presence_change 280, presence_save
  * 200; no other call takes more than 184, but presence_judge, which is not for
  * cards, 3,208.
  *
  * Instructions of an accepted presence_step and presence_page_step (page), the
- * most that were counted (with an older kit) in quiet and loud rounds and in rounds in which
- * modules outside the view count or return, with every l at N and with others.
+ * most that were counted (with an older kit) in quiet and loud rounds and in
+ * rounds in which modules outside the view count or return, with every l at N
+ * and with others.
  * They do not grow steadily with N: 3 modules take more than 4, with counts 5
  * to 7 more than 8 and with fading 6 and 7, 11 more than 12, 13 to 15 more than
  * 16.

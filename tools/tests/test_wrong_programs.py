@@ -20,8 +20,8 @@ from trials import LOGS, log_of
 
 CRATES = os.path.join(ROOT, "crates")
 # crates whose functions the table lists; nothing is built on bench, and agreement has no code
-LISTED = ("words", "doubles", "setup", "vote", "rules", "accounts", "changes", "views", "image", "presence", "calls", "page", "script", "text", "bus", "backplane", "scanlock", "lockcalls",
-          "calls_c", "page_c", "lockcalls_c")
+LISTED = ("words", "doubles", "setup", "vote", "rules", "accounts", "changes", "views", "image", "presence", "calls", "page", "script", "text", "bus", "backplane", "scanlock", "lockcalls", "cardlog", "link",
+          "calls_c", "page_c", "lockcalls_c", "cardlog_c", "link_c")
 # set by the gate, which has tried every edit (tools/tryedits) before it runs these tests
 IN_GATE = "GIRMAUT_GATE" in os.environ
 
