@@ -32,10 +32,10 @@
  * Nothing is kept between calls: the result of a call and the bytes it writes
  * follow from its arguments alone.  The functions use no heap, no static
  * variables and no C library calls.  With counts and with fading (see SETUP),
- * with head bit 5 and without, an accepted presence_step takes 1,112 bytes of
- * stack (measured with an older kit, N = 2, 4, 8, 16) and a refused one 1,272,
- * presence_page_step 1,352 and 1,512, presence_page_open 408, presence_open
- * 312, presence_change 296, presence_save 216; no other call takes more than
+ * with head bit 5 and without, an accepted presence_step takes 888 bytes of
+ * stack (measured, for N = 2 and 16) and a refused one 1,016,
+ * presence_page_step 1,096 and 1,224, presence_page_open 520, presence_open
+ * 312, presence_change 232, presence_save 184; no other call takes more than
  * 200.
  *
  * Instructions of an accepted presence_step and presence_page_step (page), the
