@@ -18,7 +18,8 @@ pub struct Account {
     pub returns: u32,
 }
 
-// The accounts of all modules, and the view.
+// The accounts of all modules, and the view. An array for each counter, and not an array of accounts: an image has them so, and so a step takes them,
+// four modules at a time.
 #[derive(Clone, Copy)]
 pub struct Counters {
     pub penalty: [u32; 16],

@@ -25,35 +25,38 @@ impl Account {
     }
 }
 
+impl Counters {
+    // The account of module j + 1.
+    #[tactic(auto, unfolding(crate::specs::Round::account_at))]
+    fn account(&self, j: usize) -> Account
+        requires { j < 16 }
+        ensures { result ≡ account_at self.now j }
+    {
+        Account {
+            present: bit_at(self.view, j),
+            penalty: self.penalty[j],
+            reward: self.reward[j],
+            score: self.score[j],
+            returns: self.returns[j],
+        }
+    }
+}
+
 // All modules.
 pub fn counters(setup: Setup, health: u32, c: Counters) -> Counters
     requires n_bound { setup.n ≤ 16 }
     requires by_index { (j : ℕ) → j < setup.n → AccountRange setup.limits setup.q (get_or setup.criticality j 0) (account_at c j) }
     ensures { result ≡ counters_of setup health c }
 {
-    let n = setup.n;
-    let limits = setup.limits;
     let mut view: u32 = 0;
     let mut penalty = [0u32; 16];
     let mut reward = [0u32; 16];
     let mut score = [0.0; 16];
     let mut returns = [0u32; 16];
-    for j in 0..n {
-        let present = bit_at(c.view, j);
-        let owed = c.penalty[j];
-        let earned = c.reward[j];
-        let held = c.score[j];
-        let counted = c.returns[j];
-        let was = Account {
-            present,
-            penalty: owed,
-            reward: earned,
-            score: held,
-            returns: counted,
-        };
-        let criticality = setup.criticality[j];
+    for j in 0..setup.n {
+        let was = c.account(j);
         let healthy = bit_at(health, j);
-        let next = was.next(limits, setup.q, criticality, healthy);
+        let next = was.next(setup.limits, setup.q, setup.criticality[j], healthy);
         view = with_bit(view, j, next.present);
         penalty[j] = next.penalty;
         reward[j] = next.reward;
@@ -68,6 +71,10 @@ pub fn counters(setup: Setup, health: u32, c: Counters) -> Counters
         returns,
     }
 }
+
+// By counts and by scores: two functions, and not one over a trait. The trait would have what differs as its members, how an account is read and written
+// back, the limits, the round of one module, and how many modules are gone through (a score past N would not stay 0.0), and with their laws be longer
+// than both.
 
 // All modules by counts, their counters in lent arrays; the answer is the view. Modules are taken four at a time, those past n among them, whose
 // counters stay 0; their bits of the view are cut off.
@@ -92,15 +99,12 @@ pub fn count(
 {
     let mut view: u32 = 0;
     for j in 0..(n + 3) / 4 * 4 {
-        let owed = penalty[j];
-        let earned = reward[j];
-        let counted = returns[j];
         let was = Account {
-            present: owed <= p,
-            penalty: owed,
-            reward: earned,
+            present: penalty[j] <= p,
+            penalty: penalty[j],
+            reward: reward[j],
             score: 0.0,
-            returns: counted,
+            returns: returns[j],
         };
         let healthy = bit_at(health, j);
         let next = was.accounted(p, r, q, criticality[j], healthy);
@@ -134,13 +138,12 @@ pub fn fade(
     let mut view: u32 = 0;
     for j in 0..n {
         let held = of_words(high[j], low[j]);
-        let counted = returns[j];
         let was = Account {
             present: held < limit,
             penalty: 0,
             reward: 0,
             score: held,
-            returns: counted,
+            returns: returns[j],
         };
         let healthy = bit_at(health, j);
         let next = was.faded(factor, limit, q, healthy);

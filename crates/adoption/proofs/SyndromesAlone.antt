@@ -9,7 +9,7 @@ use Rattle.words.specs.Bits.{bit, full}
 use Rattle.words.specs.Word.{word_at}
 use Rattle.words.specs.Array.{array}
 use Rattle.words.specs.Verdict.{is_accepted, single, first_refusal}
-use Rattle.words.specs.declared.Verdict.{Verdict}
+use Rattle.words.specs.Verdict.{Verdict}
 use Rattle.words.proofs.Truth.{iff-eq, cond-false}
 use Rattle.words.proofs.BitLaws.{pack-ext}
 use Rattle.words.proofs.LowestLaws.{lowest-le}

@@ -23,7 +23,7 @@ use Rattle.rules.specs.Syndrome.{outgoing_of}
 use Rattle.views.specs.ViewWord.{view_word}
 use Rattle.presence.specs.Opening.{fresh}
 use Rattle.presence.specs.Step.{skew_of, place_of, mark_of, own_syndrome, aligned_for, outgoing_for, outgoing_view, after_round}
-use Rattle.rules.specs.declared.Entry.{Entry}
+use Rattle.rules.specs.Hearing.{Entry}
 use Rattle.presence.specs.declared.State.{State}
 use Rattle.rules.proofs.ReceptionLaws.{below-kind, row-of-bus, bus-heard, entry_row, reading-heard, reading-row}
 use Rattle.rules.proofs.AlignmentLaws.{aligned-heard, aligned-row}

@@ -7,7 +7,7 @@ use mathlib.Core.List.{List, [], ◌∷◌}
 use native.Mathlib.Omega.{arith}
 use native.Mathlib.Nat.{eq-or-lt_of_le, le_refl}
 use Rattle.words.specs.Verdict.{is_accepted, and_then}
-use Rattle.words.specs.declared.Verdict.{Verdict}
+use Rattle.words.specs.Verdict.{Verdict}
 use Rattle.words.proofs.VerdictLaws.{and-then-next}
 use Rattle.setup.specs.Check.{setup_verdict}
 use Rattle.setup.specs.declared.Setup.{Setup}

@@ -11,7 +11,7 @@ use Rattle.words.specs.Bits.{bit}
 use Rattle.changes.specs.declared.Books.{Books}
 use Rattle.presence.specs.Step.{books_of}
 use Rattle.presence.specs.Change.{with_pending}
-use Rattle.presence.specs.declared.Opened.{Opened}
+use Rattle.presence.specs.Opening.{Opened}
 use Rattle.presence.specs.declared.State.{State}
 use Rattle.agreement.specs.Session.{Offer, made, Session, Accepted, size, u, follows, RuleFollower, round, state, ready, Common, Bound, kept_by, kept}
 use Rattle.agreement.specs.Fault.{limit}

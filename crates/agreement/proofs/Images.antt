@@ -15,7 +15,7 @@ use Rattle.setup.specs.Layout.{front_words}
 use Rattle.setup.specs.Setup.{partitionable_in, front_in, front_of, setup_of}
 use Rattle.setup.specs.Check.{setup_verdict}
 use Rattle.setup.specs.RoundTrip.{ShapedSetup}
-use Rattle.words.specs.declared.Verdict.{Verdict}
+use Rattle.words.specs.Verdict.{Verdict}
 use Rattle.setup.specs.declared.Setup.{Setup}
 use Rattle.setup.proofs.SetupRoundTrip.{round_trip as setups}
 use Rattle.rules.specs.Hearing.{bus_word}
@@ -33,7 +33,7 @@ use Rattle.calls.specs.Calls.{Called, handed_out, view_handed_out, open_call, st
 use Rattle.presence.specs.RoundTrip.{Shaped}
 use Rattle.calls.specs.Refusals.{size_of}
 use Rattle.presence.specs.declared.State.{State}
-use Rattle.presence.specs.declared.Stepped.{Stepped}
+use Rattle.presence.specs.Step.{Stepped}
 use Rattle.calls.specs.declared.WordAnswer.{WordAnswer}
 use Rattle.presence.proofs.StateChangeLaws.{change-refused, change-taken}
 use Rattle.calls.proofs.ModuleCallLaws.{read-sized, left_is, handed_out_lem, view-handed-out}

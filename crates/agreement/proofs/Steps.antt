@@ -21,8 +21,8 @@ use Rattle.presence.specs.Step.{place_of, mark_of, own_syndrome, read_length, al
 use Rattle.presence.specs.Change.{with_pending, change_of}
 use Rattle.rules.specs.declared.Reading.{Reading}
 use Rattle.presence.specs.declared.State.{State}
-use Rattle.presence.specs.declared.Opened.{Opened}
-use Rattle.presence.specs.declared.Stepped.{Stepped}
+use Rattle.presence.specs.Opening.{Opened}
+use Rattle.presence.specs.Step.{Stepped}
 use Rattle.presence.proofs.ValidLaws.{StateFits, fits-valid, fresh-fits, after-fits}
 use Rattle.presence.proofs.StateStepLaws.{step-accepts, step-refused, open-accepts}
 use Rattle.presence.proofs.StateChangeLaws.{change-refused}

@@ -16,7 +16,7 @@ use Rattle.presence.specs.Opening.{open_of}
 use Rattle.presence.specs.Step.{step_of}
 use Rattle.presence.specs.Change.{change_of}
 use Rattle.presence.specs.declared.State.{State}
-use Rattle.presence.specs.declared.Stepped.{Stepped}
+use Rattle.presence.specs.Step.{Stepped}
 use Rattle.agreement.specs.Fault.{Round, follows_in, first_follower, half, heard, limit}
 
 -- a change that is offered: a whole setup with new P, R and criticalities, and how many rounds ahead it takes the old one's place

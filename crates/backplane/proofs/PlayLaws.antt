@@ -1,21 +1,28 @@
 -- A backplane put together from what the functions of a round answer.
 use Prim.Native.Nat.{ℕ, ◌+◌, ◌<◌, ◌≤◌}
-use mathlib.Core.Path.{◌≡◌, ap, ap₂, ◌∙◌}
+use mathlib.Core.Path.{◌≡◌, refl, sym, ap, ap₂, ◌∙◌}
 use mathlib.Core.Bool.{Bool, true, false, cond, ◌&&◌}
 use mathlib.Core.List.{List, ◌++◌}
+use Rattle.std.proofs.Common.{Result, Ok, Err}
+use Rattle.std.specs.Result.{result_unwrap_or}
+use Rattle.std.proofs.lemmas.List.{set-get_or}
 use native.Mathlib.Omega.{arith}
 use native.Mathlib.Nat.{le_refl}
-use lib.ListN.{get_or, length, length-append, take}
+use lib.ListN.{get_or, set, length, length-append, take}
 use lib.Seq.{take-append_seam}
 use Rattle.words.specs.Bits.{bit, full}
 use Rattle.words.specs.Array.{array}
 use Rattle.words.specs.Table.{updated}
-use Rattle.words.proofs.TableLaws.{updated-above, get_or-there}
+use Rattle.words.specs.declared.Refusal.{Refusal}
+use Rattle.words.proofs.ArrayLaws.{array-step, array-above}
+use Rattle.words.proofs.TableLaws.{updated-step, updated-above, get_or-there}
 use Rattle.setup.specs.declared.Setup.{Setup}
 use Rattle.rules.specs.Lag.{skewed}
 use Rattle.views.specs.ViewWord.{read_words}
-use Rattle.presence.specs.Opening.{blank}
+use Rattle.presence.specs.Opening.{Opened, blank, opened_told}
 use Rattle.presence.specs.declared.State.{State}
+use Rattle.presence.specs.Step.{Stepped, stepped_told}
+use Rattle.presence.specs.declared.Round.{Round}
 use Rattle.script.specs.declared.Events.{Events}
 use Rattle.agreement.specs.Fault.{follows_in, kept_over}
 use Rattle.bus.specs.Bus.{faultless, arrived}
@@ -38,6 +45,36 @@ front_fits front rest e = rw (length-append front rest) (omega (arith, e))
 
 pub front-taken : {k : ℕ} (front rest : List ℕ) → length front ≡ k → take k (front ++ rest) ≡ front
 front-taken front rest e = rw (← e) (take-append_seam front rest)
+
+-- a module that is opened, or blank where that is refused
+opened_or : (r : Result State Refusal) → result_unwrap_or r blank ≡ (opened_told r).state
+opened_or (Ok state) = refl
+opened_or (Err e) = refl
+
+pub opened-or : {state none : State} {o : Opened} (r : Result State Refusal) → state ≡ result_unwrap_or r none → none ≡ blank → opened_told r ≡ o → state ≡ o.state
+opened-or r e b h = e ∙ ap (result_unwrap_or r) b ∙ opened_or r ∙ ap (λ (o : Opened). o.state) h
+
+-- ---- a turn of the loop that steps the modules, in which the step of module i + 1 answers r
+
+module _ (r : Result Round Refusal) (answer : ℕ → Stepped) (i : ℕ) (st : State) (e : stepped_told st r ≡ answer i) where
+  -- it is accepted
+  pub state-stepped : {now : List State} {x : Round} (before : List State) → r ≡ Ok x → now ≡ updated i (λ k. (answer k).state) before
+      → set now i x.state ≡ updated (i + 1) (λ k. (answer k).state) before
+  state-stepped before k h = updated-step i (λ k. (answer k).state) before h (ap (λ (t : Stepped). t.state) (ap (stepped_told st) (sym k) ∙ e))
+
+  pub health-stepped : {now : List ℕ} {x : Round} → r ≡ Ok x → now ≡ array i (λ k. (answer k).health) → set now i x.health ≡ array (i + 1) (λ k. (answer k).health)
+  health-stepped k h = array-step i (λ k. (answer k).health) h (ap (λ (t : Stepped). t.health) (ap (stepped_told st) (sym k) ∙ e))
+
+  -- it is refused
+  pub state-kept : {now : List State} {x : Refusal} (d : State) (before : List State) → r ≡ Err x → get_or now i d ≡ st → now ≡ updated i (λ k. (answer k).state) before
+      → now ≡ updated (i + 1) (λ k. (answer k).state) before
+  state-kept {now} {x} d before k g h =
+      sym (set-get_or now i d) ∙ updated-step i (λ k. (answer k).state) before h (g ∙ ap (λ (t : Stepped). t.state) (ap (stepped_told st) (sym k) ∙ e))
+
+  pub health-none : {now : List ℕ} {x : Refusal} → i < 16 → r ≡ Err x → now ≡ array i (λ k. (answer k).health) → now ≡ array (i + 1) (λ k. (answer k).health)
+  health-none {now} l k h =
+      let z : get_or now i 0 ≡ 0 = ap (λ (a : List ℕ). get_or a i 0) h ∙ array-above i (λ k. (answer k).health) i (le_refl i) l in
+      sym (set-get_or now i 0) ∙ array-step i (λ k. (answer k).health) h (z ∙ ap (λ (t : Stepped). t.health) (ap (stepped_told st) (sym k) ∙ e))
 
 -- a read has at most 32 words
 pub read-most : (partitionable : Bool) (n : ℕ) → n ≤ 16 → read_words partitionable n ≤ 32

@@ -21,7 +21,7 @@ use Rattle.views.specs.ViewWord.{view_word}
 use Rattle.presence.specs.Opening.{blank}
 use Rattle.presence.specs.Step.{step_of}
 use Rattle.presence.specs.declared.State.{State}
-use Rattle.presence.specs.declared.Stepped.{Stepped}
+use Rattle.presence.specs.Step.{Stepped}
 use Rattle.script.specs.declared.Events.{Events}
 use Rattle.agreement.specs.Fault.{senders, kept_over, limit}
 use Rattle.agreement.specs.Session.{Session, Accepted, Partitionable, size, follows, bit_in, word_in, view_word_in, round, read_round, read_bits, read_bytes, answer_at, state, ready, health, sent, view_word_sent}

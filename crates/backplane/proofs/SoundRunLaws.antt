@@ -17,7 +17,7 @@ use Rattle.setup.proofs.SetupLaws.{SetupFits}
 use Rattle.presence.specs.Valid.{Valid}
 use Rattle.presence.specs.Opening.{blank, open_of}
 use Rattle.presence.specs.Step.{step_of}
-use Rattle.presence.specs.declared.Opened.{Opened}
+use Rattle.presence.specs.Opening.{Opened}
 use Rattle.presence.specs.declared.State.{State}
 use Rattle.presence.proofs.StateStepLaws.{open-accepts, open-valid, step-valid, step-refused}
 use Rattle.script.specs.Check.{check_script}

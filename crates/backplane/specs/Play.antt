@@ -12,7 +12,7 @@ use Rattle.presence.specs.Valid.{Valid}
 use Rattle.presence.specs.Opening.{blank, open_of}
 use Rattle.presence.specs.Step.{step_of}
 use Rattle.presence.specs.declared.State.{State}
-use Rattle.presence.specs.declared.Stepped.{Stepped}
+use Rattle.presence.specs.Step.{Stepped}
 use Rattle.script.specs.declared.Events.{Events}
 use Rattle.agreement.specs.Fault.{follows_in, first_follower, kept_over}
 use Rattle.bus.specs.Bus.{faultless, arrived, words_read, bits_read}
@@ -62,12 +62,16 @@ sent_words n states = array n (λ j. bus_word ((state_at states j).latest % kind
 unfoldable pub sent_views : ℕ → List State → List ℕ
 sent_views n states = array n (λ j. view_word ((state_at states j).counters.view % kind_unit))
 
--- the step of module i + 1, on its read by rule 3 of this round's bus and the one before; view words are read where the setup is partitionable
-unfoldable pub step_at : Setup → List State → Bus → Bus → ℕ → Stepped
-step_at s states this before i =
+-- the step of module i + 1 from its state, on its read by rule 3 of this round's bus and the one before; view words are read where the setup is
+-- partitionable
+abbrev pub step_in : State → Setup → Bus → Bus → ℕ → Stepped
+step_in state s this before i =
     let place = get_or s.places i 0 in
-    step_of (state_at states i) (words_read s.partitionable s.n place i this.words before.words this.views before.views)
+    step_of state (words_read s.partitionable s.n place i this.words before.words this.views before.views)
     (bits_read s.n place (get_or this.bits i 0) (get_or before.bits i 0))
+
+unfoldable pub step_at : Setup → List State → Bus → Bus → ℕ → Stepped
+step_at s states this before i = step_in (state_at states i) s this before i
 
 -- the states that the steps of all modules hand back
 unfoldable pub stepped_states : Setup → List State → Bus → Bus → List State

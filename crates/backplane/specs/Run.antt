@@ -1,7 +1,9 @@
 -- A run: a script played round by round. (document 01, "What runs" and "Bench sheet")
-use Rattle.std.specs.Prelude.{ℕ, zero, suc, Bool, true, cond, not, ◌&&◌, List, ltb, get_or}
+use Rattle.std.specs.Prelude.{ℕ, zero, suc, Bool, true, cond, not, ◌&&◌, List, ltb, get_or, Result, Ok, Err}
 use Rattle.words.specs.Word.{word_at}
 use Rattle.words.specs.Verdict.{is_accepted}
+use Rattle.words.specs.Refusal.{code}
+use Rattle.words.specs.declared.Refusal.{Refusal}
 use Rattle.setup.specs.Setup.{blank_setup}
 use Rattle.setup.specs.Check.{setup_part, read_setup}
 use Rattle.presence.specs.Shown.{shown_view}
@@ -14,7 +16,6 @@ use Rattle.text.specs.Lines.{lines_of}
 use Rattle.backplane.specs.Play.{state_at, opened, played}
 use Rattle.backplane.specs.declared.Backplane.{Backplane}
 use Rattle.backplane.specs.declared.Run.{Run}
-use Rattle.backplane.specs.declared.Started.{Started}
 
 -- before round 1 of an accepted script
 unfoldable pub begun : List ℕ → Run
@@ -23,6 +24,17 @@ begun s = record { cursor = start s; backplane = opened (read_setup (setup_part 
 -- what is held where a script is refused: nothing to play
 unfoldable pub idle : Run
 idle = record { cursor = record { at = 0; left = 0; over = true; events = none }; backplane = opened blank_setup 0 }
+
+-- what starting a script answers
+pub record Started : Type 0 where
+  pub number : ℕ
+  pub index : ℕ
+  pub run : Run
+
+-- the same as code has it; with a refusal there is nothing to play
+abbrev pub start_told : Result Run Refusal → Started
+start_told (Ok run) = record { number = 0; index = 0; run = run }
+start_told (Err e) = record { number = code e.number; index = e.index; run = idle }
 
 -- what starting a script answers; it is checked whole before anything of it is played
 unfoldable pub start_of : List ℕ → Started

@@ -33,18 +33,3 @@ pub struct Run {
     cursor: Cursor,
     backplane: Backplane,
 }
-
-// The run after the rounds whose lines were written, and the place after the lines.
-#[derive(Clone, Copy)]
-pub struct Filled {
-    pub run: Run,
-    pub end: usize,
-}
-
-// What starting a run answers.
-#[derive(Clone, Copy)]
-pub struct Started {
-    pub number: u32,
-    pub index: u32,
-    pub run: Run,
-}

@@ -1,24 +1,24 @@
 // A whole backplane, round by round.
 ghost use Rattle.std.specs.Prelude.{◌≡◌, ℕ, ◌≤◌, ◌<◌, ◌^◌};
 ghost use Rattle.presence.specs.Valid.{Valid};
-ghost use Rattle.presence.specs.Step.{step_of};
-ghost use Rattle.bus.specs.Bus.{words_read};
-ghost use Rattle.backplane.specs.Play.{state_at, Sound, opened_states, opened, sent_words, sent_views, stepped_states, answered_health, earlier, followers_view, counting_view, played};
+ghost use Rattle.presence.specs.Step.{stepped_told};
+ghost use Rattle.backplane.specs.Play.{state_at, Sound, step_in, opened_states, opened, sent_words, sent_views, stepped_states, answered_health, earlier, followers_view, counting_view, played};
 
 use crate::Backplane;
 use bus::arrivals::{arrived, faultless, put_read, read_bits};
 use bus::half_heard::{first_follower, hearing};
 use bus::limit::kept_over;
 use bus::{Bus, Hearing};
-use presence::{State, Stepped};
+use presence::{Round, State};
 use rules::hearing::bus_word;
 use rules::lag::is_skewed;
 use script::Events;
 use setup::Setup;
 use views::read::read_words;
 use views::word::view_word;
-use words::array::filled;
-use words::bits::{full_of, pick};
+use words::Refusal;
+use words::array::{filled, from_fn};
+use words::bits::full_of;
 use words::word::KIND;
 
 // What the steps of a round give: the states, and the health vectors answered.
@@ -33,122 +33,83 @@ fn opened_states(setup: Setup) -> [State; 16]
     requires { setup.n ≤ 16 }
     ensures { result ≡ opened_states setup }
 {
-    let first = State::open(setup, 1);
-    let state = first.state;
-    let mut states = [state; 16];
+    let mut states = [State::open(setup, 1).unwrap_or(State::blank()); 16];
     for i in 0..setup.n {
-        let one = State::open(setup, i + 1);
-        let state = one.state;
-        states[i] = state;
+        states[i] = State::open(setup, i + 1).unwrap_or(State::blank());
     }
     states
 }
 
 // The words sent in the next round: all hold the syndromes of this one.
-fn sent_words(n: usize, states: [State; 16]) -> [u32; 16]
+fn sent_words(n: usize, states: &[State; 16]) -> [u32; 16]
     requires { n ≤ 16 }
-    ensures { result ≡ sent_words n states }
+    ensures { result ≡ sent_words n states.now }
 {
-    let mut sent = [0u32; 16];
-    for j in 0..n {
-        let state = states[j];
-        sent[j] = bus_word(state.latest() % KIND);
-    }
-    sent
+    from_fn(n, |j| bus_word(states[j].latest() % KIND))
 }
 
 // The view words sent in the next round: all hold the local views of this one.
-fn sent_views(n: usize, states: [State; 16]) -> [u32; 16]
+fn sent_views(n: usize, states: &[State; 16]) -> [u32; 16]
     requires { n ≤ 16 }
-    ensures { result ≡ sent_views n states }
+    ensures { result ≡ sent_views n states.now }
 {
-    let mut sent = [0u32; 16];
-    for j in 0..n {
-        let state = states[j];
-        sent[j] = view_word(state.view() % KIND);
-    }
-    sent
+    from_fn(n, |j| view_word(states[j].view() % KIND))
 }
 
 // The step of module i + 1 on its read, of N words or with the view words of 2N.
 fn step_one(
     state: State,
-    partitionable: bool,
-    n: usize,
-    place: u32,
+    setup: &Setup,
     i: usize,
-    this: &[u32; 256],
-    before: &[u32; 256],
-    this_views: &[u32; 256],
-    before_views: &[u32; 256],
-    bits: u32,
-) -> Stepped
-    requires { (n ≤ 16) × (i < 16) × Valid state }
-    ensures { result ≡ step_of state
-        (words_read partitionable n place i this.now before.now this_views.now before_views.now) bits }
+    this: &Bus,
+    before: &Bus,
+) -> Result<Round, Refusal>
+    requires { (setup.now.n ≤ 16) × (i < 16) × Valid state }
+    ensures { stepped_told state result ≡ step_in state setup.now this.now before.now i }
 {
+    let n = setup.n;
+    let place = setup.places[i];
     let mut read = [0u8; 128];
-    let k = read_words(partitionable, n) * 4;
+    let k = read_words(setup.partitionable, n) * 4;
     put_read(
-        partitionable,
+        setup.partitionable,
         n,
         place,
         i,
-        this,
-        before,
-        this_views,
-        before_views,
+        &this.words,
+        &before.words,
+        &this.views,
+        &before.views,
         &mut read[..k],
     );
-    state.stepped(&read[..k], bits)
+    state.stepped(
+        &read[..k],
+        read_bits(n, place, this.bits[i], before.bits[i]),
+    )
 }
 
-// The steps of all modules in the round whose bus is `this`.
-fn step_all(setup: Setup, held: [State; 16], this: Bus, before: Bus) -> Steps
-    requires { (setup.n ≤ 16) × ((i : ℕ) → i < setup.n → Valid (state_at held i)) }
-    ensures { (result.states ≡ stepped_states setup held this before) × (result.health ≡ answered_health setup held this before) }
+// The steps of all modules in the round whose bus is `this`. One that is refused leaves its state as it was, and its health vector is 0.
+fn step_all(setup: &Setup, held: [State; 16], this: &Bus, before: &Bus) -> Steps
+    requires { (setup.now.n ≤ 16) × ((i : ℕ) → i < setup.now.n → Valid (state_at held i)) }
+    ensures { (result.states ≡ stepped_states setup.now held this.now before.now) × (result.health ≡ answered_health setup.now held this.now before.now) }
 {
-    let n = setup.n;
-    let partitionable = setup.partitionable;
-    let places = setup.places;
-    let this_bits = this.bits;
-    let this_words = this.words;
-    let this_views = this.views;
-    let before_bits = before.bits;
-    let before_words = before.words;
-    let before_views = before.views;
     let mut states = held;
     let mut health = [0u32; 16];
-    for i in 0..n {
-        let bits = read_bits(n, places[i], this_bits[i], before_bits[i]);
-        let state = states[i];
-        let answer = step_one(
-            state,
-            partitionable,
-            n,
-            places[i],
-            i,
-            &this_words,
-            &before_words,
-            &this_views,
-            &before_views,
-            bits,
-        );
-        let next = answer.state;
-        states[i] = next;
-        health[i] = answer.health;
+    for i in 0..setup.n {
+        if let Ok(round) = step_one(states[i], setup, i, this, before) {
+            states[i] = round.state;
+            health[i] = round.health;
+        }
     }
     Steps { states, health }
 }
 
 // The rule-followers' view: the local view of the lowest of them.
-fn followers_view(n: usize, cast: u32, states: [State; 16]) -> u32
+fn followers_view(n: usize, cast: u32, states: &[State; 16]) -> u32
     requires { n ≤ 16 }
-    ensures { result ≡ followers_view n cast states }
+    ensures { result ≡ followers_view n cast states.now }
 {
-    let i = first_follower(n, cast);
-    let state = states[i];
-    state.view()
+    states[first_follower(n, cast)].view()
 }
 
 impl Backplane {
@@ -180,31 +141,24 @@ impl Backplane {
         requires { self.setup.n ≤ 16 }
         ensures { result ≡ earlier self }
     {
-        let setup = self.setup;
-        let places = setup.places;
-        if is_skewed(setup.n, places) {
-            let before = self.before;
-            return before;
+        if is_skewed(self.setup.n, self.setup.places) {
+            self.before
+        } else {
+            self.hearing
         }
-        let hearing = self.hearing;
-        hearing
     }
 
     // The view by which the rows of the next round are counted, where `after` are the states after it.
-    fn counting(self, after: [State; 16]) -> u32
+    fn counting(self, after: &[State; 16]) -> u32
         requires { self.setup.n ≤ 16 }
-        ensures { result ≡ counting_view self after }
+        ensures { result ≡ counting_view self after.now }
     {
-        let setup = self.setup;
-        let n = setup.n;
-        let places = setup.places;
-        let held = self.states;
-        let skew = is_skewed(n, places);
-        pick(
-            skew,
-            followers_view(n, self.cast, after),
-            followers_view(n, self.cast, held),
-        )
+        let n = self.setup.n;
+        if is_skewed(n, self.setup.places) {
+            followers_view(n, self.cast, after)
+        } else {
+            followers_view(n, self.cast, &self.states)
+        }
     }
 
     // The next round with these events.
@@ -212,31 +166,24 @@ impl Backplane {
         requires { Sound self × (self.round < 2 ^ 31) }
         ensures { result ≡ played self events }
     {
-        let setup = self.setup;
-        let n = setup.n;
-        let held = self.states;
-        let sent = sent_words(n, held);
-        let views = sent_views(n, held);
+        let n = self.setup.n;
+        let sent = sent_words(n, &self.states);
+        let views = sent_views(n, &self.states);
         let bus = arrived(n, sent, views, events);
-        let last = self.bus;
-        let steps = step_all(setup, held, bus, last);
-        let states = steps.states;
-        let health = steps.health;
+        let steps = step_all(&self.setup, self.states, &bus, &self.bus);
         let heard = hearing(n, self.cast, bus);
-        let view = self.counting(states);
+        let view = self.counting(&steps.states);
         let then = self.earlier();
         let kept = self.kept & kept_over(n, self.cast, view, heard, then);
-        let before = self.hearing;
         Backplane {
-            setup,
-            cast: self.cast,
             round: self.round + 1,
-            states,
-            health,
+            states: steps.states,
+            health: steps.health,
             bus,
             hearing: heard,
-            before,
+            before: self.hearing,
             kept,
+            ..self
         }
     }
 }

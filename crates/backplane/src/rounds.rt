@@ -1,39 +1,35 @@
-// A run script, played round by round, with the lines of many rounds put into a buffer to be written at once.
-ghost use Rattle.std.specs.Prelude.{◌≡◌, ◌+◌, ◌≤◌, ◌<◌, length};
+// A run script, played round by round, with the lines of many rounds put into one text to be written at once.
+ghost use Rattle.std.specs.Prelude.{◌≡◌, ◌+◌, ◌≤◌, ◌<◌, ◌++◌};
+ghost use Rattle.arrayvec.specs.ArrayVec.{array_vec_len};
 ghost use Rattle.words.specs.Array.{array};
 ghost use Rattle.presence.specs.Shown.{shown_view};
-ghost use Rattle.text.specs.Wrote.{Wrote};
 ghost use Rattle.backplane.specs.Play.{state_at, Sound};
 ghost use Rattle.backplane.specs.Run.{next_of, later, printed};
 ghost use Rattle.backplane.specs.Output.{round_lines, next_lines};
 
-use crate::{Filled, Run};
+use crate::Run;
+use arrayvec::ArrayVec;
 use presence::State;
 use script::MOST_ROUNDS;
 use text::line::put_lines;
+use words::array::from_fn;
 
 // The views of the modules that their lines show.
-fn views(n: usize, states: [State; 16]) -> [u32; 16]
+fn views(n: usize, states: &[State; 16]) -> [u32; 16]
     requires { n ≤ 16 }
-    ensures { result ≡ array n (λ i. shown_view (state_at states i)) }
+    ensures { result ≡ array n (λ i. shown_view (state_at states.now i)) }
 {
-    let mut views = [0u32; 16];
-    for i in 0..n {
-        let state = states[i];
-        views[i] = state.shown();
-    }
-    views
+    from_fn(n, |i| states[i].shown())
 }
 
-// Writes the lines of the round that a run has come to, if the script is not over.
-fn put_round(run: Run, out: &mut [u8], at: usize) -> usize
-    requires { (run.backplane.setup.n ≤ 16) × (at + 832 ≤ length out.old) }
-    ensures { Wrote out.old at (round_lines run) out.new result × (result ≤ at + 832) }
+// Adds the lines of the round that a run has come to, if the script is not over.
+fn put_round<const N: usize>(run: Run, out: &mut ArrayVec<u8, N>)
+    requires { (run.backplane.setup.n ≤ 16) × (array_vec_len out.old + 832 ≤ N) }
+    ensures { (out.new.items ≡ out.old.items ++ round_lines run) × (array_vec_len out.new ≤ array_vec_len out.old + 832) }
 {
-    if run.over() {
-        return at;
+    if !run.over() {
+        run.put_lines(out);
     }
-    run.put_lines(out, at)
 }
 
 impl Run {
@@ -56,32 +52,27 @@ impl Run {
         Run { cursor, backplane }
     }
 
-    // Writes the lines of the round at a place of the output, and answers the place after them.
-    fn put_lines(self, out: &mut [u8], at: usize) -> usize
-        requires { (self.backplane.setup.n ≤ 16) × (at + 832 ≤ length out.old) }
-        ensures { Wrote out.old at (printed self.backplane) out.new result × (result ≤ at + 832) }
+    // Adds the lines of the round.
+    fn put_lines<const N: usize>(self, out: &mut ArrayVec<u8, N>)
+        requires { (self.backplane.setup.n ≤ 16) × (array_vec_len out.old + 832 ≤ N) }
+        ensures { (out.new.items ≡ out.old.items ++ printed self.backplane) × (array_vec_len out.new ≤ array_vec_len out.old + 832) }
     {
         let b = self.backplane;
-        let setup = b.setup;
-        let states = b.states;
-        let health = b.health;
-        let view = views(setup.n, states);
-        put_lines(out, at, setup.n, b.round, b.kept, health, view)
+        let n = b.setup.n;
+        let view = views(n, &b.states);
+        put_lines(out, n, b.round, b.kept, b.health, view);
     }
 
-    // Plays 64 rounds, or as many as are left, and writes their lines to the front of the output. (64 times 832 bytes is 53,248.)
-    pub fn fill(self, s: &[u8], out: &mut [u8]) -> Filled
-        requires { Sound self.backplane × (53248 ≤ length out.old) }
-        ensures { (result.run ≡ later s.now self 64)
-            × Wrote out.old 0 (next_lines s.now self 64) out.new result.end }
+    // Plays 64 rounds, or as many as are left, and adds their lines to the output. (64 times 832 bytes is 53,248.)
+    pub fn fill<const N: usize>(self, s: &[u8], out: &mut ArrayVec<u8, N>) -> Run
+        requires { Sound self.backplane × (array_vec_len out.old + 53248 ≤ N) }
+        ensures { (result ≡ later s.now self 64) × (out.new.items ≡ out.old.items ++ next_lines s.now self 64) }
     {
         let mut run = self;
-        let mut at: usize = 0;
         for _ in 0..64u32 {
-            let next = run.next(s);
-            run = next;
-            at = put_round(run, out, at);
+            run = run.next(s);
+            put_round(run, out);
         }
-        Filled { run, end: at }
+        run
     }
 }

@@ -9,8 +9,9 @@ ghost use Rattle.backplane.specs.Output.{read_most, parts_of};
 use crate::play;
 use crate::written::Written;
 
-// Room for what is read, and how many bytes of it were read.
-#[derive(Clone, Copy)]
+// Room for what is read, and how many bytes of it were read: two fields, since a read fills lent bytes and answers how many, and the contract of `read`
+// promises something of both.
+#[derive(Drop)]
 pub struct Input {
     bytes: [u8; 65537],
     got: usize,
@@ -27,12 +28,10 @@ impl Input {
     }
 
     // Plays what was read, and nothing else.
-    pub fn play(self) -> Written
-        requires { IsPrefixLen self.got self.bytes }
-        ensures { result.parts ≡ parts_of (take self.got self.bytes) }
+    pub fn play(&self) -> Written
+        requires { IsPrefixLen self.now.got self.now.bytes }
+        ensures { result.parts ≡ parts_of (take self.now.got self.now.bytes) }
     {
-        let bytes = self.bytes;
-        let got = self.got;
-        play(&bytes[..got])
+        play(&self.bytes[..self.got])
     }
 }

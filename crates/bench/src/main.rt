@@ -6,14 +6,17 @@
 mod input;
 mod written;
 
-ghost use Rattle.std.specs.Prelude.{◌≡◌, ◌≢◌};
+ghost use Rattle.std.specs.Prelude.{◌≡◌};
+ghost use Rattle.words.specs.Refusal.{refusal_told};
 ghost use Rattle.script.specs.Check.{check_script};
 ghost use Rattle.backplane.specs.Run.{begun};
 ghost use Rattle.backplane.specs.Output.{parts_of};
 
+use arrayvec::ArrayVec;
 use backplane::Run;
 use input::Input;
 use text::line::put_refusal;
+use words::Refusal;
 use written::Written;
 
 // Plays an accepted script, and writes all its parts.
@@ -21,42 +24,35 @@ fn write_rounds(run: Run, script: &[u8]) -> Written
     requires { ((check_script script.now).number ≡ 0) × (run ≡ begun script.now) }
     ensures { result.parts ≡ parts_of script.now }
 {
-    let mut out = [0u8; 53248];
+    let mut out: ArrayVec<u8, 53248> = ArrayVec::new();
     let mut now = run;
     let mut written = Written::nothing();
-    let mut over = false;
-    while !over {
-        let filled = now.fill(script, &mut out);
-        let more = written.with_part(script, &out, filled.end);
-        written = more;
-        now = filled.run;
-        over = now.over();
+    while !now.over() {
+        out.clear();
+        now = now.fill(script, &mut out);
+        written = written.with_part(script, &out);
     }
     written
 }
 
 // Writes the line of a refusal, the only part that a refused script has.
-fn write_refusal(script: &[u8], number: u32, index: u32) -> Written
-    requires { ((check_script script.now).number ≢ 0)
-        × (number ≡ (check_script script.now).number) × (index ≡ (check_script script.now).index) }
+fn write_refusal(script: &[u8], refusal: &Refusal) -> Written
+    requires { refusal_told refusal.now ≡ check_script script.now }
     ensures { result.parts ≡ parts_of script.now }
 {
-    let mut out = [0u8; 33];
-    let end = put_refusal(&mut out, 0, number, index);
-    let nothing = Written::nothing();
-    nothing.with_part(script, &out, end)
+    let mut out: ArrayVec<u8, 33> = ArrayVec::new();
+    put_refusal(&mut out, refusal);
+    Written::nothing().with_part(script, &out)
 }
 
 // Plays the script, or says by what number and at which word it is refused.
 fn play(script: &[u8]) -> Written
     ensures { result.parts ≡ parts_of script.now }
 {
-    let started = Run::start(script);
-    if started.number != 0 {
-        return write_refusal(script, started.number, started.index);
+    match Run::start(script) {
+        Ok(run) => write_rounds(run, script),
+        Err(refusal) => write_refusal(script, &refusal),
     }
-    let run = started.run;
-    write_rounds(run, script)
 }
 
 // `main` can have no contract: that it reads once and plays what was read is read off its first two lines.

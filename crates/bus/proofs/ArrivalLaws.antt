@@ -5,7 +5,8 @@ use mathlib.Core.Bool.{Bool, true, false, cond, not}
 use mathlib.Core.List.{List, [], ◌++◌, append-nil}
 use native.Mathlib.Omega.{arith}
 use lib.Dec.{eqb}
-use lib.ListN.{get_or, length, drop, length-append, length-drop}
+use lib.ListN.{get_or, length, drop, replicate, length-append, length-drop, length-replicate, get_or-replicate}
+use Rattle.std.proofs.Common.{ext_get_or}
 use Rattle.words.specs.Word.{word_at, bytes_of}
 use Rattle.words.specs.Bits.{pack, full}
 use Rattle.words.specs.Array.{array}
@@ -13,7 +14,7 @@ use Rattle.words.specs.Runs.{put_run}
 use Rattle.words.specs.Table.{table}
 use Rattle.words.proofs.ByteLaws.{bytes-length, bytes-all, word-front, word_of, word_after}
 use Rattle.words.proofs.RunLaws.{put-run}
-use Rattle.words.proofs.TableLaws.{table_at}
+use Rattle.words.proofs.TableLaws.{table-length, table_at}
 use Rattle.words.proofs.Truth.{cond-true, cond-false}
 use Rattle.rules.specs.Hearing.{bus_word}
 use Rattle.views.specs.ViewWord.{view_word, read_words}
@@ -49,10 +50,16 @@ pub arrived-by : {bits words views : List ℕ} (n : ℕ) (sent sent_views : List
 unfolding arrived
 arrived-by n sent sent_views e p q r = rw (p, q, r)
 
-pub faultless-by : {ones word view : ℕ} {bits words views : List ℕ} (n : ℕ) → ones ≡ full n → bits ≡ array n (λ i. ones) → word ≡ bus_word ones
-    → words ≡ table (λ x. word) → view ≡ view_word ones → views ≡ table (λ x. view) → record { bits = bits; words = words; views = views } ≡ faultless n
+-- the same number 256 times
+table-same : (w : ℕ) → replicate 256 w ≡ table (λ x. w)
+table-same w =
+    ext_get_or 0 (replicate 256 w) (table (λ x. w)) (length-replicate {A = ℕ} 256 w ∙ sym (table-length (λ x. w)))
+    (λ i h. let k : i < 256 = omega (arith, length-replicate {A = ℕ} 256 w) in get_or-replicate {A = ℕ} 256 i w 0 k ∙ sym (table_at (λ x. w) i k))
+
+pub faultless-by : {ones word view : ℕ} {bits : List ℕ} (n : ℕ) → ones ≡ full n → bits ≡ array n (λ i. ones) → word ≡ bus_word ones
+    → view ≡ view_word ones → record { bits = bits; words = replicate 256 word; views = replicate 256 view } ≡ faultless n
 unfolding faultless
-faultless-by n o p w q v r = rw (p, q, r, w, v, o)
+faultless-by {word = word} {view = view} n o p w v = rw (table-same word, table-same view, p, w, v, o)
 
 -- ---- what is read
 

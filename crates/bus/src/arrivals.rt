@@ -12,19 +12,9 @@ use rules::hearing::bus_word;
 use script::Events;
 use views::word::view_word;
 use words::array::filled;
-use words::bits::{bit_at, full_of, pick, with_bit};
+use words::bits::{bit_at, full_of, pick};
 use words::word::put_word;
-
-// The same number 256 times.
-fn repeated(w: u32) -> [u32; 256]
-    ensures { result ≡ table (λ x. w) }
-{
-    let mut words = [0u32; 256];
-    for x in 0..256 {
-        words[x] = w;
-    }
-    words
-}
+use words::{array, bits};
 
 // In rounds before 1 all hear all, with all-ones words and words of the full view.
 pub fn faultless(n: usize) -> Bus
@@ -32,10 +22,11 @@ pub fn faultless(n: usize) -> Bus
     ensures { result ≡ faultless n }
 {
     let ones = full_of(n);
-    let bits = filled(n, ones);
-    let words = repeated(bus_word(ones));
-    let views = repeated(view_word(ones));
-    Bus { bits, words, views }
+    Bus {
+        bits: filled(n, ones),
+        words: [bus_word(ones); 256],
+        views: [view_word(ones); 256],
+    }
 }
 
 // The controller bits of receiver i + 1: those of lost words are clear.
@@ -43,11 +34,7 @@ fn bits_to(n: usize, fate: &[u32; 256], i: usize) -> u32
     requires { (n ≤ 16) × (i < 16) }
     ensures { result ≡ pack n (λ j. not (eqb (get_or fate.now (i * 16 + j) 0) 7)) }
 {
-    let mut bits: u32 = 0;
-    for j in 0..n {
-        bits = with_bit(bits, j, fate[i * 16 + j] != 7);
-    }
-    bits
+    bits::from_fn(n, |j| fate[i * 16 + j] != 7)
 }
 
 // The controller bits of all receivers.
@@ -55,11 +42,7 @@ fn arrived_bits(n: usize, fate: &[u32; 256]) -> [u32; 16]
     requires { n ≤ 16 }
     ensures { result ≡ array n (λ i. pack n (λ j. not (eqb (get_or fate.now (i * 16 + j) 0) 7))) }
 {
-    let mut bits = [0u32; 16];
-    for i in 0..n {
-        bits[i] = bits_to(n, fate, i);
-    }
-    bits
+    array::from_fn(n, |i| bits_to(n, fate, i))
 }
 
 // The words or the view words at all receivers: a told one in place of the one sent.
@@ -78,13 +61,11 @@ pub fn arrived(n: usize, sent: [u32; 16], sent_views: [u32; 16], events: Events)
     requires { n ≤ 16 }
     ensures { result ≡ arrived n sent sent_views events }
 {
-    let fate = events.fate;
-    let told = events.told;
-    let told_views = events.views;
-    let bits = arrived_bits(n, &fate);
-    let words = arrived_words(sent, &fate, &told);
-    let views = arrived_words(sent_views, &fate, &told_views);
-    Bus { bits, words, views }
+    Bus {
+        bits: arrived_bits(n, &events.fate),
+        words: arrived_words(sent, &events.fate, &events.told),
+        views: arrived_words(sent_views, &events.fate, &events.views),
+    }
 }
 
 // Rule 3: the words, or the view words, that module i + 1 reads, those of this round below its read place; from `at` on.
@@ -130,14 +111,10 @@ pub fn put_read(
 }
 
 // Rule 3: the controller bits of that read.
+#[tactic(auto, unfolding(crate::specs::Bus::bits_read))]
 pub fn read_bits(n: usize, place: u32, this: u32, before: u32) -> u32
     requires { n ≤ 16 }
     ensures { result ≡ bits_read n place this before }
 {
-    let mut bits: u32 = 0;
-    for j in 0..n {
-        let from = pick((j as u32) < place, this, before);
-        bits = with_bit(bits, j, bit_at(from, j));
-    }
-    bits
+    bits::from_fn(n, |j| bit_at(pick((j as u32) < place, this, before), j))
 }

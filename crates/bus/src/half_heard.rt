@@ -7,21 +7,20 @@ ghost use Rattle.bus.specs.Senders.{hearing_of};
 
 use crate::{Bus, Hearing};
 use rules::hearing::receive;
-use words::bits::{bit_at, pick, with_bit};
+use words::bits::{bit_at, from_fn, pick};
 
 // The word w where it is heard, else 0, which no heard word is.
 fn heard_word(n: usize, on: bool, w: u32) -> u32
     requires { n ≤ 16 }
     ensures { result ≡ heard_word n on w }
 {
-    let r = receive(n, on, w);
-    pick(r.is_heard(), w, 0)
+    pick(receive(n, on, w).is_ok(), w, 0)
 }
 
 // The heard words of all receivers.
-fn heard_words(n: usize, bits: [u32; 16], words: &[u32; 256]) -> [u32; 256]
+fn heard_words(n: usize, bits: &[u32; 16], words: &[u32; 256]) -> [u32; 256]
     requires { n ≤ 16 }
-    ensures { result ≡ heard_words n bits words.now }
+    ensures { result ≡ heard_words n bits.now words.now }
 {
     let mut heard = [0u32; 256];
     for x in 0..256 {
@@ -35,16 +34,7 @@ pub fn first_follower(n: usize, cast: u32) -> usize
     requires { n ≤ 16 }
     ensures { result ≡ first_follower n (follows_in cast) }
 {
-    let mut i: usize = 0;
-    loop {
-        if n <= i {
-            break 0;
-        }
-        if !bit_at(cast, i) {
-            break i;
-        }
-        i += 1;
-    }
+    (0..n).find(|&i| !bit_at(cast, i)).unwrap_or(0)
 }
 
 // Whether a rule-follower has another word of sender j + 1 than w.
@@ -64,11 +54,7 @@ fn half_heard(n: usize, cast: u32, heard: &[u32; 256], i: usize) -> u32
     requires { (n ≤ 16) × (i < 16) }
     ensures { result ≡ pack n (λ j. otherwise n cast heard.now j (get_or heard.now (i * 16 + j) 0)) }
 {
-    let mut half: u32 = 0;
-    for j in 0..n {
-        half = with_bit(half, j, otherwise(n, cast, heard, j, heard[i * 16 + j]));
-    }
-    half
+    from_fn(n, |j| otherwise(n, cast, heard, j, heard[i * 16 + j]))
 }
 
 // The senders that a rule-follower hears.
@@ -76,11 +62,7 @@ fn heard_senders(n: usize, cast: u32, heard: &[u32; 256]) -> u32
     requires { n ≤ 16 }
     ensures { result ≡ pack n (λ j. otherwise n cast heard.now j 0) }
 {
-    let mut senders: u32 = 0;
-    for j in 0..n {
-        senders = with_bit(senders, j, otherwise(n, cast, heard, j, 0));
-    }
-    senders
+    from_fn(n, |j| otherwise(n, cast, heard, j, 0))
 }
 
 // How the rule-followers hear the senders of a round.
@@ -88,9 +70,7 @@ pub fn hearing(n: usize, cast: u32, bus: Bus) -> Hearing
     requires { n ≤ 16 }
     ensures { result ≡ hearing_of n cast bus }
 {
-    let bits = bus.bits;
-    let words = bus.words;
-    let heard = heard_words(n, bits, &words);
+    let heard = heard_words(n, &bus.bits, &bus.words);
     let i = first_follower(n, cast);
     Hearing {
         half: half_heard(n, cast, &heard, i),

@@ -11,7 +11,7 @@ use Rattle.words.proofs.Truth.{cond-true}
 use Rattle.words.specs.Verdict.{is_accepted}
 use Rattle.setup.specs.Setup.{setup_of}
 use Rattle.setup.specs.Check.{check_setup}
-use Rattle.words.specs.declared.Verdict.{Verdict}
+use Rattle.words.specs.Verdict.{Verdict}
 use Rattle.image.specs.Check.{check_image}
 use Rattle.presence.specs.Opening.{open_of}
 use Rattle.presence.specs.Step.{step_of}
@@ -19,7 +19,7 @@ use Rattle.presence.specs.Change.{change_of}
 use Rattle.presence.specs.Image.{image_of, state_of, room_for, room_after}
 use Rattle.calls.specs.Calls.{Called, refused_call, wrote, open_call, step_call, change_call, save_call}
 use Rattle.presence.specs.declared.State.{State}
-use Rattle.presence.specs.declared.Changed.{Changed}
+use Rattle.presence.specs.Change.{Changed}
 
 -- ---- what a call of three tests gives: of what it reads, of what it makes, of the room in its output
 

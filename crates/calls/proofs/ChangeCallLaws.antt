@@ -1,18 +1,17 @@
 -- What a change from C answers and leaves in its output, by the test that decides it.
 use mathlib.Core.Path.{◌≡◌, refl, ap, ap₂, ◌∙◌, sym}
-use mathlib.Core.Bool.{Bool, true, false, not, ◌&&◌, ◌||◌}
+use mathlib.Core.Bool.{Bool, true, false, ◌&&◌}
 use mathlib.Core.List.{List}
 use Prim.Native.Nat.{ℕ, ◌+◌, ◌*◌, ◌<◌, ◌≤◌}
 use native.Mathlib.Omega.{arith}
 use lib.ListN.{length}
-use mathlib.Core.Logic.{◌⊎◌, inl, inr}
-use lib.Dec.{eqb, leb, ltb}
-use borrow.Author.Tests.{eq-eqb, ne_eqb, lt-leb, eqb-true, ltb-true, ltb-false, not-true, not-false}
+use lib.Dec.{eqb}
+use borrow.Author.Tests.{eq-eqb, ne_eqb, eqb-true}
 use Rattle.words.specs.Word.{word_at}
 use Rattle.words.specs.Verdict.{verdict, accepted, is_accepted, between}
-use Rattle.words.specs.declared.Verdict.{Verdict}
-use Rattle.words.proofs.Truth.{cond-true, cond-false, and-true, and-false-l, and_false_r, or_cases, or-false-l, or-false-r}
-use Rattle.words.proofs.VerdictLaws.{between-of}
+use Rattle.words.specs.Verdict.{Verdict}
+use Rattle.words.proofs.Truth.{cond-true, cond-false, and_l, and_r}
+use Rattle.words.proofs.VerdictLaws.{between_is}
 use Rattle.setup.specs.Setup.{size_in, partitionable_in, fades_in, setup_of}
 use Rattle.setup.specs.Layout.{front_words}
 use Rattle.setup.specs.Check.{check_setup}
@@ -83,61 +82,45 @@ module _ (image new : List ℕ) (lead : ℕ) (out : List ℕ) where
         setup-ok : is_accepted (check_setup new) ≡ true
         setup-ok = eq-eqb _ 0 setup-is
 
-        pub change-other-frame : {r : Answer} → not same ≡ true → r ≡ answer 23 0 0 → called r out ≡ change_call image new lead out
+        pub change-other-frame : {r : Answer} → same ≡ false → r ≡ answer 23 0 0 → called r out ≡ change_call image new lead out
         change-other-frame f q =
             refused-by {v = verdict 23 0}
-            (changing-verdict image new lead out ∙ cond-true _ _ image-ok ∙ cond-true _ _ setup-ok ∙ cond-false _ _ (sym es ∙ not-true same f)) refl q
+            (changing-verdict image new lead out ∙ cond-true _ _ image-ok ∙ cond-true _ _ setup-ok ∙ cond-false _ _ (sym es ∙ f)) refl q
 
-        pub left-room : {n at : ℕ} → not same ≡ false → n ≡ size_in (word_at image 0) → at ≡ left_at 3 n → at * 4 + 4 ≤ length image
+        pub left-room : {n at : ℕ} → same ≡ true → n ≡ size_in (word_at image 0) → at ≡ left_at 3 n → at * 4 + 4 ≤ length image
         left-room fs en ea =
-            let f : front_words (fades_in (word_at image)) ≡ 3 = ap front_words (forms image new image-is setup-is (sym es ∙ not-false same fs)).0 in
+            let f : front_words (fades_in (word_at image)) ≡ 3 = ap front_words (forms image new image-is setup-is (sym es ∙ fs)).0 in
             omega (arith, ea, en, f, (held image new image-is setup-is).size)
 
-        module _ (fs : not same ≡ false) {n left : ℕ} (en : n ≡ size_in (word_at image 0)) (el : left ≡ word_at image (left_at 3 n)) where
+        module _ (fs : same ≡ true) {n left : ℕ} (en : n ≡ size_in (word_at image 0)) (el : left ≡ word_at image (left_at 3 n)) where
           pub same-is : same_frame (setup_of image) (setup_of new) ≡ true
-          same-is = sym es ∙ not-false same fs
+          same-is = sym es ∙ fs
 
           left_is : left ≡ left_in image
           left_is = counting image (forms image new image-is setup-is same-is).0 en el
 
-          follows : Bool
-          follows = eqb (left_in image) 0 && between 1 most_lead lead
+          -- nothing is pending, and the lead is in range
+          abbrev follows : Bool
+          follows = eqb left 0 && between 1 most_lead lead
 
-          not-follows : not (eqb left 0) || (ltb lead 1 || ltb 1000 lead) ≡ true → follows ≡ false
-          unfolding follows
-          not-follows t = go (or_cases (not (eqb left 0)) _ t)
-            where
-              range : (ltb lead 1 ≡ true) ⊎ (ltb 1000 lead ≡ true) → between 1 most_lead lead ≡ false
-              range (inl a) = and-false-l (leb 1 lead) _ (lt-leb 1 lead (ltb-true lead 1 a))
-              range (inr b) = and_false_r (leb 1 lead) _ (lt-leb lead 1000 (ltb-true 1000 lead b))
+          follows-is : eqb (left_in image) 0 && between 1 most_lead lead ≡ follows
+          follows-is = ap (λ (k : ℕ). eqb k 0 && between 1 most_lead lead) (sym left_is)
 
-              go : (not (eqb left 0) ≡ true) ⊎ (ltb lead 1 || ltb 1000 lead ≡ true) → eqb (left_in image) 0 && between 1 most_lead lead ≡ false
-              go (inl a) = and-false-l (eqb (left_in image) 0) _ (ap (λ (k : ℕ). eqb k 0) (sym left_is) ∙ not-true (eqb left 0) a)
-              go (inr b) = and_false_r (eqb (left_in image) 0) _ (range (or_cases (ltb lead 1) _ b))
+          pub some-rounds : follows ≡ true → 0 < lead
+          some-rounds t = let l = (between_is 1 most_lead lead (and_r (eqb left 0) _ t)).0 in omega arith
 
-          it-follows : not (eqb left 0) || (ltb lead 1 || ltb 1000 lead) ≡ false → follows ≡ true
-          unfolding follows
-          it-follows f =
-              let r = or-false-r (not (eqb left 0)) _ f in
-              and-true (eqb (left_in image) 0) _ (ap (λ (k : ℕ). eqb k 0) (sym left_is) ∙ not-false (eqb left 0) (or-false-l (not (eqb left 0)) _ f))
-              (between-of 1 most_lead lead (ltb-false lead 1 (or-false-l (ltb lead 1) _ r)) (ltb-false 1000 lead (or-false-r (ltb lead 1) _ r)))
+          pub none-pending : follows ≡ true → word_at image (left_at 3 n) ≡ 0
+          none-pending t = sym el ∙ eqb-true left 0 (and_l (eqb left 0) _ t)
 
-          pub some-rounds : not (eqb left 0) || (ltb lead 1 || ltb 1000 lead) ≡ false → 0 < lead
-          some-rounds f = ltb-false lead 1 (or-false-l (ltb lead 1) _ (or-false-r (not (eqb left 0)) _ f))
-
-          pub none-pending : not (eqb left 0) || (ltb lead 1 || ltb 1000 lead) ≡ false → word_at image (left_at 3 n) ≡ 0
-          none-pending f = sym el ∙ eqb-true left 0 (not-false (eqb left 0) (or-false-l (not (eqb left 0)) _ f))
-
-          pub change-no-lead : {r : Answer} → not (eqb left 0) || (ltb lead 1 || ltb 1000 lead) ≡ true → r ≡ answer 24 0 0 → called r out ≡ change_call image new lead out
-          unfolding follows
-          change-no-lead t q =
+          pub change-no-lead : {r : Answer} → follows ≡ false → r ≡ answer 24 0 0 → called r out ≡ change_call image new lead out
+          change-no-lead f q =
               refused-by {v = verdict 24 0}
-              (changing-verdict image new lead out ∙ cond-true _ _ image-ok ∙ cond-true _ _ setup-ok ∙ cond-true _ _ same-is ∙ cond-false _ _ (not-follows t)) refl q
+              (changing-verdict image new lead out ∙ cond-true _ _ image-ok ∙ cond-true _ _ setup-ok ∙ cond-true _ _ same-is ∙ cond-false _ _ (follows-is ∙ f)) refl q
 
-          module _ (ff : not (eqb left 0) || (ltb lead 1 || ltb 1000 lead) ≡ false) {long : ℕ} {t : Bool} (parted : t ≡ partitionable_in (word_at image 0)) (eg : long ≡ image_length 3 n lead t) where
+          module _ (ff : follows ≡ true) {long : ℕ} {t : Bool} (parted : t ≡ partitionable_in (word_at image 0)) (eg : long ≡ image_length 3 n lead t) where
             -- how long it is, by the head
-            pub change-long : length out ≡ long → length out ≡ image_length 3 n lead (partitionable_in (word_at image 0))
-            change-long e = e ∙ eg ∙ ap (image_length 3 n lead) parted
+            pub change-long : eqb (length out) long ≡ true → length out ≡ image_length 3 n lead (partitionable_in (word_at image 0))
+            change-long e = eqb-true (length out) long e ∙ eg ∙ ap (image_length 3 n lead) parted
 
             room-is : has_room image lead out ≡ eqb (length out) long
             room-is =
@@ -145,17 +128,15 @@ module _ (image new : List ℕ) (lead : ℕ) (out : List ℕ) where
                 (ap (λ (b : Bool). image_length (front_words b) (size_in (word_at image 0)) lead (partitionable_in (word_at image 0))) (forms image new image-is setup-is same-is).0
                 ∙ ap₂ (λ (m : ℕ) (d : Bool). image_length 3 m lead d) (sym en) (sym parted) ∙ sym eg)
 
-            pub change-no-room : {r : Answer} → (length out ≡ long → ⊥) → r ≡ answer 9 0 0 → called r out ≡ change_call image new lead out
-            unfolding follows
+            pub change-no-room : {r : Answer} → eqb (length out) long ≡ false → r ≡ answer 9 0 0 → called r out ≡ change_call image new lead out
             change-no-room f q =
                 refused-by {v = verdict 9 0}
-                (changing-verdict image new lead out ∙ cond-true _ _ image-ok ∙ cond-true _ _ setup-ok ∙ cond-true _ _ same-is ∙ cond-true _ _ (it-follows ff)
-                ∙ cond-false _ _ (room-is ∙ ne_eqb (length out) long f)) refl q
+                (changing-verdict image new lead out ∙ cond-true _ _ image-ok ∙ cond-true _ _ setup-ok ∙ cond-true _ _ same-is ∙ cond-true _ _ (follows-is ∙ ff)
+                ∙ cond-false _ _ (room-is ∙ f)) refl q
 
-            pub change-done : {r : Answer} {b : List ℕ} → length out ≡ long → r ≡ answer 0 0 0
+            pub change-done : {r : Answer} {b : List ℕ} → eqb (length out) long ≡ true → r ≡ answer 0 0 0
                 → b ≡ image_of (with_pending (state_of image) (pending_of (setup_of new) lead)) → called r b ≡ change_call image new lead out
-            unfolding follows
             change-done e q w =
                 taken-by
-                (changing-verdict image new lead out ∙ cond-true _ _ image-ok ∙ cond-true _ _ setup-ok ∙ cond-true _ _ same-is ∙ cond-true _ _ (it-follows ff)
-                ∙ cond-true _ _ (room-is ∙ eq-eqb (length out) long e)) q w
+                (changing-verdict image new lead out ∙ cond-true _ _ image-ok ∙ cond-true _ _ setup-ok ∙ cond-true _ _ same-is ∙ cond-true _ _ (follows-is ∙ ff)
+                ∙ cond-true _ _ (room-is ∙ e)) q w

@@ -1,5 +1,8 @@
 -- Two setups in words: whether all but P, R and the criticalities is the same, by their heads and by what stands above the criticalities.
-use mathlib.Core.Path.{◌≡◌, refl, ap, ◌∙◌, sym}
+use Rattle.std.specs.Bool.{MatchBool}
+use Rattle.std.specs.List.{AllWithin, HoldsAt, range_with_len}
+use Rattle.std.proofs.lemmas.List.FromFn.{length-range_with_len, get_or-range_with_len}
+use mathlib.Core.Path.{◌≡◌, refl, ap, ◌∙◌, sym, subst}
 use mathlib.Core.Bool.{Bool, true, false, ◌||◌, true≢false}
 use mathlib.Core.Logic.{⊎_elim}
 use mathlib.Core.List.{List}
@@ -11,7 +14,7 @@ use borrow.Author.Tests.{eqb-true, eq-eqb}
 use Rattle.words.specs.Word.{word_at, number_unit}
 use Rattle.words.specs.Bits.{bit, pack}
 use Rattle.words.specs.Count.{all}
-use Rattle.words.proofs.Truth.{iff-eq, or_cases, or-false-l, or-false-r}
+use Rattle.words.proofs.Truth.{clash, which, iff-eq, or_cases, or-false-l, or-false-r}
 use Rattle.words.proofs.BitLaws.{bit-pack, pack-ext}
 use Rattle.words.proofs.ArrayLaws.{array_at}
 use Rattle.words.proofs.CountLaws.{all-at, all-intro}
@@ -27,6 +30,19 @@ use Rattle.changes.proofs.NewMeaning.{upper-place, upper-mark, upper-same, numbe
 use Rattle.changes.proofs.PendingLaws.{frame_same, same-frame}
 use Rattle.image.specs.Check.{check_image}
 use Rattle.image.proofs.TailLaws.{ImageFits, image-pass}
+
+-- what `all` answers over the numbers below n
+pub all-told : (n : ℕ) (p : ℕ → Bool) (r : Bool)
+    → MatchBool r (AllWithin (λ i. p i ≡ true) (range_with_len 0 n) 0 (length (range_with_len 0 n)))
+    ((k : ℕ) × (k < length (range_with_len 0 n)) × HoldsAt (λ i. p i ≡ false) (range_with_len 0 n) k) → r ≡ all n p
+all-told n p true h =
+    sym (all-intro n p (λ k l.
+    let e : k < length (range_with_len 0 n) = omega (arith, length-range_with_len 0 n) in
+    subst (λ i. p i ≡ true) (get_or-range_with_len 0 n k 0 l ∙ omega arith) (h k 0 (omega arith) e)))
+all-told n p false (k, l, f) =
+    let e : k < n = omega (arith, length-range_with_len 0 n) in
+    let g : p k ≡ false = subst (λ i. p i ≡ false) (get_or-range_with_len 0 n k 0 e ∙ omega arith) (f 0) in
+    ⊎_elim (λ (t : all n p ≡ true). clash (p k) (all-at n p t k e) g) (λ (t : all n p ≡ false). sym t) (which (all n p))
 
 refuted : (b : Bool) → (b ≡ true → ⊥) → false ≡ b
 refuted true f = absurd (f refl)

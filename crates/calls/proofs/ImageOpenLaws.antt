@@ -5,20 +5,19 @@ use mathlib.Core.List.{List, [], ◌∷◌, ◌++◌}
 use Prim.Native.Nat.{ℕ, ◌+◌, ◌*◌, ◌^◌, ◌<◌, ◌≤◌}
 use native.Mathlib.Omega.{arith}
 use lib.Pow.{pow_mono}
-use lib.Dec.{ltb}
+use lib.Dec.{eqb}
 use lib.ListN.{get_or, length, drop, replicate, get_or-replicate}
-use borrow.Author.Tests.{eq-eqb, ne_eqb}
+use borrow.Author.Tests.{eq-eqb}
 use Rattle.words.specs.Word.{word_at, put_word, bytes_of}
 use Rattle.words.specs.Bits.{full}
 use Rattle.words.specs.Array.{array}
 use Rattle.words.specs.Runs.{one, put_run, put_runs}
 use Rattle.words.specs.Verdict.{verdict, accepted, is_accepted, between}
-use Rattle.words.specs.declared.Verdict.{Verdict}
+use Rattle.words.specs.Verdict.{Verdict}
 use Rattle.words.proofs.Truth.{cond-true, cond-false}
 use Rattle.words.proofs.BitLaws.{full-lt}
 use Rattle.words.proofs.ArrayLaws.{array_at, array-ext, array-own, clear_of}
 use Rattle.words.proofs.RunLaws.{put-run}
-use Rattle.words.proofs.VerdictLaws.{between-of}
 use lib.Ieee.{of_int, to_bits}
 use Rattle.doubles.specs.Double.{double, high_word, low_word}
 use Rattle.doubles.proofs.DoubleArrayLaws.{zeros-at}
@@ -43,11 +42,10 @@ use Rattle.presence.specs.Image.{state_runs, image_of}
 use Rattle.presence.specs.declared.State.{State}
 use Rattle.presence.proofs.StateWords.{views_of}
 use Rattle.presence.proofs.SaveLaws.{lent-state, image-written}
-use Rattle.presence.proofs.StateRoundLaws.{not-between, is-between}
 use Rattle.calls.specs.Calls.{answer, called, wrote, refused_call, open_call}
 use Rattle.calls.specs.Refusals.{size_of, has_room, open_verdict, answering}
 use Rattle.calls.specs.declared.Answer.{Answer}
-use Rattle.calls.proofs.ModuleCallLaws.{read-front}
+use Rattle.calls.proofs.ModuleCallLaws.{from_first, read-front}
 use Rattle.calls.proofs.Refusals.{open-verdict, refusals}
 
 -- ---- accounts of a fresh module, lent as zeros
@@ -104,18 +102,16 @@ module _ (s : List ℕ) (ok : (check_setup s).number ≡ 0) where
     answered : (v : Verdict) → open_verdict s own out ≡ v → answering v 0 (fresh (setup_of s) own) out ≡ open_call s own out
     answered v e = ap (λ (x : Verdict). answering x 0 (fresh (setup_of s) own) out) (sym e) ∙ sym (refusals.opening s own out)
 
-    pub open-seven : {n : ℕ} {r : Answer} → n ≡ size_in (word_at s 0) → ltb own 1 || ltb n own ≡ true → r ≡ answer 7 0 0 → called r out ≡ open_call s own out
+    pub open-seven : {n : ℕ} {r : Answer} → n ≡ size_in (word_at s 0) → between 1 n own ≡ false → r ≡ answer 7 0 0 → called r out ≡ open_call s own out
     unfolding answering refused_call
-    open-seven {n} en t q =
-        let b : between 1 (size_of s) own ≡ false = ap (λ (m : ℕ). between 1 m own) (sym en) ∙ not-between 1 n own t in
+    open-seven {n} en f q =
+        let b : between 1 (size_of s) own ≡ false = ap (λ (m : ℕ). between 1 m own) (sym en) ∙ f in
         ap (λ (x : Answer). called x out) q
         ∙ answered (verdict 7 0) (open-verdict s own out ∙ cond-true _ _ accepts ∙ cond-false _ _ b)
 
-    module _ {n : ℕ} (en : n ≡ size_in (word_at s 0)) (inside : ltb own 1 || ltb n own ≡ false) where
+    module _ {n : ℕ} (en : n ≡ size_in (word_at s 0)) (inside : between 1 n own ≡ true) where
       range : between 1 (size_of s) own ≡ true
-      range =
-          let (h, l) = is-between 1 n own inside in
-          ap (λ (m : ℕ). between 1 m own) (sym en) ∙ between-of 1 n own h l
+      range = ap (λ (m : ℕ). between 1 m own) (sym en) ∙ inside
 
       by-room : open_verdict s own out ≡ cond (has_room s 0 out) accepted (verdict 9 0)
       by-room = open-verdict s own out ∙ cond-true _ _ accepts ∙ cond-true _ _ range
@@ -124,11 +120,11 @@ module _ (s : List ℕ) (ok : (check_setup s).number ≡ 0) where
         length-is : image_length front n 0 t ≡ image_length (front_in (word_at s)) (size_in (word_at s 0)) 0 (partitionable_in (word_at s 0))
         length-is = (λ i. image_length ((ef ∙ ap front_words eb) i) (en i) 0 (et i))
 
-        pub open-nine : {r : Answer} → (length out ≡ image_length front n 0 t → ⊥) → r ≡ answer 9 0 0 → called r out ≡ open_call s own out
+        pub open-nine : {long : ℕ} {r : Answer} → long ≡ image_length front n 0 t → eqb (length out) long ≡ false → r ≡ answer 9 0 0 → called r out ≡ open_call s own out
         unfolding answering refused_call
-        open-nine f q =
+        open-nine e f q =
             ap (λ (x : Answer). called x out) q
-            ∙ answered (verdict 9 0) (by-room ∙ cond-false _ _ (ne_eqb (length out) _ (λ l. f (l ∙ sym length-is))))
+            ∙ answered (verdict 9 0) (by-room ∙ cond-false _ _ (ap (eqb (length out)) (sym (e ∙ length-is)) ∙ f))
 
         -- ---- what is written
 
@@ -190,7 +186,7 @@ module _ (s : List ℕ) (ok : (check_setup s).number ≡ 0) where
             (ap (λ (q : List ℕ). put_runs q (views_at (front_words b) (setup_of s).n 0) (views_of st)) (sym (none_left _)) ∙ lent-state st form-is (first-zeros (setup_of s) own few b) (second-zeros (setup_of s) own few b) few o₁)
 
         pub open_made : {r : Answer} {v k i : ℕ} {rows o₁ o₂ o₃ o₄ : List ℕ} → ((i : ℕ) → get_or s i 0 < 256) → length out ≡ image_length front n 0 t → v ≡ full n
-            → rows ≡ array n (λ j. v) → k ≡ setup_words front n → o₁ ≡ put_run out 0 k (word_at s)
+            → rows ≡ array n (λ j. v) → k ≡ setup_words front n → o₁ ≡ put_run out 0 k (λ j. word_at s (0 + j))
             → o₂ ≡ put_runs o₁ (own_at (front_words b) n) (one (own_word own v) ∷ row_run n (record { heard = v; rows = rows }) ∷ one (syndrome_word v) ∷ one (syndrome_word v)
             ∷ lent_runs b n (replicate 16 0) (replicate 16 0) (replicate 16 0))
             → i ≡ left_at front n → o₃ ≡ put_word o₂ i 0 → o₄ ≡ put_runs o₃ (views_at front n 0) (views_of st) → r ≡ answer 0 0 0 → called r o₄ ≡ open_call s own out
@@ -201,7 +197,7 @@ module _ (s : List ℕ) (ok : (check_setup s).number ≡ 0) where
             let room : length out ≡ image_length (front_of (setup_of s)) (setup_of s).n 0 (setup_of s).partitionable = long ∙ (λ i. image_length (front-is i) (size_is i) 0 (parted-is i)) in
             let put : put_run out 0 m (word_at s) ≡ bytes_of m (word_at s) ++ drop (m * 4) out = put-run [] out 0 m (word_at s) refl (omega arith) in
             let copied : o₁ ≡ setup_bytes (setup_of s) ++ drop (setup_length (front_of (setup_of s)) (setup_of s).n) out =
-            e₁ ∙ ap (λ (i : ℕ). put_run out 0 i (word_at s)) words ∙ put ∙ ap (λ (x : List ℕ). x ++ drop (m * 4) out) (sym (bytes-are small))
+            from_first out s k e₁ ∙ ap (λ (i : ℕ). put_run out 0 i (word_at s)) words ∙ put ∙ ap (λ (x : List ℕ). x ++ drop (m * 4) out) (sym (bytes-are small))
             in
             let written : o₄ ≡ put_runs o₁ (own_at (front_of (setup_of s)) (setup_of s).n) (state_runs st) = sections o₁ e₂ ei e₃ e₄ ev er in
             let image : o₄ ≡ image_of st =

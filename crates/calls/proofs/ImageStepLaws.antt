@@ -1,6 +1,6 @@
 -- A round from image to image: what is lent holds the state of the image, and what is written is the state that the round leaves.
 use mathlib.Core.Path.{◌≡◌, refl, ap, ap₂, ◌∙◌, sym, subst}
-use mathlib.Core.Bool.{Bool, true, false, cond, not, ◌||◌}
+use mathlib.Core.Bool.{Bool, true, false, cond, not, ◌&&◌}
 use mathlib.Core.List.{List, ◌∷◌, ◌++◌}
 use Prim.Native.Nat.{ℕ, ◌+◌, ◌-◌, ◌*◌, ◌^◌, ◌<◌, ◌≤◌}
 use native.Mathlib.Omega.{arith}
@@ -10,7 +10,7 @@ use Rattle.words.specs.Word.{word_at}
 use Rattle.words.specs.Array.{array, Filled}
 use Rattle.words.specs.Runs.{one, put_runs}
 use borrow.Author.Tests.{eqb-true, eqb-false}
-use Rattle.words.proofs.Truth.{not-both, not-neither, or-false-l, or-false-r}
+use Rattle.words.proofs.Truth.{and_l, and_r}
 use Rattle.words.proofs.ArrayLaws.{array_at, array-filled}
 use Rattle.words.proofs.CountLaws.{any-ext}
 use Rattle.words.proofs.WordLaws.{word_lt}
@@ -51,7 +51,7 @@ use Rattle.image.proofs.TailLaws.{image-pass}
 use Rattle.presence.specs.Step.{skew_of, place_of, own_syndrome, read_length, seen_by, aligned_for, judgement_for, books_of, after_round, refused_step, accepted_step, read_step, step_of}
 use Rattle.presence.specs.Image.{state_runs, image_of, state_of, state_length}
 use Rattle.presence.specs.declared.State.{State}
-use Rattle.presence.specs.declared.Stepped.{Stepped}
+use Rattle.presence.specs.Step.{Stepped}
 use Rattle.presence.proofs.ImageState.{view_in_lem, image-state}
 use Rattle.presence.proofs.ValidLaws.{StateFits, fits-valid, after-fits}
 use Rattle.presence.proofs.SmallLaws.{Small, valid-small}
@@ -395,26 +395,25 @@ module _ (s : List ℕ) (ok : (check_image s).number ≡ 0) where
 -- ---- what a step answers
 
 -- two lengths that are tested at once
-pub both-lengths : (a b c d : ℕ) → not (eqb a b) || not (eqb c d) ≡ false → (a ≡ b) × (c ≡ d)
-both-lengths a b c d e =
-    (eqb-true a b (not-neither (eqb a b) (or-false-l (not (eqb a b)) _ e)), eqb-true c d (not-neither (eqb c d) (or-false-r (not (eqb a b)) _ e)))
+pub both-lengths : (a b c d : ℕ) → eqb a b && eqb c d ≡ true → (a ≡ b) × (c ≡ d)
+both-lengths a b c d t = (eqb-true a b (and_l (eqb a b) _ t), eqb-true c d (and_r (eqb a b) _ t))
 
 module _ (s : List ℕ) (ok : (check_image s).number ≡ 0) (read : List ℕ) (controller : ℕ) (out : List ℕ) {n : ℕ} (en : (state_of s).setup.n ≡ n) where
   answered : {t : Stepped} → t ≡ read_step (state_of s) read controller → t ≡ step_of (state_of s) read controller
   answered h = step-of _ _ _ refl (read-valid s refl ok) h
 
   module _ {long wide : ℕ} (el : long ≡ state_length (state_of s) ((state_of s).pending.left - 1)) (ew : wide ≡ read_length (state_of s)) where
-    pub step-nine : {r : Answer} → not (eqb (length out) long) || not (eqb (length read) wide) ≡ true → r ≡ answer 9 0 0
+    pub step-nine : {r : Answer} → eqb (length out) long && eqb (length read) wide ≡ false → r ≡ answer 9 0 0
         → called r out ≡ step_call s read controller out
     unfolding refused_step
     step-nine {r} e q = ap (λ (x : Answer). called x out) q ∙ go (eqb (length out) long) refl e
       where
-        go : (b : Bool) → eqb (length out) long ≡ b → not b || not (eqb (length read) wide) ≡ true
+        go : (b : Bool) → eqb (length out) long ≡ b → b && eqb (length read) wide ≡ false
             → called (answer 9 0 0) out ≡ step_call s read controller out
         go false f t = step-no-room s out refl read controller ok (after-no-room s out ok el (eqb-false (length out) _ f))
         go true f t =
             step-refused-call s out refl read controller ok (after-room s out ok el (eqb-true (length out) _ f))
-            (answered (read-nine (state_of s) read controller refl (λ l. eqb-false (length read) wide (not-both _ t) (l ∙ sym ew)))) (λ e. omega (arith, e))
+            (answered (read-nine (state_of s) read controller refl (λ l. eqb-false (length read) wide t (l ∙ sym ew)))) (λ e. omega (arith, e))
 
     module _ (room : length out ≡ long) (words : length read ≡ wide) where
       pub step-ten : {r : Answer} → 2 ^ n ≤ controller → r ≡ answer 10 0 0 → called r out ≡ step_call s read controller out

@@ -1,3 +1,4 @@
+pub mod AnswerLaws
 pub mod ModuleCallLaws
 pub mod KeptLaws
 pub mod ImageTurnLaws

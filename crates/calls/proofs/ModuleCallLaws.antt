@@ -4,16 +4,18 @@ use mathlib.Core.Bool.{Bool, true, false, cond, not, ◌||◌}
 use mathlib.Core.List.{List}
 use Prim.Native.Nat.{ℕ, ◌+◌, ◌-◌, ◌*◌, ◌^◌, ◌≤◌, ◌<◌}
 use native.Mathlib.Omega.{arith}
-use lib.Dec.{eqb, ltb}
+use lib.Dec.{eqb, leb}
 use lib.ListN.{length, get_or}
 use lib.Pow.{pow_mono}
-use borrow.Author.Tests.{eq-eqb, ne_eqb, eqb-true, eqb-false, not-true, not-false, lt-ltb, le-ltb}
+use borrow.Author.Tests.{eq-eqb, ne_eqb, eqb-true, eqb-false, not-true, not-false, lt-ltb, le-ltb, leb-true, leb-false}
 use Rattle.words.specs.Word.{word_at}
+use Rattle.words.specs.Runs.{put_run}
+use Rattle.words.proofs.RunLaws.{put-ext}
 use Rattle.words.specs.Bits.{bit, pack}
 use Rattle.words.proofs.BitLaws.{bit-pack}
 use Rattle.rules.specs.Hearing.{bus_word, reception_of, heard_row, cause_in}
 use Rattle.rules.specs.declared.Reading.{Reading}
-use Rattle.rules.specs.declared.Reception.{Reception}
+use Rattle.rules.specs.Hearing.{Reception}
 use Rattle.rules.specs.Syndrome.{outgoing_of}
 use Rattle.words.proofs.Truth.{cond-true, cond-false, cond_both}
 use Rattle.words.specs.Verdict.{is_accepted, between, all_right}
@@ -21,9 +23,9 @@ use Rattle.setup.specs.Layout.{front_words}
 use Rattle.setup.specs.Limits.{fades}
 use Rattle.setup.specs.Setup.{size_in, partitionable_in, mark_in, fades_in, front_in, front_of, setup_of}
 use Rattle.setup.proofs.BoundLaws.{front-most, read-fades}
-use Rattle.words.proofs.VerdictLaws.{Passed, between-of}
+use Rattle.words.proofs.VerdictLaws.{Passed, between_is}
 use Rattle.setup.specs.Check.{check_setup}
-use Rattle.words.specs.declared.Verdict.{Verdict}
+use Rattle.words.specs.Verdict.{Verdict}
 use Rattle.changes.specs.Books.{counted, books_after}
 use Rattle.changes.proofs.TurnLaws.{turned-partitionable, turned-marks}
 use Rattle.changes.proofs.ChangeWords.{read_left}
@@ -41,13 +43,14 @@ use Rattle.image.proofs.TailLaws.{ImageFits, image-pass, image-zero}
 use Rattle.presence.specs.Valid.{Valid}
 use Rattle.presence.specs.Step.{mark_of, read_length, judgement_for, outgoing_for, books_of, voted_views, views_for, outgoing_view, after_round, accepted_step, step_of}
 use Rattle.presence.specs.Image.{image_of, state_of, state_length, room_for, room_after}
+use Rattle.std.specs.Prelude.{Ok}
+use Rattle.calls.specs.Answers.{word_of, cause_told}
 use Rattle.calls.specs.Calls.{answer, called, refused_call, wrote, open_call, step_call, save_call, handed_out, outgoing_call, view_handed_out, outgoing_view_call, refused_cause, cause_call}
 use Rattle.presence.specs.declared.State.{State}
 use Rattle.calls.specs.declared.Answer.{Answer}
 use Rattle.calls.specs.declared.WordAnswer.{WordAnswer}
 use Rattle.calls.specs.declared.CauseAnswer.{CauseAnswer}
-use Rattle.presence.specs.declared.Stepped.{Stepped}
-use Rattle.presence.proofs.StateRoundLaws.{not-between, is-between}
+use Rattle.presence.specs.Step.{Stepped}
 use Rattle.presence.proofs.ImageState.{view_in_lem, image-state, load-valid}
 use Rattle.presence.proofs.RoundTrip.{written_read}
 
@@ -55,6 +58,10 @@ use Rattle.presence.proofs.RoundTrip.{written_read}
 refused-by : {v w : Verdict} (out : List ℕ) → v ≡ w → called (answer v.number v.index 0) out ≡ refused_call w.number w.index out
 unfolding refused_call
 refused-by out e = ap (λ (x : Verdict). called (answer x.number x.index 0) out) e
+
+-- what a copy of the first k words has written
+pub from_first : {o : List ℕ} (out s : List ℕ) (k : ℕ) → o ≡ put_run out 0 k (λ j. word_at s (0 + j)) → o ≡ put_run out 0 k (word_at s)
+from_first out s k e = e ∙ put-ext out 0 k _ _ (λ i h. ap (word_at s) (omega arith))
 
 -- a setup that is read is of the form that its second word says
 pub read-front : (s : List ℕ) → front_of (setup_of s) ≡ front_in (word_at s)
@@ -221,38 +228,38 @@ unfolding view_handed_out
 no-view-made s e = sym (cond-false _ _ (read-parted s ∙ e))
 
 -- what a call answers that is asked for a word: by the verdict on the image, and the word that is handed out
-told : Verdict → ℕ → WordAnswer
-told v word = record { number = v.number; index = v.index; word = cond (is_accepted v) word 0 }
+handed : Verdict → ℕ → WordAnswer
+handed v word = record { number = v.number; index = v.index; word = cond (is_accepted v) word 0 }
 
 module _ (image : List ℕ) {v : Verdict} (e : v ≡ check_image image) (word : ℕ) where
-  told-refused : {r : WordAnswer} → (v.number ≡ 0 → ⊥) → (r.number ≡ v.number) × (r.index ≡ v.index) × (r.word ≡ 0) → r ≡ told (check_image image) word
-  unfolding told
-  told-refused f (k, i, w) =
-      (λ j. record { number = k j; index = i j; word = (w ∙ sym (cond-false word 0 (ne_eqb v.number 0 f))) j })
-      ∙ ap (λ (x : Verdict). told x word) e
+  handed-none : {r : WordAnswer} → (v.number ≡ 0 → ⊥) → r ≡ word_of v → r ≡ handed (check_image image) word
+  unfolding handed
+  handed-none f q =
+      q ∙ (λ j. record { number = v.number; index = v.index; word = sym (cond-false word 0 (ne_eqb v.number 0 f)) j })
+      ∙ ap (λ (x : Verdict). handed x word) e
 
-  told-made : {w : ℕ} → v.number ≡ 0 → w ≡ word → ◌≡◌ {A = WordAnswer} (record { number = 0; index = 0; word = w }) (told (check_image image) word)
-  unfolding told
-  told-made z h =
+  handed-made : {w : ℕ} → v.number ≡ 0 → w ≡ word → ◌≡◌ {A = WordAnswer} (record { number = 0; index = 0; word = w }) (handed (check_image image) word)
+  unfolding handed
+  handed-made z h =
       ap (λ (x : ℕ). record { number = 0; index = 0; word = x }) h
-      ∙ ap (λ (x : Verdict). told x word) (sym (image-zero image (ap (λ (x : Verdict). x.number) (sym e) ∙ z)))
+      ∙ ap (λ (x : Verdict). handed x word) (sym (image-zero image (ap (λ (x : Verdict). x.number) (sym e) ∙ z)))
 
 module _ (image : List ℕ) {v : Verdict} (e : v ≡ check_image image) where
-  pub outgoing-refused : {r : WordAnswer} → (v.number ≡ 0 → ⊥) → (r.number ≡ v.number) × (r.index ≡ v.index) × (r.word ≡ 0) → r ≡ outgoing_call image
-  unfolding outgoing_call told
-  outgoing-refused f h = told-refused image e (handed_out (state_of image)) f h
+  pub outgoing-refused : {r : WordAnswer} → (v.number ≡ 0 → ⊥) → r ≡ word_of v → r ≡ outgoing_call image
+  unfolding outgoing_call handed
+  outgoing-refused f h = handed-none image e (handed_out (state_of image)) f h
 
   pub outgoing-made : {w : ℕ} → v.number ≡ 0 → w ≡ handed_out (state_of image) → ◌≡◌ {A = WordAnswer} (record { number = 0; index = 0; word = w }) (outgoing_call image)
-  unfolding outgoing_call told
-  outgoing-made z h = told-made image e (handed_out (state_of image)) z h
+  unfolding outgoing_call handed
+  outgoing-made z h = handed-made image e (handed_out (state_of image)) z h
 
-  pub outgoing-view-refused : {r : WordAnswer} → (v.number ≡ 0 → ⊥) → (r.number ≡ v.number) × (r.index ≡ v.index) × (r.word ≡ 0) → r ≡ outgoing_view_call image
-  unfolding outgoing_view_call told
-  outgoing-view-refused f h = told-refused image e (view_handed_out (state_of image)) f h
+  pub outgoing-view-refused : {r : WordAnswer} → (v.number ≡ 0 → ⊥) → r ≡ word_of v → r ≡ outgoing_view_call image
+  unfolding outgoing_view_call handed
+  outgoing-view-refused f h = handed-none image e (view_handed_out (state_of image)) f h
 
   pub outgoing-view-made : {w : ℕ} → v.number ≡ 0 → w ≡ view_handed_out (state_of image) → ◌≡◌ {A = WordAnswer} (record { number = 0; index = 0; word = w }) (outgoing_view_call image)
-  unfolding outgoing_view_call told
-  outgoing-view-made z h = told-made image e (view_handed_out (state_of image)) z h
+  unfolding outgoing_view_call handed
+  outgoing-view-made z h = handed-made image e (view_handed_out (state_of image)) z h
 
 -- ---- opening
 
@@ -364,28 +371,20 @@ module _ (image out : List ℕ) (z : (check_image image).number ≡ 0) where
 -- ---- reading one word
 
 module _ (n controller word : ℕ) where
-  pub cause-size : {r : CauseAnswer} → r ≡ refused_cause 2 → ltb n 2 || ltb 16 n ≡ true → r ≡ cause_call n controller word
+  pub cause-size : {r : CauseAnswer} → r ≡ refused_cause 2 → between 2 16 n ≡ false → r ≡ cause_call n controller word
   unfolding cause_call
-  cause-size h t = h ∙ sym (cond-false _ _ (not-between 2 16 n t))
+  cause-size h f = h ∙ sym (cond-false _ _ f)
 
-  module _ (f : ltb n 2 || ltb 16 n ≡ false) where
-    in-range : between 2 16 n ≡ true
-    in-range =
-        let (h, l) = is-between 2 16 n f in
-        between-of 2 16 n h l
-
+  module _ (t : between 2 16 n ≡ true) where
     pub cause-small : n < 32
-    cause-small =
-        let (h, l) = is-between 2 16 n f in
-        omega arith
+    cause-small = let l = (between_is 2 16 n t).1 in omega arith
 
-    pub cause-bit : {r : CauseAnswer} → r ≡ refused_cause 10 → 1 < controller → r ≡ cause_call n controller word
+    pub cause-bit : {r : CauseAnswer} → r ≡ refused_cause 10 → leb controller 1 ≡ false → r ≡ cause_call n controller word
     unfolding cause_call
-    cause-bit h l = h ∙ sym (cond-true _ _ in-range ∙ cond-false _ _ (le-ltb controller 2 (omega arith)))
+    cause-bit h f = let l = leb-false controller 1 f in h ∙ sym (cond-true _ _ t ∙ cond-false _ _ (le-ltb controller 2 (omega arith)))
 
-    pub cause-told : {r : Reception} {cause row : ℕ} → controller ≤ 1 → r ≡ reception_of n (eqb controller 1) word → cause ≡ cause_in r → row ≡ heard_row r
-        → ◌≡◌ {A = CauseAnswer} (record { number = 0; index = 0; cause = cause; row = row }) (cause_call n controller word)
+    pub cause-heard : {r : Reception} → leb controller 1 ≡ true → r ≡ reception_of n (eqb controller 1) word → cause_told (Ok r) ≡ cause_call n controller word
     unfolding cause_call
-    cause-told l e h k =
-        ap₂ (λ (x y : ℕ). record { number = 0; index = 0; cause = x; row = y }) (h ∙ ap cause_in e) (k ∙ ap heard_row e)
-        ∙ sym (cond-true _ _ in-range ∙ cond-true _ _ (lt-ltb controller 2 (omega arith)))
+    cause-heard l e =
+        let h = leb-true controller 1 l in
+        ap (λ (r : Reception). cause_told (Ok r)) e ∙ sym (cond-true _ _ t ∙ cond-true _ _ (lt-ltb controller 2 (omega arith)))

@@ -9,7 +9,7 @@ use Rattle.words.specs.Verdict.{is_accepted}
 use Rattle.words.proofs.Truth.{cond-true, cond-false, cond_both}
 use Rattle.words.proofs.VerdictLaws.{between-of}
 use Rattle.rules.specs.Hearing.{reception_of, heard_row, cause_in, word_heard}
-use Rattle.rules.specs.declared.Reception.{Reception}
+use Rattle.rules.specs.Hearing.{Reception}
 use Rattle.rules.proofs.ReceptionLaws.{bus-heard}
 use Rattle.rules.proofs.Causes.{zero-heard}
 use Rattle.setup.specs.Setup.{partitionable_in, setup_of}

@@ -10,7 +10,7 @@ use borrow.Author.Tests.{eq-eqb, eqb-true, lt-ltb}
 use Rattle.words.specs.Word.{word_at}
 use Rattle.words.specs.Count.{lowest}
 use Rattle.words.specs.Verdict.{verdict, accepted, is_accepted, between, Test, single, and_then, outcome, then_tests, first_refusal}
-use Rattle.words.specs.declared.Verdict.{Verdict}
+use Rattle.words.specs.Verdict.{Verdict}
 use Rattle.words.proofs.Truth.{which, cond-true, cond-false, and_l, and_r, and-true, cond_both}
 use Rattle.words.proofs.VerdictLaws.{Passed, between_is, between-of, and-then-next, single-refused, tests-ok}
 use Rattle.setup.specs.Layout.{front_words}
@@ -33,9 +33,9 @@ use Rattle.presence.specs.Opening.{fresh, blank, check_opening, open_of}
 use Rattle.presence.specs.Step.{read_length, seen_by, judgement_for, after_round, refused_step, accepted_step, read_step, step_of}
 use Rattle.presence.specs.Image.{state_of, room_for, room_after}
 use Rattle.presence.specs.declared.State.{State}
-use Rattle.presence.specs.declared.Opened.{Opened}
-use Rattle.presence.specs.declared.Stepped.{Stepped}
-use Rattle.presence.specs.declared.Changed.{Changed}
+use Rattle.presence.specs.Opening.{Opened}
+use Rattle.presence.specs.Step.{Stepped}
+use Rattle.presence.specs.Change.{Changed}
 use Rattle.presence.proofs.ValidLaws.{StateFits, valid-fits, fits-verdict}
 use Rattle.presence.proofs.StateStepLaws.{open-accepts}
 use Rattle.presence.proofs.ImageState.{load-valid}

@@ -7,7 +7,7 @@ use Rattle.words.specs.Word.{word_at}
 use Rattle.words.specs.Verdict.{is_accepted, between, single, and_then, first_refusal}
 use Rattle.setup.specs.Setup.{size_in, partitionable_in, front_in, setup_of}
 use Rattle.setup.specs.Check.{check_setup}
-use Rattle.words.specs.declared.Verdict.{Verdict}
+use Rattle.words.specs.Verdict.{Verdict}
 use Rattle.rules.specs.Hearing.{reading_of}
 use Rattle.changes.specs.Pending.{most_lead, pending_of}
 use Rattle.changes.specs.Frame.{same_frame}

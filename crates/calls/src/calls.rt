@@ -1,11 +1,13 @@
 // The calls from C: a state is its saved image, read from one slice and written to the output. A refused call writes nothing.
-ghost use Rattle.std.specs.Prelude.{◌≡◌, length};
+ghost use Rattle.std.specs.Prelude.{◌≡◌, ◌≢◌, length};
 ghost use Rattle.words.specs.Word.{word_at};
+ghost use Rattle.words.specs.Refusal.{refusal_told, told};
 ghost use Rattle.setup.specs.Setup.{size_in, front_in};
 ghost use Rattle.image.specs.Check.{check_image};
 ghost use Rattle.presence.specs.Step.{mark_of};
 ghost use Rattle.presence.specs.Image.{state_of};
-ghost use Rattle.calls.specs.Calls.{answer, called, check_call, open_call, step_call, change_call, save_call, handed_out, outgoing_call, view_handed_out, outgoing_view_call, refused_cause, cause_call};
+ghost use Rattle.calls.specs.Answers.{answer_of, answer_told, word_told, cause_told};
+ghost use Rattle.calls.specs.Calls.{called, check_call, open_call, step_call, change_call, save_call, handed_out, outgoing_call, view_handed_out, outgoing_view_call, cause_call};
 
 use crate::change::{same_frame, save_changed};
 use crate::step::{left_after, played, turned};
@@ -16,84 +18,82 @@ use image::{
     earlier_in, image_length, latest_in, left_at, load_image, own_in, save_accounts, save_sections,
     views_at,
 };
+use rules::Cause;
+use rules::hearing::receive;
 use setup::bounds::{fades_at, front_words};
-use setup::check::size_at;
+use setup::check::{check, size_at};
 use setup::layout::{LEAST_MODULES, MOST_MODULES, setup_words};
 use views::lent::save_full;
 use views::read::read_words;
 use views::word::view_word;
 use words::array::filled;
 use words::bits::{bit_at, full_of, pick, power};
-use words::word::{copy_words, put_word, word_at};
-
-// An answer without health.
-fn refuse(number: u32, index: u32) -> Answer
-    ensures { result ≡ answer number index 0 }
-{
-    Answer {
-        number,
-        index,
-        health: 0,
-    }
-}
+use words::check::single;
+use words::word::{copy_run, put_word, word_at};
+use words::{Number, Refusal};
 
 // Numbers 1 to 6 and 22 of a setup.
+#[tactic(auto, unfolding(crate::specs::Calls::check_call))]
 pub fn presence_check_setup(bytes: &[u8]) -> Answer
     ensures { result ≡ check_call bytes.now }
 {
-    let v = setup::check::check(bytes);
-    refuse(v.number, v.index)
+    check(bytes).into()
 }
 
 // Opens module `own` of a setup, and writes its image: 1 to 6 and 22, 7, 9. There is no state between, whose arrays were copied by calls of memcpy.
 // The words of the setup are copied: those of an accepted setup are in their one form.
-pub fn presence_open(bytes: &[u8], own: u32, out: &mut [u8]) -> Answer
-    ensures { called result out.new ≡ open_call bytes.now own out.old }
+fn open(bytes: &[u8], own: u32, out: &mut [u8]) -> Result<(), Refusal>
+    ensures { called (answer_of (told result)) out.new ≡ open_call bytes.now own out.old }
 {
-    let found = setup::check::check(bytes);
-    if found.number != 0 {
-        return refuse(found.number, found.index);
-    }
+    check(bytes)?;
     let n = size_at(bytes);
     let fades = fades_at(bytes);
     let front = front_words(fades);
-    if (own < 1) | (n < own as usize) {
-        return refuse(7, 0);
-    }
+    let member = (1 <= own) & (own as usize <= n);
+    single(member, Number::Own, 0)?;
     let partitionable = bit_at(word_at(bytes, 0), 5);
-    if out.len() != image_length(front, n, 0, partitionable) {
-        return refuse(9, 0);
-    }
+    let room = out.len() == image_length(front, n, 0, partitionable);
+    single(room, Number::Lent, 0)?;
     let full = full_of(n);
     let rows = filled(n, full);
     let zeros = [0u32; 16];
-    copy_words(bytes, setup_words(front, n), out);
+    copy_run(bytes, 0, setup_words(front, n), out, 0);
     save_sections(fades, n, own as usize, full, full, &rows, full, full, out);
     save_accounts(fades, n, &zeros, &zeros, &zeros, out);
     put_word(out, left_at(front, n), 0);
     if partitionable {
         save_full(n, full, out, views_at(front, n, 0));
-        return refuse(0, 0);
     }
-    refuse(0, 0)
+    Ok(())
 }
 
-// The refusal of an image by its number and index.
-fn refuse_image(image: &[u8]) -> Answer
-    ensures { result ≡ answer (check_image image.now).number (check_image image.now).index 0 }
+// Opens module `own` of a setup, and writes its image: 1 to 6 and 22, 7, 9.
+pub fn presence_open(bytes: &[u8], own: u32, out: &mut [u8]) -> Answer
+    ensures { called result out.new ≡ open_call bytes.now own out.old }
 {
-    let v = check_image(image);
-    refuse(v.number, v.index)
+    open(bytes, own, out).into()
+}
+
+// Why an image is refused. The whole check is made only where reading it at once has found that something is wrong: out of the way of a step that is
+// accepted, which keeps its registers.
+#[cold]
+#[inline(never)]
+fn refusal(image: &[u8]) -> Refusal
+    requires { (check_image image.now).number ≢ 0 }
+    ensures { refusal_told result ≡ check_image image.now }
+{
+    check_image(image).unwrap_err()
 }
 
 // One step, from image to image: 1 to 8 and 22, 9 for the read or the output, which has the length of the image after the step, 10.
-pub fn presence_step(image: &[u8], read: &[u8], controller: u32, out: &mut [u8]) -> Answer
-    ensures { called result out.new ≡ step_call image.now read.now controller out.old }
+// Compiled by itself: within the call it takes 7 to 30 instructions more.
+#[inline(never)]
+fn step(image: &[u8], read: &[u8], controller: u32, out: &mut [u8]) -> Result<u32, Refusal>
+    ensures { called (answer_told result) out.new ≡ step_call image.now read.now controller out.old }
 {
-    let n = image_size(image);
-    if n == 0 {
-        return refuse_image(image);
-    }
+    let Some(n) = image_size(image) else {
+        return Err(refusal(image));
+    };
     let fades = fades_at(image);
     let mut criticality = [0u32; 16];
     let mut rows = [0u32; 16];
@@ -111,16 +111,13 @@ pub fn presence_step(image: &[u8], read: &[u8], controller: u32, out: &mut [u8])
         &mut returns,
     );
     if !part.good {
-        return refuse_image(image);
+        return Err(refusal(image));
     }
     let partitionable = bit_at(word_at(image, 0), 5);
     let long = image_length(front_words(fades), n, left_after(part.left), partitionable);
-    if (out.len() != long) | (read.len() != read_words(partitionable, n) * 4) {
-        return refuse(9, 0);
-    }
-    if power(n) <= controller {
-        return refuse(10, 0);
-    }
+    let lent = (out.len() == long) & (read.len() == read_words(partitionable, n) * 4);
+    single(lent, Number::Lent, 0)?;
+    single(controller < power(n), Number::Controller, 0)?;
     let held = part.limits;
     let limits = turned(
         image,
@@ -149,39 +146,40 @@ pub fn presence_step(image: &[u8], read: &[u8], controller: u32, out: &mut [u8])
         controller,
         out,
     );
-    Answer {
-        number: 0,
-        index: 0,
-        health,
-    }
+    Ok(health)
+}
+
+// One step, from image to image: 1 to 8 and 22, 9 for the read or the output, 10.
+pub fn presence_step(image: &[u8], read: &[u8], controller: u32, out: &mut [u8]) -> Answer
+    ensures { called result out.new ≡ step_call image.now read.now controller out.old }
+{
+    step(image, read, controller, out).into()
 }
 
 // Has a setup with new P, R and criticalities take the old one's place, `lead` rounds ahead, and writes the image with that change pending: 1 to 8 and
 // 22 of the image, 1 to 6 and 22 of the new setup, 23, 24, 9.
+fn change(image: &[u8], bytes: &[u8], lead: u32, out: &mut [u8]) -> Result<(), Refusal>
+    ensures { called (answer_of (told result)) out.new ≡ change_call image.now bytes.now lead out.old }
+{
+    check_image(image)?;
+    check(bytes)?;
+    single(same_frame(image, bytes), Number::Frame, 0)?;
+    let n = size_at(image);
+    let left = word_at(image, left_at(3, n));
+    let follows = (left == 0) & ((1 <= lead) & (lead <= MOST_LEAD));
+    single(follows, Number::Pending, 0)?;
+    let room = out.len() == image_length(3, n, lead, bit_at(word_at(image, 0), 5));
+    single(room, Number::Lent, 0)?;
+    save_changed(image, bytes, n, lead, out);
+    Ok(())
+}
+
+// Has a setup with new P, R and criticalities take the old one's place, `lead` rounds ahead: 1 to 8 and 22 of the image, 1 to 6 and 22 of the new setup,
+// 23, 24, 9.
 pub fn presence_change(image: &[u8], bytes: &[u8], lead: u32, out: &mut [u8]) -> Answer
     ensures { called result out.new ≡ change_call image.now bytes.now lead out.old }
 {
-    let held = check_image(image);
-    if held.number != 0 {
-        return refuse(held.number, held.index);
-    }
-    let asked = setup::check::check(bytes);
-    if asked.number != 0 {
-        return refuse(asked.number, asked.index);
-    }
-    if !same_frame(image, bytes) {
-        return refuse(23, 0);
-    }
-    let n = size_at(image);
-    let left = word_at(image, left_at(3, n));
-    if (left != 0) | ((lead < 1) | (MOST_LEAD < lead)) {
-        return refuse(24, 0);
-    }
-    if out.len() != image_length(3, n, lead, bit_at(word_at(image, 0), 5)) {
-        return refuse(9, 0);
-    }
-    save_changed(image, bytes, n, lead, out);
-    refuse(0, 0)
+    change(image, bytes, lead, out).into()
 }
 
 // Copies a slice onto one of its length, byte by byte: std's copy calls memmove, and the library calls nothing that it does not have.
@@ -195,18 +193,20 @@ fn copy(from: &[u8], to: &mut [u8])
 }
 
 // Tests an image and writes it again, in its one form: 1 to 8 and 22, 9.
+fn save(image: &[u8], out: &mut [u8]) -> Result<(), Refusal>
+    ensures { called (answer_of (told result)) out.new ≡ save_call image.now out.old }
+{
+    check_image(image)?;
+    single(out.len() == image.len(), Number::Lent, 0)?;
+    copy(image, out);
+    Ok(())
+}
+
+// Tests an image and writes it again, in its one form: 1 to 8 and 22, 9.
 pub fn presence_save(image: &[u8], out: &mut [u8]) -> Answer
     ensures { called result out.new ≡ save_call image.now out.old }
 {
-    let v = check_image(image);
-    if v.number != 0 {
-        return refuse(v.number, v.index);
-    }
-    if out.len() != image.len() {
-        return refuse(9, 0);
-    }
-    copy(image, out);
-    refuse(0, 0)
+    save(image, out).into()
 }
 
 // The send mark of the module itself, in its own word.
@@ -231,30 +231,19 @@ fn word_in(image: &[u8]) -> u32
     rules::judge::outgoing(mark, earlier, latest)
 }
 
-// An answer without a word, by a number and the place of a word in the image.
-fn refuse_word(number: u32, place: u32) -> WordAnswer
-    ensures { (result.number ≡ number) × (result.index ≡ place) × (result.word ≡ 0) }
+// The word to put on the bus, from an image: 1 to 8 and 22.
+fn outgoing(image: &[u8]) -> Result<u32, Refusal>
+    ensures { word_told result ≡ outgoing_call image.now }
 {
-    WordAnswer {
-        number,
-        index: place,
-        word: 0,
-    }
+    check_image(image)?;
+    Ok(word_in(image))
 }
 
 // The word to put on the bus, from an image: 1 to 8 and 22.
 pub fn presence_outgoing(image: &[u8]) -> WordAnswer
     ensures { result ≡ outgoing_call image.now }
 {
-    let v = check_image(image);
-    if v.number != 0 {
-        return refuse_word(v.number, v.index);
-    }
-    WordAnswer {
-        number: 0,
-        index: 0,
-        word: word_in(image),
-    }
+    outgoing(image).into()
 }
 
 // The view word handed out by the step or opening that wrote this image.
@@ -273,47 +262,33 @@ fn view_word_in(image: &[u8]) -> u32
 }
 
 // The second word to put on the bus, from an image, 0 where its setup is not partitionable: 1 to 8 and 22.
+fn outgoing_view(image: &[u8]) -> Result<u32, Refusal>
+    ensures { word_told result ≡ outgoing_view_call image.now }
+{
+    check_image(image)?;
+    Ok(view_word_in(image))
+}
+
+// The second word to put on the bus, from an image, 0 where its setup is not partitionable: 1 to 8 and 22.
 pub fn presence_outgoing_view(image: &[u8]) -> WordAnswer
     ensures { result ≡ outgoing_view_call image.now }
 {
-    let found = check_image(image);
-    if found.number != 0 {
-        return refuse_word(found.number, found.index);
-    }
-    WordAnswer {
-        number: 0,
-        index: 0,
-        word: view_word_in(image),
-    }
+    outgoing_view(image).into()
 }
 
-// A refusal of the call below.
-fn refuse_cause(number: u32) -> CauseAnswer
-    ensures { result ≡ refused_cause number }
+// Reads one word of n modules, whose controller bit is 0 or 1: 2, 10.
+fn read_cause(n: u32, controller: u32, word: u32) -> Result<Result<u32, Cause>, Refusal>
+    ensures { cause_told result ≡ cause_call n controller word }
 {
-    CauseAnswer {
-        number,
-        index: 0,
-        cause: 0,
-        row: 0,
-    }
+    let modules = (LEAST_MODULES <= n as usize) & (n as usize <= MOST_MODULES);
+    single(modules, Number::Head, 0)?;
+    single(controller <= 1, Number::Controller, 0)?;
+    Ok(receive(n as usize, controller == 1, word))
 }
 
 // Reads one word of n modules, whose controller bit is 0 or 1: 2, 10.
 pub fn presence_read_cause(n: u32, controller: u32, word: u32) -> CauseAnswer
     ensures { result ≡ cause_call n controller word }
 {
-    if ((n as usize) < LEAST_MODULES) | (MOST_MODULES < n as usize) {
-        return refuse_cause(2);
-    }
-    if 1 < controller {
-        return refuse_cause(10);
-    }
-    let r = rules::hearing::receive(n as usize, controller == 1, word);
-    CauseAnswer {
-        number: 0,
-        index: 0,
-        cause: r.cause(),
-        row: r.row(),
-    }
+    read_cause(n, controller, word).into()
 }

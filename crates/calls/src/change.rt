@@ -16,20 +16,14 @@ use setup::bounds::fades_at;
 use setup::check::size_at;
 use setup::layout::PLACE;
 use words::bits::bit_at;
-use words::word::{copy_run, copy_words, put_word, word_at};
+use words::word::{copy_run, put_word, word_at};
 
 // Whether the words of n modules are the same in all that stands above the criticality: kind, number, send mark and read place.
 fn same_modules(image: &[u8], bytes: &[u8], n: usize) -> bool
     requires { (n ≤ 16) × ((n + 3) * 4 ≤ length image.now) × ((n + 3) * 4 ≤ length bytes.now) }
     ensures { result ≡ all n (λ j. eqb (word_at image.now (3 + j) / place_unit) (word_at bytes.now (3 + j) / place_unit)) }
 {
-    let mut same = true;
-    for j in 0..n {
-        let a = word_at(image, 3 + j);
-        let b = word_at(bytes, 3 + j);
-        same = same & (a / PLACE == b / PLACE);
-    }
-    same
+    (0..n).all(|j| word_at(image, 3 + j) / PLACE == word_at(bytes, 3 + j) / PLACE)
 }
 
 // Whether neither the image nor the new setup fades, and all but P, R and the criticalities is the same.
@@ -55,7 +49,7 @@ pub fn save_changed(image: &[u8], bytes: &[u8], n: usize, lead: u32, out: &mut [
     ensures { out.new ≡ image_of (with_pending (state_of image.now) (pending_of (setup_of bytes.now) lead)) }
 {
     let at = left_at(3, n);
-    copy_words(image, at, out);
+    copy_run(image, 0, at, out, 0);
     put_word(out, at, lead);
     copy_run(bytes, 1, n + 2, out, at + 1);
     if bit_at(word_at(image, 0), 5) {

@@ -1,6 +1,7 @@
 // What C calls: a module's opening, step, change of limits and saving, from image to image, the word that it hands out, and why a word is not heard.
 #![tactic(auto)]
 
+mod answers;
 pub mod calls;
 mod change;
 mod step;

@@ -1,4 +1,6 @@
 // The round of an accepted image, from its words to those of the next state, with no state between: the arrays are lent, and filled in place.
+// Each array is lent by itself: reading takes all of them, a change three, the vote one, rule 8 three or four, writing three, so a struct of them would be
+// taken apart at almost every call.
 ghost use Rattle.std.specs.Prelude.{◌≡◌, true, cond, List, ◌++◌, ℕ, ◌+◌, ◌-◌, ◌*◌, ◌^◌, ◌≤◌, ◌<◌, length, get_or, drop, ltb};
 ghost use Rattle.words.specs.Array.{array, Filled};
 ghost use Rattle.words.specs.Runs.{put_runs};
@@ -26,7 +28,7 @@ use setup::bounds::front_words;
 use setup::layout::setup_words;
 use views::lent::agree;
 use words::bits::pick;
-use words::word::{copy_run, copy_words, put_word};
+use words::word::{copy_run, put_word};
 
 // Rule 8 on the lent arrays, by the limits of the setup; the answer is the view.
 fn kept(
@@ -105,10 +107,10 @@ fn save_setup(image: &[u8], front: usize, n: usize, left: u32, out: &mut [u8])
         ≡ setup_bytes (turned_of (books_of (state_of image.now))).setup ++ drop (setup_length front n) out.old }
 {
     if left == 1 {
-        copy_words(image, 1, out);
+        copy_run(image, 0, 1, out, 0);
         return copy_run(image, left_at(front, n) + 1, n + 2, out, 1);
     }
-    copy_words(image, setup_words(front, n), out)
+    copy_run(image, 0, setup_words(front, n), out, 0)
 }
 
 // Writes the rounds left after the round, and the new words where a change is pending still.

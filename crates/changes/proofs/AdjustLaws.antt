@@ -1,15 +1,13 @@
 -- A change leaves every account within the new limits, whatever the old ones were.
 use mathlib.Core.Path.{◌≡◌, refl, ◌∙◌, sym}
 use mathlib.Core.Bool.{Bool, true, false, cond, ◌&&◌}
-use mathlib.Core.List.{List}
 use Prim.Native.Nat.{ℕ, ◌+◌, ◌<◌, ◌≤◌}
 use native.Mathlib.Omega.{arith}
 use lib.ListN.{get_or}
 use lib.Dec.{leb}
 use lib.Ieee.{Float}
 use borrow.Author.Tests.{leb-true, leb-false, lt-leb}
-use Rattle.words.specs.Bits.{bit, pack}
-use Rattle.words.specs.Array.{array}
+use Rattle.words.specs.Bits.{bit}
 use Rattle.words.proofs.Truth.{clash, cond_both}
 use Rattle.words.proofs.BitLaws.{bit-pack}
 use Rattle.words.proofs.ArrayLaws.{array_at}
@@ -165,11 +163,3 @@ pub adjusted-read : (c : Pending) (k : Counters) (j : ℕ) (b : Bool) {x : Accou
     → x ≡ adjusted_at c k j
 unfolding adjusted_at account_at
 adjusted-read c k j b e r = rw e at r
-
--- the counters whose accounts are all adjusted
-pub counters-by : {view : ℕ} {penalty reward : List ℕ} (j n : ℕ) (c : Pending) (k : Counters) → j ≡ n
-    → view ≡ pack j (λ m. (adjusted_at c k m).present) → penalty ≡ array j (λ m. (adjusted_at c k m).penalty)
-    → reward ≡ array j (λ m. (adjusted_at c k m).reward)
-    → record { view = view; penalty = penalty; reward = reward; score = k.score; returns = k.returns } ≡ adjusted_of n c k
-unfolding adjusted_of
-counters-by j n c k e v p r = rw (v, p, r, e)

@@ -1,17 +1,14 @@
 -- A change on lent arrays: the entries below j are those after the change, the others as they were.
-use mathlib.Core.Path.{◌≡◌, ap, ap₂, ◌∙◌}
+use mathlib.Core.Path.{◌≡◌, refl, ap, ◌∙◌}
 use mathlib.Core.Bool.{Bool}
 use mathlib.Core.List.{List}
-use Prim.Native.Nat.{ℕ, ◌+◌, ◌%◌, ◌^◌, ◌<◌, ◌≤◌}
+use Prim.Native.Nat.{ℕ, ◌%◌, ◌^◌, ◌<◌, ◌≤◌}
 use native.Mathlib.Omega.{arith}
-use lib.ListN.{get_or}
+use lib.ListN.{get_or, replicate, get_or-replicate}
 use lib.Ieee.{binary64, of_bits}
-use Rattle.words.specs.Word.{word_at}
 use Rattle.words.specs.Bits.{bit}
 use Rattle.words.specs.Array.{array, replaced, Filled}
-use Rattle.words.proofs.ArrayLaws.{array_at, replaced-array}
-use Rattle.setup.specs.Setup.{limit_in, criticality_in}
-use Rattle.setup.specs.declared.Limits.TheVariants.{Counts}
+use Rattle.words.proofs.ArrayLaws.{clear_of, array_at, array-own, replaced-array}
 use Rattle.doubles.proofs.Rounding.{zero_bits}
 use Rattle.accounts.specs.declared.Account.{Account}
 use Rattle.changes.specs.Adjust.{adjusted}
@@ -29,25 +26,12 @@ pub replaced-all : {l : List ℕ} {j : ℕ} (n : ℕ) (f : ℕ → ℕ) (a : Lis
 replaced-all n f a small e fill h =
     replaced-array n n f a (omega arith) small fill (λ i x y. absurd (omega arith)) (h ∙ ap (λ (m : ℕ). replaced m f a) e)
 
+-- an array of zeros has no entries but those in use
+pub zeros-filled : (n : ℕ) → n ≤ 16 → Filled n (replicate 16 0)
+zeros-filled n small = array-own n (replicate 16 0) small refl (clear_of n (replicate 16 0) (λ i h l. get_or-replicate {A = ℕ} 16 i 0 0 l))
+
 -- criticalities that are read from words are small
 pub read_small : {l : List ℕ} (n : ℕ) (w : ℕ → ℕ) → n ≤ 16 → l ≡ array n (λ j. w j % 2 ^ 17) → (j : ℕ) → j < n → get_or l j 0 < 2 ^ 28
 read_small n w small e j h =
     let z : get_or (array n (λ k. w k % 2 ^ 17)) j 0 ≡ w j % 2 ^ 17 = array_at n _ j h small in
     rw (e, z) (omega arith)
-
-abbrev after : List ℕ → ℕ → ℕ → ℕ → List ℕ → List ℕ → ℕ → Account
-after s n at view x y j =
-    adjusted_in view (limit_in (word_at s (at + 1))) (limit_in (word_at s (at + 2))) (array n (λ j. criticality_in (word_at s (at + 3 + j)))) x y j
-
--- all that a change leaves: the new limits, the criticalities that are read and the counters after it
-module _ {v w : ℕ} {k' : List ℕ} (s : List ℕ) (n at view : ℕ) (x y : List ℕ) (ev : v ≡ word_at s (at + 1)) (ew : w ≡ word_at s (at + 2))
-    (ek : k' ≡ array n (λ j. criticality_in (word_at s (at + 3 + j)))) where
-  pub turned-lent : {x' y' : List ℕ} → (x' ≡ array n (λ j. (adjusted_in view (limit_in v) (limit_in w) k' x y j).penalty)) × (y' ≡ array n (λ j. (adjusted_in view (limit_in v) (limit_in w) k' x y j).reward))
-      → (Counts (limit_in v) (limit_in w) ≡ Counts (limit_in (word_at s (at + 1))) (limit_in (word_at s (at + 2))))
-      × (k' ≡ array n (λ j. criticality_in (word_at s (at + 3 + j)))) × (x' ≡ array n (λ j. (after s n at view x y j).penalty)) × (y' ≡ array n (λ j. (after s n at view x y j).reward))
-  turned-lent (ex, ey) = (
-    ap₂ Counts (ap limit_in ev) (ap limit_in ew),
-    ek,
-    ex ∙ (λ i. array n (λ j. (adjusted_in view (limit_in (ev i)) (limit_in (ew i)) (ek i) x y j).penalty)),
-    ey ∙ (λ i. array n (λ j. (adjusted_in view (limit_in (ev i)) (limit_in (ew i)) (ek i) x y j).reward)),
-  )

@@ -1,4 +1,10 @@
 -- What is pending, field by field: it has room in its words, a step counts it down, and a change that would be accepted fits.
+use Rattle.std.proofs.Common.{ext_get_or}
+use Rattle.std.proofs.lemmas.Slice.Eq.{slice_eq-Decides}
+use Rattle.std.proofs.lemmas.Bool.Decides.{Decides-eqb}
+use Rattle.std.proofs.lemmas.List.{get_or-take, length-take-le}
+use lib.Pointwise.{pointwise}
+use lib.ListN.{take}
 use mathlib.Core.Path.{◌≡◌, refl, ap, sym, ◌∙◌, subst}
 use mathlib.Core.Bool.{Bool, true, false, cond, not, ◌&&◌, beq}
 use mathlib.Core.Logic.{⊎_elim}
@@ -12,7 +18,7 @@ use borrow.Author.Tests.{eqb-true, eq-eqb, eqb-false, leb-true, ltb-true, lt-ltb
 use Rattle.words.specs.Word.{word_at, kind_unit}
 use Rattle.words.specs.Count.{all}
 use Rattle.words.specs.Array.{bounded}
-use Rattle.words.proofs.Truth.{and_l, and_r, and-true, clash, not-both, beq-eq, beq-refl, cond_both}
+use Rattle.words.proofs.Truth.{and_l, and_r, and-true, iff-eq, clash, not-both, beq-eq, beq-refl, cond_both}
 use Rattle.words.proofs.CountLaws.{all-at, all-intro}
 use Rattle.words.proofs.ArrayLaws.{clear_from, clear_at, clear_of, array-length, bounded_at, bounded-clear, bounded_of}
 use Rattle.setup.specs.Limits.{fades}
@@ -270,3 +276,19 @@ frame-by s new o a p =
     λ i.
     (not (o i) && not (a i))
     && (((eqb s.n new.n && eqb s.q new.q) && beq s.partitionable new.partitionable) && (eqb s.marks new.marks && p i))
+
+-- two arrays are the same as far as n where the lists of their first n entries are
+pub same-entries : {r : Bool} (n : ℕ) (a b : List ℕ) → n ≤ length a → n ≤ length b → r ≡ pointwise eqb (take n a) (take n b)
+    → r ≡ all n (λ j. eqb (get_or a j 0) (get_or b j 0))
+same-entries {r} n a b la lb e =
+    let d = slice_eq-Decides Decides-eqb (take n a) (take n b) r e in
+    iff-eq r _
+    (λ t. all-intro n _ (λ j h. eq-eqb _ _ (sym (get_or-take n a j 0 h) ∙ ap (λ (l : List ℕ). get_or l j 0) (d.0 t) ∙ get_or-take n b j 0 h)))
+    (λ t.
+    let ka : length (take n a) ≡ n = length-take-le n a la in
+    let kb : length (take n b) ≡ n = length-take-le n b lb in
+    d.1
+    (ext_get_or 0 (take n a) (take n b) (ka ∙ sym kb)
+    (λ j h.
+    let l : j < n = omega (arith, ka) in
+    get_or-take n a j 0 l ∙ eqb-true _ _ (all-at n _ t j l) ∙ sym (get_or-take n b j 0 l))))

@@ -3,7 +3,7 @@ use Rattle.std.specs.Prelude.{ℕ, Bool, not, ◌&&◌, [], ◌∷◌, get_or, e
 use Rattle.std.specs.Bool.{beq}
 use Rattle.words.specs.Count.{all}
 use Rattle.words.specs.Verdict.{between, single, first_refusal}
-use Rattle.words.specs.declared.Verdict.{Verdict}
+use Rattle.words.specs.Verdict.{Verdict}
 use Rattle.setup.specs.Limits.{fades}
 use Rattle.setup.specs.declared.Setup.{Setup}
 use Rattle.changes.specs.Pending.{most_lead}

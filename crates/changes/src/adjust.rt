@@ -1,10 +1,11 @@
 // What a change does to the accounts at the start of the counting of its round.
 ghost use Rattle.std.specs.Prelude.{◌≡◌, ℕ, ◌^◌, ◌≤◌, ◌<◌, get_or};
-ghost use Rattle.changes.specs.Adjust.{fitted, adjusted, adjusted_of};
+ghost use Rattle.changes.specs.Adjust.{fitted, adjusted, adjusted_at, adjusted_of};
 
 use crate::Pending;
 use accounts::{Account, Counters};
-use words::bits::{bit_at, pick, with_bit};
+use words::bits::{bit_at, pick};
+use words::{array, bits};
 
 // The penalty raised to at least p + 1 and cut to at most p + criticality.
 fn fitted(p: u32, criticality: u32, penalty: u32) -> u32
@@ -35,41 +36,31 @@ pub(crate) fn adjusted(a: Account, p: u32, r: u32, criticality: u32) -> Account
     }
 }
 
+// The account of module j + 1.
+fn adjusted_at(new: &Pending, c: &Counters, j: usize) -> Account
+    requires { (j < 16) × (new.now.p < 2 ^ 28) × (get_or new.now.criticality j 0 < 2 ^ 28) }
+    ensures { result ≡ adjusted_at new.now c.now j }
+{
+    let was = Account {
+        present: bit_at(c.view, j),
+        penalty: c.penalty[j],
+        reward: c.reward[j],
+        score: c.score[j],
+        returns: c.returns[j],
+    };
+    adjusted(was, new.p, new.r, new.criticality[j])
+}
+
 // All n modules.
 pub(crate) fn adjusted_counters(n: usize, new: Pending, c: Counters) -> Counters
     requires n_bound { (n ≤ 16) × (new.p < 2 ^ 28) }
     requires by_index { (j : ℕ) → j < n → get_or new.criticality j 0 < 2 ^ 28 }
     ensures { result ≡ adjusted_of n new c }
 {
-    let mut view: u32 = 0;
-    let mut penalty = [0u32; 16];
-    let mut reward = [0u32; 16];
-    for j in 0..n {
-        let present = bit_at(c.view, j);
-        let owed = c.penalty[j];
-        let earned = c.reward[j];
-        let held = c.score[j];
-        let counted = c.returns[j];
-        let was = Account {
-            present,
-            penalty: owed,
-            reward: earned,
-            score: held,
-            returns: counted,
-        };
-        let criticality = new.criticality[j];
-        let next = adjusted(was, new.p, new.r, criticality);
-        view = with_bit(view, j, next.present);
-        penalty[j] = next.penalty;
-        reward[j] = next.reward;
-    }
-    let score = c.score;
-    let returns = c.returns;
     Counters {
-        view,
-        penalty,
-        reward,
-        score,
-        returns,
+        view: bits::from_fn(n, |j| adjusted_at(&new, &c, j).present),
+        penalty: array::from_fn(n, |j| adjusted_at(&new, &c, j).penalty),
+        reward: array::from_fn(n, |j| adjusted_at(&new, &c, j).reward),
+        ..c
     }
 }

@@ -21,23 +21,13 @@ pub fn nothing() -> Pending
     }
 }
 
-// P, or 0 where a setup fades.
-fn penalty_limit(limits: Limits) -> u32
-    ensures { result ≡ penalty_limit_of limits }
+// P and R, or 0 and 0 where a setup fades.
+fn counting_limits(limits: Limits) -> (u32, u32)
+    ensures { (result.0 ≡ penalty_limit_of limits) × (result.1 ≡ reward_limit_of limits) }
 {
     match limits {
-        Limits::Counts(p, _) => p,
-        Limits::Fading(_, _) => 0,
-    }
-}
-
-// R, or 0 where a setup fades.
-fn reward_limit(limits: Limits) -> u32
-    ensures { result ≡ reward_limit_of limits }
-{
-    match limits {
-        Limits::Counts(_, r) => r,
-        Limits::Fading(_, _) => 0,
+        Limits::Counts(p, r) => (p, r),
+        Limits::Fading(_, _) => (0, 0),
     }
 }
 
@@ -45,10 +35,8 @@ fn reward_limit(limits: Limits) -> u32
 pub fn pending_of(new: Setup, lead: u32) -> Pending
     ensures { result ≡ pending_of new lead }
 {
-    let limits = new.limits;
+    let (p, r) = counting_limits(new.limits);
     let criticality = new.criticality;
-    let p = penalty_limit(limits);
-    let r = reward_limit(limits);
     Pending {
         left: lead,
         p,
@@ -65,6 +53,5 @@ pub fn pending_roomy(n: usize, c: Pending) -> bool
     let none = c.left == 0;
     let room = pick(none, 1, KIND);
     let many = pick(none, 0, n as u32) as usize;
-    let criticality = c.criticality;
-    ((c.p < room) & (c.r < room)) & bounded(many, PLACE - 1, criticality)
+    ((c.p < room) & (c.r < room)) & bounded(many, PLACE - 1, c.criticality)
 }

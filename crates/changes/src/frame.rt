@@ -1,27 +1,24 @@
 // Which change may follow: numbers 23 and 24.
 ghost use Rattle.std.specs.Prelude.{◌≡◌, ◌≤◌, get_or, eqb};
 ghost use Rattle.words.specs.Count.{all};
+ghost use Rattle.words.specs.Refusal.{told};
 ghost use Rattle.changes.specs.Frame.{same_frame, may_follow, frame_verdict};
 
 use crate::Pending;
 use setup::Setup;
 use setup::bounds::fades;
-use words::Verdict;
-use words::check::{accept, refusal};
+use words::check::single;
+use words::{Number, Refusal};
 
 // The most rounds ahead at which a change may take effect.
 pub const MOST_LEAD: u32 = 1000;
 
 // Whether the read places of n modules are the same.
-fn same_places(n: usize, a: [u32; 16], b: [u32; 16]) -> bool
+fn same_places(n: usize, a: &[u32; 16], b: &[u32; 16]) -> bool
     requires { n ≤ 16 }
-    ensures { result ≡ all n (λ j. eqb (get_or a j 0) (get_or b j 0)) }
+    ensures { result ≡ all n (λ j. eqb (get_or a.now j 0) (get_or b.now j 0)) }
 {
-    let mut same = true;
-    for j in 0..n {
-        same = same & (a[j] == b[j]);
-    }
-    same
+    a[..n] == b[..n]
 }
 
 // Whether neither setup fades, and all but P, R and the criticalities is the same.
@@ -29,14 +26,11 @@ fn same_frame(setup: Setup, new: Setup) -> bool
     requires { setup.n ≤ 16 }
     ensures { result ≡ same_frame setup new }
 {
-    let limits = setup.limits;
-    let asked = new.limits;
-    let places = setup.places;
-    let others = new.places;
-    let count = !fades(limits) & !fades(asked);
+    let count = !fades(setup.limits) & !fades(new.limits);
     let head = ((setup.n == new.n) & (setup.q == new.q))
         & (setup.partitionable == new.partitionable);
-    count & (head & ((setup.marks == new.marks) & same_places(setup.n, places, others)))
+    let places = same_places(setup.n, &setup.places, &new.places);
+    count & (head & ((setup.marks == new.marks) & places))
 }
 
 // Whether nothing is pending, and the lead is 1 to 1,000 rounds.
@@ -47,15 +41,10 @@ fn may_follow(pending: Pending, lead: u32) -> bool
 }
 
 // Number 23, then 24.
-pub fn frame_verdict(setup: Setup, pending: Pending, new: Setup, lead: u32) -> Verdict
+pub fn frame_verdict(setup: Setup, pending: Pending, new: Setup, lead: u32) -> Result<(), Refusal>
     requires { setup.n ≤ 16 }
-    ensures { result ≡ frame_verdict setup pending new lead }
+    ensures { told result ≡ frame_verdict setup pending new lead }
 {
-    if !same_frame(setup, new) {
-        return refusal(23, 0);
-    }
-    if !may_follow(pending, lead) {
-        return refusal(24, 0);
-    }
-    accept()
+    single(same_frame(setup, new), Number::Frame, 0)?;
+    single(may_follow(pending, lead), Number::Pending, 0)
 }

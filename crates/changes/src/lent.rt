@@ -13,7 +13,8 @@ use setup::layout::PLACE;
 use words::bits::bit_at;
 use words::word::{KIND, word_at};
 
-// The penalties and rewards after a change to these limits and criticalities.
+// The penalties and rewards after a change to these limits and criticalities, in their place and without the view, which a step from C holds by
+// itself. (`adjusted_counters` has them by value, and asks nothing of the entries from n on.)
 fn adjust(
     n: usize,
     view: u32,
@@ -44,7 +45,7 @@ fn adjust(
 }
 
 // The new criticalities, in a lent array.
-fn load_criticality(s: &[u8], n: usize, at: usize, criticality: &mut [u32; 16])
+pub(crate) fn load_criticality(s: &[u8], n: usize, at: usize, criticality: &mut [u32; 16])
     requires { (n ≤ 16) × (at < 2 ^ 16) × ((at + 3 + n) * 4 ≤ length s.now) × Filled n criticality.old }
     ensures { criticality.new ≡ array n (λ j. criticality_in (word_at s.now (at + 3 + j))) }
 {

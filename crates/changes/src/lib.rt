@@ -13,7 +13,8 @@ pub mod turn;
 use accounts::Counters;
 use setup::Setup;
 
-// A change that is still to come: the rounds left, and the new P, R and criticalities; all 0 where none is pending.
+// A change that is still to come: the rounds left, and the new P, R and criticalities; all 0 where none is pending. No Option, since the definitions of
+// a state have these fields, and its words have 0 rounds left.
 #[derive(Clone, Copy)]
 pub struct Pending {
     pub left: u32,

@@ -1,9 +1,9 @@
 // The words of a pending change at the end of a saved state: tested, read and written. The word of the rounds left stands at `at`.
-ghost use Rattle.std.specs.Prelude.{◌≡◌, true, not, ℕ, ◌+◌, ◌*◌, ◌^◌, ◌≤◌, ◌<◌, length, get_or};
+ghost use Rattle.std.specs.Prelude.{◌≡◌, true, ℕ, ◌+◌, ◌*◌, ◌^◌, ◌≤◌, ◌<◌, length, get_or};
 ghost use Rattle.words.specs.Word.{word_at};
 ghost use Rattle.words.specs.Array.{array};
-ghost use Rattle.words.specs.Count.{lowest};
-ghost use Rattle.words.specs.Verdict.{first_refusal};
+ghost use Rattle.words.specs.Verdict.{each, outcome, first_refusal};
+ghost use Rattle.words.specs.Refusal.{told};
 ghost use Rattle.words.specs.Runs.{put_run, put_runs};
 ghost use Rattle.setup.specs.Setup.{criticality_in};
 ghost use Rattle.changes.specs.Pending.{pending_roomy};
@@ -12,13 +12,14 @@ ghost use Rattle.changes.specs.Words.{new_count, left_ok, new_module_ok, new_tes
 use crate::Pending;
 use crate::change::nothing;
 use crate::frame::MOST_LEAD;
+use crate::lent::load_criticality;
 use setup::layout::{MOST_CRITICALITY, MOST_PENALTY_LIMIT, MOST_REWARD_LIMIT, PLACE};
 use setup::write::module_word;
 use setup::{Setup, limit_ok};
-use words::Verdict;
 use words::bits::bit_at;
-use words::check::{accept, refusal};
+use words::check::{each, single};
 use words::word::{KIND, put_word, word_at};
+use words::{Number, Refusal};
 
 // How many new words follow the rounds left.
 pub fn new_count(n: usize, left: u32) -> usize
@@ -62,55 +63,25 @@ fn new_right(s: &[u8], at: usize, i: usize) -> bool
     new_module_ok(word_at(s, 1 + i), w)
 }
 
-// One more than the first new word that is wrong, or 0.
-fn wrong_new(s: &[u8], n: usize, at: usize) -> usize
-    requires { (n ≤ 16) × (at < 2 ^ 16) × ((at + 3 + n) * 4 ≤ length s.now) }
-    ensures { (result ≡ lowest (n + 2) (λ i. not (new_test (word_at s.now) at i))) × (result ≤ n + 2) }
+// Number 8 at the first of so many new words that is wrong.
+fn check_new(s: &[u8], many: usize, at: usize) -> Result<(), Refusal>
+    requires { (many ≤ 18) × (at < 2 ^ 16) × ((at + 1 + many) * 4 ≤ length s.now) }
+    ensures { told result ≡ outcome (each many (new_test (word_at s.now) at) 8 (at + 1)) }
 {
-    let mut i: usize = 0;
-    loop {
-        if n + 2 <= i {
-            break 0;
-        }
-        if !new_right(s, at, i) {
-            break i + 1;
-        }
-        i += 1;
-    }
+    each(many, |i| new_right(s, at, i), Number::Image, at + 1)
 }
 
 // Number 8.
-pub fn check_change(s: &[u8], fades: bool, n: usize, at: usize) -> Verdict
+pub fn check_change(s: &[u8], fades: bool, n: usize, at: usize) -> Result<(), Refusal>
     requires { (n ≤ 16) × (at < 2 ^ 16) × ((at + 1 + new_count n (word_at s.now at)) * 4 ≤ length s.now) }
-    ensures { result ≡ first_refusal (change_tests fades (word_at s.now) n at) }
+    ensures { told result ≡ first_refusal (change_tests fades (word_at s.now) n at) }
 {
     let left = word_at(s, at);
-    if !left_ok(fades, left) {
-        return refusal(8, at as u32);
-    }
-    if left == 0 {
-        return accept();
-    }
-    let found = wrong_new(s, n, at);
-    if found == 0 {
-        return accept();
-    }
-    refusal(8, (at + found) as u32)
+    single(left_ok(fades, left), Number::Image, at)?;
+    check_new(s, new_count(n, left), at)
 }
 
 // ---- read
-
-// The new criticalities.
-fn new_criticality(s: &[u8], n: usize, at: usize) -> [u32; 16]
-    requires { (n ≤ 16) × (at < 2 ^ 16) × ((at + 3 + n) * 4 ≤ length s.now) }
-    ensures { result ≡ array n (λ j. criticality_in (word_at s.now (at + 3 + j))) }
-{
-    let mut criticality = [0u32; 16];
-    for j in 0..n {
-        criticality[j] = word_at(s, at + 3 + j) % PLACE;
-    }
-    criticality
-}
 
 // The pending change, whatever its words are.
 pub fn load_change(s: &[u8], n: usize, at: usize) -> Pending
@@ -121,13 +92,12 @@ pub fn load_change(s: &[u8], n: usize, at: usize) -> Pending
     if left == 0 {
         return nothing();
     }
-    let p = word_at(s, at + 1) % KIND;
-    let r = word_at(s, at + 2) % KIND;
-    let criticality = new_criticality(s, n, at);
+    let mut criticality = [0u32; 16];
+    load_criticality(s, n, at, &mut criticality);
     Pending {
         left,
-        p,
-        r,
+        p: word_at(s, at + 1) % KIND,
+        r: word_at(s, at + 2) % KIND,
         criticality,
     }
 }
@@ -147,9 +117,12 @@ fn new_word(setup: Setup, pending: Pending, i: usize) -> u32
         return 3 * KIND + pending.r;
     }
     let j = i - 2;
-    let place = setup.places[j];
-    let criticality = pending.criticality[j];
-    module_word(j, bit_at(setup.marks, j), place, criticality)
+    module_word(
+        j,
+        bit_at(setup.marks, j),
+        setup.places[j],
+        pending.criticality[j],
+    )
 }
 
 // Writes the rounds left, and the new words where they are not 0.

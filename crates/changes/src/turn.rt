@@ -12,16 +12,11 @@ use setup::{Limits, Setup};
 fn renewed(setup: Setup, pending: Pending) -> Setup
     ensures { result ≡ renewed setup pending }
 {
-    let places = setup.places;
     let criticality = pending.criticality;
     Setup {
-        n: setup.n,
-        q: setup.q,
-        partitionable: setup.partitionable,
         limits: Limits::Counts(pending.p, pending.r),
-        marks: setup.marks,
-        places,
         criticality,
+        ..setup
     }
 }
 
@@ -30,12 +25,9 @@ fn counted_down(c: Pending) -> Pending
     ensures { result ≡ counted_down c }
 {
     if 2 <= c.left {
-        let criticality = c.criticality;
         return Pending {
             left: c.left - 1,
-            p: c.p,
-            r: c.r,
-            criticality,
+            ..c
         };
     }
     nothing()
@@ -48,22 +40,16 @@ pub fn turned(books: Books) -> Books
     ensures { result ≡ turned books }
 {
     let setup = books.setup;
-    let counters = books.counters;
     let pending = books.pending;
     if pending.left == 1 {
-        let new = renewed(setup, pending);
-        let adjusted = adjusted_counters(setup.n, pending, counters);
-        let none = nothing();
         return Books {
-            setup: new,
-            counters: adjusted,
-            pending: none,
+            setup: renewed(setup, pending),
+            counters: adjusted_counters(setup.n, pending, books.counters),
+            pending: nothing(),
         };
     }
-    let next = counted_down(pending);
     Books {
-        setup,
-        counters,
-        pending: next,
+        pending: counted_down(pending),
+        ..books
     }
 }

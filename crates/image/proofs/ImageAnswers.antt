@@ -1,48 +1,81 @@
 -- What the check of a saved state answers, by what was found of its head, its length and its words.
-use Rattle.std.proofs.Common.{◌≡◌, ℕ, ◌/◌, ◌%◌, ◌≤◌, Bool, true, false, cond, ◌&&◌, eqb, List, length, sym, refl, ap, ◌∙◌, ap₂, arith, eq-eqb, eqb-true}
+use Rattle.std.proofs.Common.{◌≡◌, ℕ, zero, suc, ◌/◌, ◌%◌, ◌<◌, ◌≤◌, Bool, true, false, cond, ◌&&◌, eqb, List, length, Option, Some, None, Result, Ok, Err, sym, refl, ap, ◌∙◌, ap₂, arith, eq-eqb, eqb-true}
 use Rattle.words.specs.Word.{word_at, kind_unit}
-use Rattle.words.specs.Verdict.{verdict, is_accepted, all_right, first_refusal}
-use Rattle.words.specs.declared.Verdict.{Verdict}
+use Rattle.words.specs.Verdict.{Verdict, is_accepted, single, outcome, all_right, first_refusal}
+use Rattle.words.specs.Refusal.{refusal_told, told}
+use Rattle.words.specs.declared.Refusal.{Refusal}
 use Rattle.words.proofs.Truth.{cond-true, cond-false}
-use Rattle.words.proofs.VerdictLaws.{tests-accept, and-then-stops, and-then-goes, and-then-accepts}
+use Rattle.words.proofs.VerdictLaws.{tests-accept, and-then-accepts}
+use Rattle.words.proofs.RefusalLaws.{told-none, told-err, told-on, then-stops, then-goes, single-by}
 use Rattle.setup.specs.Limits.{most_return_limit}
 use Rattle.setup.specs.Layout.{front_words}
 use Rattle.setup.specs.Setup.{size_in, return_limit_in, partitionable_in, fades_in, front_in}
 use Rattle.setup.specs.Check.{head_ok, check_head, check_words}
 use Rattle.setup.proofs.WordFields.{head-made}
 use Rattle.setup.proofs.SetupCheckLaws.{HeadFits, head-pass, head_ok_lem}
-use Rattle.setup.proofs.SetupAnswerLaws.{head-stays, head-short, head-goes}
+use Rattle.setup.proofs.SetupAnswerLaws.{head-stays, head-length}
 use Rattle.image.specs.Layout.{left_at, image_length}
-use Rattle.image.specs.Check.{image_tests, image_length_in, check_tail, image_size, check_image}
+use Rattle.image.specs.Check.{image_tests, image_length_in, check_tail, image_size, found_size, check_image}
 use Rattle.image.proofs.TailLaws.{image-numbers, tests-parts}
 
--- v is the answer of numbers 1 and 2
-module _ {v : Verdict} (s : List ℕ) (e : v ≡ check_head s true) where
-  pub stays-head : (v.number ≡ 0 → ⊥) → v ≡ check_image s
+-- `first` is the answer of numbers 1 and 2
+module _ {first : Result (Unit {0}) Refusal} (s : List ℕ) (e : told first ≡ check_head s true) where
+  pub image-head : {r : Refusal} → first ≡ Err r → refusal_told r ≡ check_image s
   unfolding check_image
-  stays-head f = head-stays s e _ _ f
+  image-head i = told-on i ∙ head-stays s e _ _ (told-err i)
 
   -- n modules, whose words stand after the first `front`, by the form of the setup
-  module _ {n front : ℕ} {b : Bool} (size : n ≡ size_in (word_at s 0)) (form : b ≡ fades_in (word_at s)) (at : front ≡ front_words b) (z : v.number ≡ 0) where
+  module _ {n front : ℕ} {b : Bool} {x₀ : Unit {0}} (i₀ : first ≡ Ok x₀) (size : n ≡ size_in (word_at s 0)) (form : b ≡ fades_in (word_at s)) (at : front ≡ front_words b) where
     length-is : image_length front n (word_at s (left_at front n)) (partitionable_in (word_at s 0)) ≡ image_length_in s
     length-is = ap₂ (λ (x m : ℕ). image_length x m (word_at s (left_at x m)) (partitionable_in (word_at s 0))) (at ∙ ap front_words form) size
 
-    pub stays-length : {r : Verdict} → (eqb (length s) (image_length front n (word_at s (left_at front n)) (partitionable_in (word_at s 0))) ≡ false) → r ≡ verdict 3 0 → r ≡ check_image s
-    unfolding check_image
-    stays-length f a = head-short s e _ z (ap (eqb (length s)) (sym length-is) ∙ f) a
+    head-whole : {fit : Bool} {v : Verdict} → fit ≡ eqb (length s) (image_length front n (word_at s (left_at front n)) (partitionable_in (word_at s 0)))
+        → v ≡ outcome (single fit 3 0) → v ≡ check_head s (eqb (length s) (image_length_in s))
+    head-whole t h = head-length s e _ (told-none i₀) (single-by 3 0 (t ∙ ap (eqb (length s)) length-is) h)
 
-    goes : {r : Verdict} → length s ≡ image_length front n (word_at s (left_at front n)) (partitionable_in (word_at s 0)) → r ≡ first_refusal (image_tests s n) → r ≡ check_image s
-    unfolding check_image
-    goes l a = head-goes s e _ z (eq-eqb _ _ (l ∙ length-is)) (rw size at a)
+    -- `fit` is what was asked of the length, `whole` the answer of number 3
+    module _ {fit : Bool} {whole : Result (Unit {0}) Refusal} (t : fit ≡ eqb (length s) (image_length front n (word_at s (left_at front n)) (partitionable_in (word_at s 0))))
+        (e₁ : told whole ≡ outcome (single fit 3 0)) where
+      pub image-short : {r : Refusal} → whole ≡ Err r → refusal_told r ≡ check_image s
+      unfolding check_image
+      image-short i = then-stops _ (head-whole t e₁) i
 
-    -- u is the answer for the setup's words, t that for the others
-    pub stays-words : {u : Verdict} → length s ≡ image_length front n (word_at s (left_at front n)) (partitionable_in (word_at s 0)) → u ≡ check_words s n → (u.number ≡ 0 → ⊥) → u ≡ check_image s
-    stays-words l a f = goes l (and-then-stops _ a f ∙ sym (tests-parts s n))
+      module _ {x₁ : Unit {0}} (i₁ : whole ≡ Ok x₁) where
+        goes : {v : Verdict} → v ≡ first_refusal (image_tests s n) → v ≡ check_image s
+        unfolding check_image
+        goes a = then-goes _ (head-whole t e₁) i₁ (a ∙ ap (λ (m : ℕ). first_refusal (image_tests s m)) size)
 
-    pub ends-tail : {u t : Verdict} → length s ≡ image_length front n (word_at s (left_at front n)) (partitionable_in (word_at s 0)) → u ≡ check_words s n → u.number ≡ 0 → t ≡ check_tail b (word_at s) n → t ≡ check_image s
-    ends-tail l a q d = goes l (and-then-goes _ a q (d ∙ ap (λ (f : Bool). check_tail f (word_at s) n) form) ∙ sym (tests-parts s n))
+        -- `words` is the answer for the setup's words, v that for the others
+        module _ {words : Result (Unit {0}) Refusal} (e₂ : told words ≡ check_words s n) where
+          pub image-words : {r : Refusal} → words ≡ Err r → refusal_told r ≡ check_image s
+          image-words i = goes (then-stops _ e₂ i ∙ sym (tests-parts s n))
+
+          pub image-tail : {x₂ : Unit {0}} {v : Verdict} → words ≡ Ok x₂ → v ≡ check_tail b (word_at s) n → v ≡ check_image s
+          image-tail i d = goes (then-goes _ e₂ i (d ∙ ap (λ (f : Bool). check_tail f (word_at s) n) form) ∙ sym (tests-parts s n))
 
 -- ---- the size, where head and length are right
+
+-- as code answers it
+pub size-counted : (n : ℕ) → 0 < n → Some n ≡ found_size n
+size-counted zero h = absurd (omega arith)
+size-counted (suc n) h = refl
+
+some-size : (k : ℕ) {n : ℕ} → Some n ≡ found_size k → (n ≡ k) × (n ≡ 0 → ⊥)
+some-size zero e = cc
+some-size (suc k) {n} e =
+    let d : n ≡ suc k = cc in
+    (d, λ z. omega (arith, d))
+
+none-size : (k : ℕ) → None ≡ found_size k → k ≡ 0
+none-size zero e = refl
+none-size (suc k) e = cc
+
+module _ {r : Option ℕ} (s : List ℕ) (e : r ≡ found_size (image_size s)) where
+  pub size-some : {n : ℕ} → r ≡ Some n → (n ≡ image_size s) × (n ≡ 0 → ⊥)
+  size-some i = some-size _ (sym i ∙ e)
+
+  pub size-gone : r ≡ None → image_size s ≡ 0
+  size-gone i = none-size _ (sym i ∙ e)
 
 module _ (s : List ℕ) where
   abbrev headed : Bool

@@ -1,11 +1,13 @@
 -- What one pass over an image finds: whether every word is right, and what the counters are read with.
-use Rattle.std.proofs.Common.{◌≡◌, ℕ, ◌+◌, ◌<◌, ◌≤◌, Bool, true, false, ◌&&◌, List, ◌++◌, get_or, sym, refl, ap, ◌∙◌}
+use Rattle.std.proofs.Common.{◌≡◌, ℕ, ◌+◌, ◌<◌, ◌≤◌, Bool, true, false, ◌&&◌, List, ◌++◌, Result, get_or, sym, refl, ap, ◌∙◌}
+use Rattle.std.specs.Result.{is_ok}
 use Rattle.words.specs.Word.{word_at}
 use Rattle.words.specs.Bits.{bit}
 use Rattle.words.specs.Array.{array}
 use Rattle.words.specs.Count.{all}
 use Rattle.words.specs.Verdict.{is_accepted, first_refusal, all_right}
-use Rattle.words.specs.declared.Verdict.{Verdict}
+use Rattle.words.specs.Refusal.{told}
+use Rattle.words.specs.declared.Refusal.{Refusal}
 use Rattle.words.proofs.ArrayLaws.{array_at}
 use Rattle.words.proofs.VerdictLaws.{numbered, tests-accept, right-join}
 use Rattle.setup.specs.Layout.{head_at, penalty_limit_at, reward_limit_at, front_words}
@@ -23,6 +25,7 @@ use Rattle.image.specs.Rows.{row_test}
 use Rattle.image.specs.CounterSection.{counter_in, basis_in}
 use Rattle.image.specs.Counters.{counter_tests}
 use Rattle.image.specs.Check.{words_right, tail_tests, image_tests}
+use Rattle.image.proofs.SectionLaws.{accepts}
 
 -- ---- the tests, in the order of the pass
 
@@ -69,11 +72,12 @@ module _ {fades : Bool} {front : ℕ} (s : List ℕ) (n : ℕ) (form : fades ≡
   limits-fine {modules = modules} e t m a r c d v =
       loaded-good (ap (λ (x : Bool). x && modules) (sym t) ∙ words-good s form at n e m) a r c d v
 
--- the answer of the check of a pending change, as a test
-pub change-good : {v : Verdict} {at : ℕ} (fades : Bool) (w : ℕ → ℕ) (front n : ℕ) → at ≡ left_at front n → v ≡ first_refusal (change_tests fades w n at)
-    → is_accepted v ≡ all_right (change_tests fades w n (left_at front n))
+-- whether the check of a pending change accepts, as a test
+pub change-good : {b : Bool} {at : ℕ} (r : Result (Unit {0}) Refusal) (fades : Bool) (w : ℕ → ℕ) (front n : ℕ) → at ≡ left_at front n
+    → b ≡ is_ok r → told r ≡ first_refusal (change_tests fades w n at) → b ≡ all_right (change_tests fades w n (left_at front n))
 unfolding numbered
-change-good fades w front n e h = rw (h, e) (tests-accept (change_tests fades w n (left_at front n)) refl)
+change-good r fades w front n e o h =
+    o ∙ accepts r ∙ ap is_accepted (h ∙ ap (λ (x : ℕ). first_refusal (change_tests fades w n x)) e) ∙ tests-accept (change_tests fades w n (left_at front n)) refl
 
 -- and the tests of the views, by the head bit, the view and the rounds left as they were found
 pub views-good : {r b : Bool} {view at left : ℕ} (w : ℕ → ℕ) (front n : ℕ) → b ≡ partitionable_in (w head_at) → view ≡ view_in (w (own_at front n))

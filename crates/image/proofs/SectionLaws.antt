@@ -1,11 +1,15 @@
 -- The answers of the sections, each after those before it, and the sections as they are written.
-use Rattle.std.proofs.Common.{◌≡◌, ℕ, ◌+◌, ◌/◌, ◌%◌, Bool, true, false, cond, not, eqb, List, [], ◌∷◌, ◌++◌, get_or, sym, refl, ap, ◌∙◌, subst, arith}
+use Rattle.std.proofs.Common.{◌≡◌, ℕ, ◌+◌, ◌/◌, ◌%◌, Bool, true, false, cond, eqb, ne_eqb, List, [], ◌∷◌, ◌++◌, Result, Ok, Err, get_or, sym, refl, ap, ap₂, ◌∙◌, subst, arith}
+use Rattle.std.specs.Result.{is_ok}
 use Rattle.words.specs.Bits.{bit}
-use Rattle.words.specs.Verdict.{verdict, accepted, Test, single, each, and_then, outcome, then_tests, first_refusal}
-use Rattle.words.specs.declared.Verdict.{Verdict}
+use Rattle.words.specs.Verdict.{accepted, is_accepted, Test, single, each, outcome, then_tests, first_refusal}
+use Rattle.words.specs.Verdict.{Verdict}
 use Rattle.words.specs.Runs.{one, put_run, put_runs}
-use Rattle.words.proofs.VerdictLaws.{and-then-next, and-then-stays, single-ok, single-refused, then-tests, then-join}
-use Rattle.words.proofs.SearchLaws.{begins-refused, begins-well}
+use Rattle.words.specs.Refusal.{code, refusal_told, told}
+use Rattle.words.specs.declared.Refusal.{Refusal}
+use Rattle.words.proofs.VerdictLaws.{then-join}
+use Rattle.words.proofs.SearchLaws.{refused-stays}
+use Rattle.words.proofs.RefusalLaws.{code-positive, told-ok, told-err, told-on, first-stops, first-goes, first-last}
 use Rattle.setup.specs.Layout.{head_at, front_words}
 use Rattle.setup.specs.Setup.{partitionable_in}
 use Rattle.rules.specs.declared.Reading.{Reading}
@@ -13,75 +17,109 @@ use Rattle.changes.specs.Words.{change_tests}
 use Rattle.views.specs.Section.{view_tests}
 use Rattle.image.specs.Layout.{own_at, rows_at, latest_at, earlier_at, accounts_at, rewards_at, returns_at, left_at, views_at}
 use Rattle.image.specs.Words.{own_word, view_in, syndrome_word, own_number_ok, own_ok, syndrome_ok}
-use Rattle.image.specs.Rows.{row_word, row_run}
-use Rattle.image.specs.CounterSection.{counter_word, CounterSection, counter_test, section_test}
+use Rattle.image.specs.Rows.{row_word, row_tests, row_run}
+use Rattle.image.specs.CounterSection.{counter_word}
 use Rattle.image.specs.Counters.{counter_tests}
 use Rattle.image.specs.Part.{CountersSmall, lent_runs}
-use Rattle.image.specs.Check.{word_test, check_tail}
+use Rattle.image.specs.Check.{before_accounts, check_tail}
 
--- one word after the answer v, of which b is the test
-module _ (v : Verdict) {b ok : Bool} {r : Verdict} (number : ℕ) {at place : ℕ} (z : v.number ≡ 0) (e : b ≡ ok) (p : at ≡ place) where
-  pub word-passes : b ≡ true → r ≡ accepted → r ≡ and_then v (outcome (single ok number place))
-  word-passes t a = a ∙ sym (and-then-next v _ z ∙ single-ok ok number place (sym e ∙ t))
+-- ---- lists of tests that are joined: r is the answer of the first of them
 
-  pub word-fails : b ≡ false → r ≡ verdict number at → r ≡ and_then v (outcome (single ok number place))
-  word-fails f a = (rw p at a) ∙ sym (and-then-next v _ z ∙ single-refused ok number place (sym e ∙ f))
+module _ {A : Type 0} {r : Result A Refusal} (ts us : List Test) (h : told r ≡ first_refusal ts) where
+  pub join-ends : {e : Refusal} → r ≡ Err e → refusal_told e ≡ first_refusal (ts ++ us)
+  join-ends i = told-on i ∙ sym (refused-stays (told r) us (told-err i)) ∙ ap (λ (v : Verdict). then_tests v us) h ∙ sym (then-join accepted ts us)
 
--- the first two tests, of one word
-module _ {b ok c fit : Bool} {r : Verdict} {at place : ℕ} (e : b ≡ ok) (d : c ≡ fit) (p : at ≡ place) where
-  pub own-refused : not b ≡ true → r ≡ verdict 7 at → r ≡ first_refusal (single ok 7 place ∷ single fit 8 place ∷ [])
-  own-refused f a = begins-refused 7 place (single fit 8 place ∷ []) e (omega arith) f p a
+  pub join-next : {x : A} {v : Verdict} → r ≡ Ok x → v ≡ first_refusal us → v ≡ first_refusal (ts ++ us)
+  join-next i k = k ∙ ap (λ (v : Verdict). then_tests v us) (sym (told-ok i) ∙ h) ∙ sym (then-join accepted ts us)
 
-  pub own-passes : not b ≡ false → c ≡ true → r ≡ accepted → r ≡ first_refusal (single ok 7 place ∷ single fit 8 place ∷ [])
-  unfolding then_tests
-  own-passes f t a = word-passes accepted 8 refl d p t a ∙ begins-well 7 place (single fit 8 place ∷ []) e f
+-- whether they were accepted
+pub accepts : {A : Type 0} (r : Result A Refusal) → is_ok r ≡ is_accepted (told r)
+accepts (Ok x) = refl
+accepts (Err e) = sym (ne_eqb (code e.number) 0 (λ (z : code e.number ≡ 0). omega (arith, code-positive e.number)))
 
-  pub own-fails : not b ≡ false → c ≡ false → r ≡ verdict 8 at → r ≡ first_refusal (single ok 7 place ∷ single fit 8 place ∷ [])
-  unfolding then_tests
-  own-fails f t a = word-fails accepted 8 refl d p t a ∙ begins-well 7 place (single fit 8 place ∷ []) e f
+-- one word, whose test and place have names
+pub word-tested : {v : Verdict} {b ok : Bool} {a place : ℕ} (number : ℕ) → b ≡ ok → a ≡ place → v ≡ outcome (single b number a) → v ≡ outcome (single ok number place)
+word-tested number e p h = h ∙ ap₂ (λ (x : Bool) (y : ℕ). outcome (single x number y)) e p
 
-module _ (fades : Bool) (w : ℕ → ℕ) (n : ℕ) where
-  pub tail-joined : {v₀ v₁ v₂ v₃ v₄ v₅ v₆ : Verdict} {front a b c d : ℕ} → front ≡ front_words fades
-      → v₀ ≡ first_refusal (single (own_number_ok n (w (own_at front n))) 7 (own_at front n) ∷ single (own_ok n (w (own_at front n))) 8 (own_at front n) ∷ [])
-      → a ≡ rows_at front n → v₁ ≡ and_then v₀ (outcome (each n (word_test w front n 11 a) 8 a))
-      → b ≡ latest_at front n → v₂ ≡ and_then v₁ (outcome (single (syndrome_ok n (w b)) 8 b))
-      → c ≡ earlier_at front n → v₃ ≡ and_then v₂ (outcome (single (syndrome_ok n (w c)) 8 c))
-      → v₄ ≡ then_tests v₃ (counter_tests fades w n) → d ≡ left_at front n → v₅ ≡ then_tests v₄ (change_tests fades w n d)
-      → v₆ ≡ then_tests v₅ (view_tests (partitionable_in (w head_at)) w n (view_in (w (own_at front n))) (views_at front n (w (left_at front n))))
-      → v₆ ≡ check_tail fades w n
-  unfolding check_tail then_tests word_test
-  tail-joined f e₀ a e₁ b e₂ c e₃ e₄ d e₅ e₆ =
-      let x = front_words fades in
-      let change = change_tests fades w n (left_at x n) in
-      let views = view_tests (partitionable_in (w head_at)) w n (view_in (w (own_at x n))) (views_at x n (w (left_at x n))) in
-      rw (e₆, e₅, e₄, e₃, e₂, e₁, e₀, a, b, c, d, f) (sym (then-join _ (counter_tests fades w n) (change ++ views) ∙ then-join _ change views))
+-- a word for each of n, from a place that has a name
+pub each-by : {v : Verdict} {a place : ℕ} (n : ℕ) (ok : ℕ → Bool) → a ≡ place → v ≡ outcome (each n ok 8 a) → v ≡ outcome (each n ok 8 place)
+each-by n ok p e = e ∙ ap (λ (x : ℕ). outcome (each n ok 8 x)) p
 
--- ---- tests after the answer v
+-- ---- the tests of the words after the setup's, which stand after the first `front`; `own`, `sections` and so on are what their checks have answered
 
-pub tests-skipped : (v : Verdict) (ts : List Test) → (v.number ≡ 0 → ⊥) → v ≡ then_tests v ts
-unfolding then_tests
-tests-skipped v [] f = refl
-tests-skipped v (t ∷ ts) f = tests-skipped v ts f ∙ ap (λ (x : Verdict). then_tests x ts) (sym (and-then-stays v (outcome t) f))
+module _ (w : ℕ → ℕ) (front n : ℕ) where
+  abbrev own_tests : List Test
+  own_tests = single (own_number_ok n (w (own_at front n))) 7 (own_at front n) ∷ single (own_ok n (w (own_at front n))) 8 (own_at front n) ∷ []
 
-pub tests-made : {r : Verdict} (v : Verdict) (ts : List Test) → v.number ≡ 0 → r ≡ then_tests accepted ts → (t : Test) (us : List Test) → ts ≡ t ∷ us → r ≡ then_tests v ts
-tests-made v ts z e t us q = e ∙ rw q (sym (then-tests v t us ∙ and-then-next v _ z))
+  abbrev syndrome_test : ℕ → Test
+  syndrome_test at = single (syndrome_ok n (w at)) 8 at
 
--- ---- one section of counters after others
+  abbrev syndrome_tests : List Test
+  syndrome_tests = syndrome_test (latest_at front n) ∷ syndrome_test (earlier_at front n) ∷ []
 
-then-last : (v : Verdict) (ts : List Test) (t : Test) → then_tests v (ts ++ (t ∷ [])) ≡ and_then (then_tests v ts) (outcome t)
-unfolding then_tests
-then-last v [] t = refl
-then-last v (u ∷ ts) t = then-last (and_then v (outcome u)) ts t
+  syndrome-by : {v : Verdict} {a k : ℕ} → a ≡ k → v ≡ outcome (syndrome_test a) → v ≡ outcome (syndrome_test k)
+  syndrome-by p e = e ∙ ap (λ (x : ℕ). outcome (syndrome_test x)) p
 
-pub none-tested : (v : Verdict) → v ≡ then_tests v []
-unfolding then_tests
-none-tested v = refl
+  module _ {own : Result (Unit {0}) Refusal} (e₀ : told own ≡ first_refusal own_tests) where
+    pub sections-own : {e : Refusal} → own ≡ Err e → refusal_told e ≡ first_refusal (before_accounts w front n)
+    sections-own i = join-ends own_tests (row_tests w front n ∷ syndrome_tests) e₀ i
 
-module _ (front n : ℕ) (x : CounterSection) {a : ℕ} (place : a ≡ x.at front n) where
-  pub then-tested : {v₁ v₂ : Verdict} (w : ℕ → ℕ) (v : Verdict) (ts : List Test) → v₁ ≡ then_tests v ts
-      → v₂ ≡ and_then v₁ (outcome (each n (word_test w front n x.kind a) 8 a)) → word_test w front n x.kind (x.at front n) ≡ counter_test x w front n
-      → v₂ ≡ then_tests v (ts ++ (section_test w front n x ∷ []))
-  then-tested w v ts e d is = rw (d, e, place, is) (sym (then-last v ts (section_test w front n x)))
+    module _ {x₀ : Unit {0}} (i₀ : own ≡ Ok x₀) where
+      module _ {rows : Result (Unit {0}) Refusal} (e₁ : told rows ≡ outcome (row_tests w front n)) where
+        pub sections-rows : {e : Refusal} → rows ≡ Err e → refusal_told e ≡ first_refusal (before_accounts w front n)
+        sections-rows i = join-next own_tests (row_tests w front n ∷ syndrome_tests) e₀ i₀ (first-stops (row_tests w front n) syndrome_tests e₁ i)
+
+        module _ {x₁ : Unit {0}} (i₁ : rows ≡ Ok x₁) where
+          after-rows : {v : Verdict} → v ≡ first_refusal syndrome_tests → v ≡ first_refusal (before_accounts w front n)
+          after-rows k = join-next own_tests (row_tests w front n ∷ syndrome_tests) e₀ i₀ (first-goes (row_tests w front n) syndrome_tests e₁ i₁ k)
+
+          module _ {latest : Result (Unit {0}) Refusal} {a : ℕ} (p : a ≡ latest_at front n) (e₂ : told latest ≡ outcome (syndrome_test a)) where
+            pub sections-latest : {e : Refusal} → latest ≡ Err e → refusal_told e ≡ first_refusal (before_accounts w front n)
+            sections-latest i = after-rows (first-stops (syndrome_test (latest_at front n)) (syndrome_test (earlier_at front n) ∷ []) (syndrome-by p e₂) i)
+
+            pub sections-earlier : {x : Unit {0}} {v : Verdict} {b : ℕ} → latest ≡ Ok x → b ≡ earlier_at front n → v ≡ outcome (syndrome_test b)
+                → v ≡ first_refusal (before_accounts w front n)
+            sections-earlier i q e =
+                after-rows
+                (first-goes (syndrome_test (latest_at front n)) (syndrome_test (earlier_at front n) ∷ []) (syndrome-by p e₂) i
+                (first-last (syndrome_test (earlier_at front n)) (syndrome-by q e)))
+
+module _ {front : ℕ} (fades : Bool) (w : ℕ → ℕ) (n : ℕ) (f : front ≡ front_words fades) where
+  abbrev change_at : List Test
+  change_at = change_tests fades w n (left_at front n)
+
+  abbrev views_left : List Test
+  views_left = view_tests (partitionable_in (w head_at)) w n (view_in (w (own_at front n))) (views_at front n (w (left_at front n)))
+
+  whole : {v : Verdict} → v ≡ first_refusal (before_accounts w front n ++ (counter_tests fades w n ++ (change_at ++ views_left))) → v ≡ check_tail fades w n
+  unfolding check_tail
+  whole e = rw f at e
+
+  change-by : {v : Verdict} {a : ℕ} → a ≡ left_at front n → v ≡ first_refusal (change_tests fades w n a) → v ≡ first_refusal change_at
+  change-by p e = e ∙ ap (λ (x : ℕ). first_refusal (change_tests fades w n x)) p
+
+  module _ {sections : Result (Unit {0}) Refusal} (e₀ : told sections ≡ first_refusal (before_accounts w front n)) where
+    pub tail-sections : {e : Refusal} → sections ≡ Err e → refusal_told e ≡ check_tail fades w n
+    tail-sections i = whole (join-ends (before_accounts w front n) (counter_tests fades w n ++ (change_at ++ views_left)) e₀ i)
+
+    module _ {x₀ : Unit {0}} (i₀ : sections ≡ Ok x₀) where
+      after-sections : {v : Verdict} → v ≡ first_refusal (counter_tests fades w n ++ (change_at ++ views_left)) → v ≡ check_tail fades w n
+      after-sections k = whole (join-next (before_accounts w front n) (counter_tests fades w n ++ (change_at ++ views_left)) e₀ i₀ k)
+
+      module _ {accounts : Result (Unit {0}) Refusal} (e₁ : told accounts ≡ first_refusal (counter_tests fades w n)) where
+        pub tail-accounts : {e : Refusal} → accounts ≡ Err e → refusal_told e ≡ check_tail fades w n
+        tail-accounts i = after-sections (join-ends (counter_tests fades w n) (change_at ++ views_left) e₁ i)
+
+        module _ {x₁ : Unit {0}} (i₁ : accounts ≡ Ok x₁) where
+          after-accounts : {v : Verdict} → v ≡ first_refusal (change_at ++ views_left) → v ≡ check_tail fades w n
+          after-accounts k = after-sections (join-next (counter_tests fades w n) (change_at ++ views_left) e₁ i₁ k)
+
+          module _ {change : Result (Unit {0}) Refusal} {a : ℕ} (l : a ≡ left_at front n) (e₂ : told change ≡ first_refusal (change_tests fades w n a)) where
+            pub tail-change : {e : Refusal} → change ≡ Err e → refusal_told e ≡ check_tail fades w n
+            tail-change i = after-accounts (join-ends change_at views_left (change-by l e₂) i)
+
+            pub tail-views : {x : Unit {0}} {v : Verdict} → change ≡ Ok x → v ≡ first_refusal views_left → v ≡ check_tail fades w n
+            tail-views i k = after-accounts (join-next change_at views_left (change-by l e₂) i k)
 
 -- ---- the sections of a state, written one after the other
 

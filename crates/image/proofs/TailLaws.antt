@@ -2,7 +2,7 @@
 use Rattle.std.proofs.Common.{◌≡◌, ℕ, ◌<◌, Bool, true, false, eqb, List, ◌++◌, length, sym, ap, ◌∙◌, arith, eq-eqb, eqb-true}
 use Rattle.words.specs.Word.{word_at}
 use Rattle.words.specs.Verdict.{accepted, and_then, first_refusal}
-use Rattle.words.specs.declared.Verdict.{Verdict}
+use Rattle.words.specs.Verdict.{Verdict}
 use Rattle.words.proofs.VerdictLaws.{numbered, Passed, tests-pass, tests-ok, tests-join, numbers-join, and-then-pass, and-then-next, passed-join, passed-split}
 use Rattle.setup.specs.Layout.{head_at, front_words}
 use Rattle.setup.specs.Setup.{size_in, partitionable_in, fades_in}

@@ -1,13 +1,12 @@
 -- The views at the end of a saved state: their room, and their tests as the code asks them, where there are some and where there are none.
-use Rattle.std.proofs.Common.{◌≡◌, ℕ, ◌+◌, ◌*◌, ◌^◌, ◌<◌, ◌≤◌, Bool, true, false, sym, refl, ap, ◌∙◌, arith}
-use Rattle.words.specs.Verdict.{first_refusal, then_tests, all_right}
-use Rattle.words.specs.declared.Verdict.{Verdict}
+use Rattle.std.proofs.Common.{◌≡◌, ℕ, ◌+◌, ◌*◌, ◌^◌, ◌<◌, ◌≤◌, Bool, true, false, sym, ap, ◌∙◌, arith}
+use Rattle.words.specs.Verdict.{accepted, first_refusal, then_tests, all_right}
+use Rattle.words.specs.Verdict.{Verdict}
 use Rattle.setup.specs.Layout.{head_at, front_words}
 use Rattle.setup.specs.Setup.{partitionable_in}
 use Rattle.changes.proofs.SectionTests.{new-most}
 use Rattle.views.specs.Section.{view_tests}
 use Rattle.image.specs.Layout.{left_at, views_at, image_length}
-use Rattle.image.proofs.SectionLaws.{tests-made}
 
 -- ---- their room
 
@@ -25,17 +24,15 @@ pub length_found : {front at left k : ℕ} {b : Bool} (fades : Bool) (n : ℕ) (
     → k ≡ image_length front n left b
 length_found fades n w f a l t h = rw (l, a, f, t) h
 
--- ---- their tests, after the answer v or all at once; x and y are the view and the place as they were found
+-- ---- their tests, as an answer or as a truth; x and y are the view and the place as they were found
 
 module _ {b : Bool} (w : ℕ → ℕ) (n view at : ℕ) where
-  pub views-skipped : (v : Verdict) → b ≡ false → v ≡ then_tests v (view_tests b w n view at)
+  pub views-none : b ≡ false → accepted ≡ first_refusal (view_tests b w n view at)
   unfolding then_tests
-  views-skipped v f = ap (λ (a : Bool). then_tests v (view_tests a w n view at)) (sym f)
+  views-none f = ap (λ (a : Bool). first_refusal (view_tests a w n view at)) (sym f)
 
-  pub views-tested : {r : Verdict} {x y : ℕ} (v : Verdict) → b ≡ true → v.number ≡ 0 → x ≡ view → y ≡ at → r ≡ first_refusal (view_tests true w n x y)
-      → r ≡ then_tests v (view_tests b w n view at)
-  views-tested {x = x} {y = y} v t z p q e =
-      tests-made v (view_tests true w n x y) z e _ _ refl ∙ (λ i. then_tests v (view_tests (sym t i) w n (p i) (q i)))
+  pub views-tested : {r : Verdict} {x y : ℕ} → b ≡ true → x ≡ view → y ≡ at → r ≡ first_refusal (view_tests true w n x y) → r ≡ first_refusal (view_tests b w n view at)
+  views-tested t p q e = e ∙ (λ i. first_refusal (view_tests (sym t i) w n (p i) (q i)))
 
   pub none-wrong : b ≡ false → true ≡ all_right (view_tests b w n view at)
   unfolding all_right

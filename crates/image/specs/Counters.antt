@@ -1,6 +1,6 @@
 -- The accounts of the modules: their sections in their order, by counts or by scores, what all of them are read as and written as. (document 01,
 -- "What runs", kinds 13 and 14; the return counts stand in Returns.antt, the scores in Scores.antt)
-use Rattle.std.specs.Prelude.{◌≡◌, ℕ, ◌+◌, Bool, true, false, cond, not, ◌&&◌, ◌||◌, List, [], ◌∷◌, map, length, replicate, ◌==◌, nat_le, nat_lt}
+use Rattle.std.specs.Prelude.{◌≡◌, ℕ, ◌+◌, Bool, true, false, not, ◌&&◌, ◌||◌, List, [], ◌∷◌, map, length, replicate, ◌==◌, nat_le, nat_lt}
 use Rattle.std.specs.Bool.{beq}
 use mathlib.Core.List.{foldr}
 use Rattle.words.specs.Word.{word_at}
@@ -15,7 +15,6 @@ use Rattle.image.specs.Words.{view_in}
 use Rattle.image.specs.CounterSection.{CounterSection, Each, section_test, values_in, section_run, section_roomy}
 use Rattle.image.specs.Returns.{return_counts}
 use Rattle.image.specs.Scores.{score_tests, scores_in, score_run}
-use Rattle.image.specs.declared.Basis.{Basis}
 
 -- a penalty, in 20..0 of its word: at most P + criticality; in the view exactly where it is not over P
 abbrev pub penalty_fits : ℕ → ℕ → Bool → ℕ → Bool
@@ -79,7 +78,3 @@ ShapedCounters c = Each (λ x. length (x.values c) ≡ 16) counter_sections × (
 unfoldable pub counters_roomy : Bool → ℕ → Counters → Bool
 counters_roomy true n c = (bounded 0 0 c.penalty && bounded 0 0 c.reward) && (clear_doubles n c.score && section_roomy n c return_counts)
 counters_roomy false n c = foldr (λ x roomy. section_roomy n c x && roomy) (clear_doubles 0 c.score) counter_sections
-
--- whether a counter fits in the section of a kind; only the search through a section names it
-abbrev pub fits_by : ℕ → Basis → ℕ → Bool
-fits_by kind b v = foldr (λ x other. cond (kind == x.kind) (x.fits b v) other) false counter_sections

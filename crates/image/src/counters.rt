@@ -1,5 +1,5 @@
 // The counters of the modules of a setup that counts, kinds 13 and 14, and 15 of returns.rt: tested, read and written.
-ghost use Rattle.std.specs.Prelude.{◌≡◌, ℕ, ◌+◌, ◌*◌, ◌^◌, ◌<◌, ◌≤◌, true, false, ◌&&◌, length, slice_index};
+ghost use Rattle.std.specs.Prelude.{◌≡◌, ℕ, ◌+◌, ◌*◌, ◌^◌, ◌<◌, ◌≤◌, true, false, length, slice_index};
 ghost use Rattle.words.specs.Word.{word_at, number_unit};
 ghost use Rattle.words.specs.Array.{array};
 ghost use Rattle.words.specs.Verdict.{all_right};
@@ -7,11 +7,11 @@ ghost use Rattle.words.specs.Runs.{put_run};
 ghost use Rattle.setup.specs.Layout.{head_at, penalty_limit_at, reward_limit_at, front_words};
 ghost use Rattle.setup.specs.Setup.{return_limit_in, limit_in, criticality_in};
 ghost use Rattle.setup.specs.Limits.{most_return_limit, most_penalty_limit, most_reward_limit};
-ghost use Rattle.image.specs.Layout.{own_at, accounts_at, rewards_at, returns_at, left_at, before_left};
+ghost use Rattle.image.specs.Layout.{own_at, accounts_at, rewards_at, returns_at, before_left};
 ghost use Rattle.image.specs.Words.{view_in};
-ghost use Rattle.image.specs.CounterSection.{counter_word, counter_in, counter_of, basis_in, values_in};
+ghost use Rattle.image.specs.CounterSection.{counter_word, counter_of, basis_in, counter_test, values_in};
 ghost use Rattle.image.specs.Returns.{return_counts};
-ghost use Rattle.image.specs.Counters.{penalty_fits, penalties, reward_fits, rewards, fits_by, counter_tests, zero_counters, counters_roomy};
+ghost use Rattle.image.specs.Counters.{penalty_fits, penalties, reward_fits, rewards, counter_tests, zero_counters, counters_roomy};
 
 use crate::Basis;
 use crate::layout::{accounts_at, returns_at, rewards_at};
@@ -65,28 +65,34 @@ fn basis_in(s: &[u8], front: usize, n: usize, j: usize) -> Basis
     }
 }
 
-// Whether a counter fits in the section of a kind.
-fn counter_fits(kind: u32, b: Basis, v: u32) -> bool
-    requires { (b.p < 2 ^ 28) × (b.criticality < 2 ^ 17) }
-    ensures { result ≡ fits_by kind b v }
+// Whether the penalty of module j + 1 is right.
+pub fn penalty_right(s: &[u8], n: usize, j: usize) -> bool
+    requires { (n ≤ 16) × (before_left (front_words false) n ≤ length s.now) × (j < n) }
+    ensures { result ≡ counter_test penalties (word_at s.now) (front_words false) n j }
 {
-    match kind {
-        13 => penalty_fits(b.p, b.criticality, b.present, v),
-        14 => reward_fits(b.r, b.penalty, v),
-        15 => return_fits(b.q, b.present, v),
-        _ => false,
-    }
+    let b = basis_in(s, 3, n, j);
+    let w = word_at(s, accounts_at(3, n) + j);
+    counter_of(13, j, w) & penalty_fits(b.p, b.criticality, b.present, w % NUMBER)
 }
 
-// Whether the word of module j + 1 is right in the section of a kind that begins at `at`.
-pub fn counter_right(s: &[u8], front: usize, n: usize, kind: u32, at: usize, j: usize) -> bool
-    requires { (front ≤ 6) × (n ≤ 16) × (before_left front n ≤ length s.now) × (2 < front) × (kind < 16) × (at + n ≤ left_at front n) × (j < n) }
-    ensures { result ≡ counter_of kind j (word_at s.now (at + j))
-        && fits_by kind (basis_in (word_at s.now) front n j) (counter_in (word_at s.now (at + j))) }
+// Whether its reward is.
+pub fn reward_right(s: &[u8], n: usize, j: usize) -> bool
+    requires { (n ≤ 16) × (before_left (front_words false) n ≤ length s.now) × (j < n) }
+    ensures { result ≡ counter_test rewards (word_at s.now) (front_words false) n j }
 {
-    let basis = basis_in(s, front, n, j);
-    let w = word_at(s, at + j);
-    counter_of(kind, j, w) & counter_fits(kind, basis, w % NUMBER)
+    let b = basis_in(s, 3, n, j);
+    let w = word_at(s, rewards_at(3, n) + j);
+    counter_of(14, j, w) & reward_fits(b.r, b.penalty, w % NUMBER)
+}
+
+// Whether its return count is, in either form.
+pub fn return_right(s: &[u8], front: usize, n: usize, j: usize) -> bool
+    requires { (front ≤ 6) × (n ≤ 16) × (before_left front n ≤ length s.now) × (2 < front) × (j < n) }
+    ensures { result ≡ counter_test return_counts (word_at s.now) front n j }
+{
+    let b = basis_in(s, front, n, j);
+    let w = word_at(s, returns_at(front, n) + j);
+    counter_of(15, j, w) & return_fits(b.q, b.present, w % NUMBER)
 }
 
 // The counters in lent arrays, and whether their words are right, by what the words before them hold. A word's kind and number are tested with its

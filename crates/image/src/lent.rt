@@ -7,17 +7,14 @@ ghost use Rattle.image.specs.Part.{first_of, second_of, lent_counters};
 
 use accounts::Counters;
 use doubles::{high_word, low_word, of_words};
+use words::array::from_fn;
 
 // The high halves of the first n scores.
 fn high_words(n: usize, score: [f64; 16]) -> [u32; 16]
     requires { n ≤ 16 }
     ensures { result ≡ array n (λ j. high_word (entry score j)) }
 {
-    let mut words = [0u32; 16];
-    for j in 0..n {
-        words[j] = high_word(score[j]);
-    }
-    words
+    from_fn(n, |j| high_word(score[j]))
 }
 
 // Their low halves.
@@ -25,11 +22,7 @@ fn low_words(n: usize, score: [f64; 16]) -> [u32; 16]
     requires { n ≤ 16 }
     ensures { result ≡ array n (λ j. low_word (entry score j)) }
 {
-    let mut words = [0u32; 16];
-    for j in 0..n {
-        words[j] = low_word(score[j]);
-    }
-    words
+    from_fn(n, |j| low_word(score[j]))
 }
 
 // The scores of such halves.

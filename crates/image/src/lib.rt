@@ -1,7 +1,7 @@
 // The words of a saved state: read, checked and written, with no state that holds them. Entries and bits of module j + 1 stand at j.
 #![tactic(auto)]
 
-// The words of an image that stand alone, and whether they are right.
+// The words of an image that stand alone, and whether they are right. No Option: what they hold is promised where they are wrong too.
 #[derive(Clone, Copy)]
 pub struct WordsPart {
     pub good: bool,
@@ -11,7 +11,7 @@ pub struct WordsPart {
     pub earlier: u32,
 }
 
-// Who is heard in the previous read of an image, and whether its words are right.
+// Who is heard in the previous read of an image, and whether its words are right. No Option, for the same reason.
 #[derive(Clone, Copy)]
 pub struct RowsPart {
     pub good: bool,
@@ -30,7 +30,8 @@ pub struct Basis {
 }
 
 // What a step needs of an image besides the lent arrays, and whether its words are right: whether reads are skewed, the limits, the own number, the
-// view, who was heard in the previous read, the two latest syndromes, and the rounds left until a pending change takes effect.
+// view, who was heard in the previous read, the two latest syndromes, and the rounds left until a pending change takes effect. No Option: whether all words
+// are right is joined from the parts with no branch, and asked once, by the call.
 #[derive(Clone, Copy)]
 pub struct ImagePart {
     pub good: bool,

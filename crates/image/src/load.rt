@@ -103,7 +103,7 @@ pub fn load_image(
     let alone = load_words(s, front, n);
     let at = left_at(front, n);
     let left = word_at(s, at);
-    let change = check_change(s, fades, n, at);
+    let change = check_change(s, fades, n, at).is_ok();
     let views = views_good(s, bit_at(head, 5), front, n, alone.view, left);
     let read = load_rows(s, front, n, rows);
     if !limits_right(s, fades) {
@@ -122,7 +122,7 @@ pub fn load_image(
         returns,
     );
     ImagePart {
-        good: modules.good & (alone.good & (read.good & (right & ((change.number == 0) & views)))),
+        good: modules.good & (alone.good & (read.good & (right & (change & views)))),
         skew: modules.skew,
         q,
         limits,

@@ -1,7 +1,8 @@
 // The views of a partitionable setup, which stand at the end of a saved state: tested, where there are any.
 ghost use Rattle.std.specs.Prelude.{◌≡◌, ◌≤◌, length};
 ghost use Rattle.words.specs.Word.{word_at};
-ghost use Rattle.words.specs.Verdict.{all_right, then_tests};
+ghost use Rattle.words.specs.Verdict.{first_refusal, all_right};
+ghost use Rattle.words.specs.Refusal.{told};
 ghost use Rattle.setup.specs.Setup.{partitionable_in};
 ghost use Rattle.views.specs.Section.{view_tests};
 ghost use Rattle.image.specs.Layout.{own_at, left_at, views_at, image_length};
@@ -10,21 +11,18 @@ ghost use Rattle.image.specs.Words.{view_in};
 use crate::layout::{left_at, views_at};
 use crate::read::view_in;
 use views::section::{check_views, views_right};
-use words::Verdict;
+use words::Refusal;
 use words::bits::bit_at;
 use words::word::word_at;
 
-// The answer v, then number 8 for the views.
-pub(crate) fn then_views(v: Verdict, s: &[u8], front: usize, n: usize) -> Verdict
+// Number 8 for the views, of a setup that has them.
+pub(crate) fn check_any_views(s: &[u8], front: usize, n: usize) -> Result<(), Refusal>
     requires { (front ≤ 6) × (n ≤ 16) × (length s.now ≡ image_length front n (word_at s.now (left_at front n)) (partitionable_in (word_at s.now 0))) }
-    ensures { result ≡ then_tests v (view_tests (partitionable_in (word_at s.now 0)) (word_at s.now) n
+    ensures { told result ≡ first_refusal (view_tests (partitionable_in (word_at s.now 0)) (word_at s.now) n
         (view_in (word_at s.now (own_at front n))) (views_at front n (word_at s.now (left_at front n)))) }
 {
-    if v.number != 0 {
-        return v;
-    }
     if !bit_at(word_at(s, 0), 5) {
-        return v;
+        return Ok(());
     }
     let view = view_in(s, front, n);
     let left = word_at(s, left_at(front, n));

@@ -10,18 +10,17 @@ use lib.Dec.{eqb, leb}
 use lib.ListN.{length}
 use Rattle.words.specs.Bits.{b2n}
 use Rattle.words.proofs.Truth.{which, cond-true, cond-false}
-use Rattle.words.specs.declared.Verdict.{Verdict}
+use Rattle.words.specs.Verdict.{Verdict}
 use Rattle.page.proofs.PageRefusals.{refusals}
-use Rattle.scanlock.specs.Locks.{fresh_locks, open_locks, event_of}
+use Rattle.scanlock.specs.Locks.{EventAnswer, fresh_locks, open_locks, event_of}
 use Rattle.scanlock.specs.ByHistory.{locks_after}
 use Rattle.scanlock.specs.SoundLocks.{SoundLocks}
 use Rattle.scanlock.specs.declared.Locks.{Locks}
-use Rattle.scanlock.specs.declared.EventAnswer.{EventAnswer}
 use Rattle.scanlock.specs.declared.Event.{Event}
 use Rattle.scanlock.proofs.LockEventLaws.{in_bounds}
 use Rattle.scanlock.proofs.ByHistory.{by-history}
 use Rattle.scanlock.proofs.SoundLocks.{fresh-sound, event-sound}
-use Rattle.scanlock.proofs.RefusalLaws.{refused-same}
+use Rattle.scanlock.proofs.EventRefusalLaws.{refused-same}
 use Rattle.lockcalls.specs.LockImage.{lock_image, locks_of, check_lock_image}
 use Rattle.lockcalls.specs.LockCalls.{LockCalled, lock_answer, lock_called, answer_for, answer_by, save_locks, lock_open_call, event_call, joystick_call}
 use Rattle.lockcalls.specs.Callers.{LockRoundTrip, lock-opening, lock-event, of-presence, Unaltered, HeldLock, lock-opened, event-told, event-refused, other-refused, ImagesByHistory}

@@ -1,25 +1,42 @@
 -- Reading and the calls from C, put together from the way that their tests came out.
 use Prim.Native.Nat.{ℕ, ◌/◌, ◌%◌, ◌^◌}
+use native.Mathlib.Omega.{arith}
+use Rattle.std.specs.Prelude.{Ok, Err}
 use mathlib.Core.Path.{◌≡◌, refl, sym, ap, ◌∙◌}
-use mathlib.Core.Bool.{Bool, true, false, cond}
+use mathlib.Core.Bool.{Bool, true, false}
 use mathlib.Core.List.{List}
 use borrow.Author.Tests.{eq-eqb, ne_eqb}
 use lib.Dec.{eqb}
 use lib.ListN.{length}
 use Rattle.words.specs.Word.{word_at}
 use Rattle.words.specs.Bits.{b2n}
-use Rattle.words.proofs.Truth.{cond-true, cond-false}
-use Rattle.words.specs.declared.Verdict.{Verdict}
-use Rattle.scanlock.specs.Locks.{locks, open_locks, event_of, blank_locks, joystick_of}
+use Rattle.words.proofs.Truth.{cond-true}
+use Rattle.words.specs.Verdict.{Verdict, verdict, accepted, single, outcome}
+use Rattle.words.specs.Refusal.{code, refusal_told}
+use Rattle.words.specs.declared.Number.{Number}
+use Rattle.words.specs.declared.Refusal.{Refusal}
+use Rattle.words.proofs.VerdictLaws.{single-ok, single-refused}
+use Rattle.words.proofs.RefusalLaws.{code-positive}
+use Rattle.scanlock.specs.Locks.{event_answer, locks, open_locks, event_of, joystick_of}
 use Rattle.scanlock.specs.declared.Axis.{Axis}
 use Rattle.scanlock.specs.declared.Locks.{Locks}
-use Rattle.scanlock.specs.declared.EventAnswer.{EventAnswer}
 use Rattle.scanlock.specs.declared.Event.{Event}
 use Rattle.scanlock.proofs.LockEventLaws.{yes, no}
-use Rattle.lockcalls.specs.LockImage.{axes_in, locks_of, read_locks, lock_image, check_lock_image}
+use Rattle.lockcalls.specs.LockImage.{LocksRead, axes_in, locks_of, read_locks, locks_told, lock_image, check_lock_image}
 use Rattle.lockcalls.specs.LockCalls.{lock_answer, lock_called, answer_for, answer_by, save_locks, lock_open_call, event_call, joystick_call}
 use Rattle.lockcalls.specs.declared.LockAnswer.{LockAnswer}
-use Rattle.lockcalls.proofs.LockCheckLaws.{image-good, good-check}
+
+-- the number of a refusal is not 0
+not-none : (number : Number) → eqb (code number) 0 ≡ false
+not-none number =
+    let p = code-positive number in
+    ne_eqb (code number) 0 (omega arith)
+
+-- a test of one word that refuses
+pub single-wrong : (ok : Bool) (number place : ℕ) {v : Verdict} → v ≡ outcome (single ok number place) → (v.number ≡ 0 → ⊥)
+    → (ok ≡ false) × (v ≡ verdict number place)
+single-wrong true number place h f = absurd (f (ap (λ (v : Verdict). v.number) (h ∙ single-ok true number place refl)))
+single-wrong false number place h f = (refl, h ∙ single-refused false number place refl)
 
 -- the joystick of some locks, as a number
 pub answer-made : (number : ℕ) (st : Locks) {b : Bool} {j : ℕ} → b ≡ joystick_of st → j ≡ b2n b → lock_answer number 0 j ≡ answer_for number st
@@ -31,21 +48,13 @@ pub locks-made : (s : List ℕ) {w : ℕ} {xs : List Axis} → w ≡ word_at s 0
 unfolding locks_of
 locks-made s e h = rw (e, h) refl
 
-pub read-refused : (s : List ℕ) {v : Verdict} {st : Locks} → v ≡ check_lock_image s → (v.number ≡ 0 → ⊥) → st ≡ blank_locks
-    → record { number = v.number; index = v.index; locks = st } ≡ read_locks s
+pub read-refused : (s : List ℕ) {v : Verdict} (e : Refusal) → v ≡ check_lock_image s → refusal_told e ≡ v → locks_told (Err e) ≡ read_locks s
 unfolding read_locks
-read-refused s {v} e h k =
-    ap (λ (st : Locks). record { number = v.number; index = v.index; locks = st }) (k ∙ sym (cond-false (locks_of s) blank_locks (ne_eqb _ 0 h)))
-    ∙ ap (λ (x : Verdict). record { number = x.number; index = x.index; locks = cond (eqb x.number 0) (locks_of s) blank_locks }) e
+read-refused s e h k = rw (← h, ← k, not-none e.number) refl
 
-pub read-accepted : (s : List ℕ) {v : Verdict} {st : Locks} → v ≡ check_lock_image s → v.number ≡ 0 → st ≡ locks_of s
-    → record { number = 0; index = 0; locks = st } ≡ read_locks s
+pub read-accepted : (s : List ℕ) {v : Verdict} {st : Locks} → v ≡ check_lock_image s → v ≡ accepted → st ≡ locks_of s → locks_told (Ok st) ≡ read_locks s
 unfolding read_locks
-read-accepted s {v} {st} e h k =
-    let g = image-good s (ap (λ (x : Verdict). x.number) (sym e) ∙ h) in
-    let a = good-check s g in
-    ap (λ (x : Locks). record { number = 0; index = 0; locks = x }) k
-    ∙ ap (λ (x : Verdict). record { number = x.number; index = x.index; locks = cond (eqb x.number 0) (locks_of s) blank_locks }) (sym a)
+read-accepted s h a k = rw (← h, a, k) refl
 
 -- ---- calls
 
@@ -58,19 +67,16 @@ pub lock-not-saved : (st : Locks) (out : List ℕ) {r : LockAnswer} → (length 
 unfolding save_locks
 lock-not-saved st out l e = no _ (ne_eqb _ 36 l) (ap (λ (x : LockAnswer). lock_called x out) e)
 
-pub lock-open-refused : (n : ℕ) (out : List ℕ) {a : EventAnswer} {r : LockAnswer} → a ≡ open_locks n → (a.number ≡ 0 → ⊥) → r ≡ lock_answer a.number 0 0
-    → lock_called r out ≡ lock_open_call n out
-unfolding lock_open_call
-lock-open-refused n out {a} e h k =
-    no {y = lock_called (lock_answer a.number 0 0) out} (save_locks a.locks out) (ne_eqb _ 0 h) (ap (λ (x : LockAnswer). lock_called x out) k)
-    ∙ ap (λ (x : EventAnswer). cond (eqb x.number 0) (save_locks x.locks out) (lock_called (lock_answer x.number 0 0) out)) e
+module _ (n : ℕ) (out : List ℕ) where
+  pub lock-open-refused : (number : Number) (st : Locks) {r : LockAnswer} → event_answer (code number) st ≡ open_locks n → r ≡ lock_answer (code number) 0 0
+      → lock_called r out ≡ lock_open_call n out
+  unfolding lock_open_call
+  lock-open-refused number st e k = rw (← e, not-none number, k) refl
 
-pub lock-open-done : (n : ℕ) (out : List ℕ) {a : EventAnswer} {r : LockAnswer} {o : List ℕ} → a ≡ open_locks n → a.number ≡ 0
-    → lock_called r o ≡ save_locks a.locks out → lock_called r o ≡ lock_open_call n out
-unfolding lock_open_call
-lock-open-done n out {a} e h k =
-    yes {x = save_locks a.locks out} (lock_called (lock_answer a.number 0 0) out) (eq-eqb _ 0 h) k
-    ∙ ap (λ (x : EventAnswer). cond (eqb x.number 0) (save_locks x.locks out) (lock_called (lock_answer x.number 0 0) out)) e
+  pub lock-open-done : (st : Locks) {r : LockAnswer} {o : List ℕ} → event_answer 0 st ≡ open_locks n → lock_called r o ≡ save_locks st out
+      → lock_called r o ≡ lock_open_call n out
+  unfolding lock_open_call
+  lock-open-done st e k = rw (← e) k
 
 -- the number of the check, as a test
 checked : (s : List ℕ) {v : Verdict} → v ≡ check_lock_image s → v.number ≡ 0 → eqb (check_lock_image s).number 0 ≡ true
@@ -88,32 +94,28 @@ module _ (image : List ℕ) (e : Event) (out : List ℕ) {v : Verdict} (ev : v �
   unfolding event_call
   call-output h l k = yes _ (checked image ev h) (no _ (ne_eqb _ 36 l) (ap (λ (x : LockAnswer). lock_called x out) k))
 
-  module _ {st : Locks} {a : EventAnswer} (h : v.number ≡ 0) (l : length out ≡ 36) (es : st ≡ locks_of image) (ea : a ≡ event_of st e) where
-    settled : a ≡ event_of (locks_of image) e
-    settled = ea ∙ ap (λ (x : Locks). event_of x e) es
-
-    pub call-refused : {r : LockAnswer} → (a.number ≡ 0 → ⊥) → r ≡ answer_for a.number st → lock_called r out ≡ event_call image e out
+  module _ {st : Locks} (h : v.number ≡ 0) (l : length out ≡ 36) (es : st ≡ locks_of image) where
+    pub call-refused : (number : Number) {r : LockAnswer} → event_answer (code number) st ≡ event_of st e → r ≡ answer_for (code number) st
+        → lock_called r out ≡ event_call image e out
     unfolding event_call
-    call-refused {r} n k =
-        yes _ (checked image ev h) (yes _ (eq-eqb _ 36 l)
-        (no _ (ne_eqb _ 0 (λ (z : (event_of (locks_of image) e).number ≡ 0). n (ap (λ (x : EventAnswer). x.number) settled ∙ z)))
-        (ap (λ (x : LockAnswer). lock_called x out)
-        (k ∙ ap (λ (x : EventAnswer). answer_for x.number st) settled
-        ∙ ap (λ (x : Locks). answer_for (event_of (locks_of image) e).number x) es))))
+    call-refused number ea k =
+        yes _ (checked image ev h) (yes _ (eq-eqb _ 36 l) (rw (← es, ← ea, not-none number, k) refl))
 
-    pub call-done : {r : LockAnswer} {o : List ℕ} → a.number ≡ 0 → lock_called r o ≡ save_locks a.locks out → lock_called r o ≡ event_call image e out
+    pub call-done : (next : Locks) {r : LockAnswer} {o : List ℕ} → event_answer 0 next ≡ event_of st e → lock_called r o ≡ save_locks next out
+        → lock_called r o ≡ event_call image e out
     unfolding event_call save_locks
-    call-done {r} {o} n k =
-        yes _ (checked image ev h) (yes _ (eq-eqb _ 36 l)
-        (yes _ (eq-eqb _ 0 (ap (λ (x : EventAnswer). x.number) (sym settled) ∙ n))
-        (k ∙ cond-true _ _ (eq-eqb _ 36 l) ∙ ap (λ (x : EventAnswer). lock_called (answer_for 0 x.locks) (lock_image x.locks)) settled)))
+    call-done next ea k =
+        yes _ (checked image ev h) (yes _ (eq-eqb _ 36 l) (rw (← es, ← ea) (k ∙ cond-true _ _ (eq-eqb _ 36 l))))
 
-pub joystick-refused : (image : List ℕ) {v : Verdict} {r : LockAnswer} → v ≡ check_lock_image image → (v.number ≡ 0 → ⊥) → r ≡ answer_by v
-    → r ≡ joystick_call image
-unfolding joystick_call
-joystick-refused image e h k = no _ (unchecked image e h) (k ∙ ap answer_by e)
+module _ (image : List ℕ) where
+  pub joystick-refused : (e : Refusal) {r : LockAnswer} → locks_told (Err e) ≡ read_locks image → r ≡ answer_by (refusal_told e) → r ≡ joystick_call image
+  unfolding read_locks joystick_call
+  joystick-refused e h k =
+      let z : eqb (check_lock_image image).number 0 ≡ false = ap (λ (x : LocksRead). eqb x.number 0) (sym h) ∙ not-none e.number in
+      no _ z (k ∙ ap (λ (x : LocksRead). lock_answer x.number x.index 0) h)
 
-pub joystick-done : (image : List ℕ) {v : Verdict} {st : Locks} {r : LockAnswer} → v ≡ check_lock_image image → v.number ≡ 0 → st ≡ locks_of image
-    → r ≡ answer_for 0 st → r ≡ joystick_call image
-unfolding joystick_call
-joystick-done image e h k j = yes _ (checked image e h) (j ∙ ap (λ (x : Locks). answer_for 0 x) k)
+  pub joystick-done : (st : Locks) {r : LockAnswer} → locks_told (Ok st) ≡ read_locks image → r ≡ answer_for 0 st → r ≡ joystick_call image
+  unfolding read_locks joystick_call
+  joystick-done st h k =
+      let z : eqb (check_lock_image image).number 0 ≡ true = ap (λ (x : LocksRead). eqb x.number 0) (sym h) in
+      yes _ z (k ∙ ap (λ (x : LocksRead). answer_for 0 x.locks) h ∙ ap (answer_for 0) (cond-true _ _ z))

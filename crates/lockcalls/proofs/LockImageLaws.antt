@@ -1,11 +1,11 @@
 -- The words of a saved scan lock, written and read back.
 use Prim.Native.Nat.{ℕ, zero, suc, ◌+◌, ◌-◌, ◌*◌, ◌/◌, ◌%◌, ◌^◌, ◌≤◌, ◌<◌}
 use mathlib.Core.Path.{◌≡◌, refl, sym, ap, ap₂, ◌∙◌}
-use mathlib.Core.Bool.{Bool, true, false, not, ◌&&◌}
+use mathlib.Core.Bool.{Bool, true, false, ◌&&◌}
 use mathlib.Core.Logic.{⊎_elim}
 use mathlib.Core.List.{List}
 use native.Mathlib.Omega.{arith}
-use borrow.Author.Tests.{eqb-true, eq-eqb, ne_eqb, leb-true, leb-false, le-leb, lt-ltb, ltb-true, not-false}
+use borrow.Author.Tests.{eqb-true, eq-eqb, ne_eqb, leb-true, leb-false, le-leb, lt-ltb, ltb-true}
 use native.Mathlib.Nat.{le_of_eq}
 use lib.Dec.{eqb, leb}
 use lib.ListN.{get_or, length, replicate, length-replicate}
@@ -18,7 +18,6 @@ use Rattle.words.proofs.Truth.{which, cond-true, cond-false, and_l, and_r, and-t
 use Rattle.words.proofs.BitLaws.{bit_high}
 use Rattle.words.proofs.ByteLaws.{bytes-length, word_of, bytes-ext}
 use Rattle.words.proofs.ByteLaws.{bytes-own}
-use Rattle.words.proofs.LowestLaws.{lowest-empty, lowest-zero}
 use Rattle.words.proofs.TableLaws.{updated-at, updated-length}
 use Rattle.words.specs.Verdict.{accepted}
 use Rattle.scanlock.specs.Axis.{axis, free, present}
@@ -134,9 +133,7 @@ module _ (st : Locks) (s : SoundLocks st) where
             rw (a, b) (and-true _ _ (and-true _ _ (le-leb 2 st.n s.least) (le-leb st.n 16 s.most)) (lt-ltb _ _ s.view));
         nine = image-length;
         axes =
-            lowest-empty _ 8
-            (λ i h. ap not (ap₂ (λ (v w : ℕ). axis_ok v w) b (axis-word i h)
-            ∙ axis-right st.n st.view _ s.most s.view (s.each i h)));
+            λ i h. ap₂ (λ (v w : ℕ). axis_ok v w) b (axis-word i h) ∙ axis-right st.n st.view _ s.most s.view (s.each i h);
       }
 
   axes-back : axes_in (lock_image st) ≡ st.axes
@@ -170,9 +167,6 @@ module _ (s : List ℕ) (g : Good s) where
       let a = and_l (leb 2 (word_at s 0 / 2 ^ 16) && leb (word_at s 0 / 2 ^ 16) 16) _ g.head in
       (leb-true 2 _ (and_l (leb 2 (word_at s 0 / 2 ^ 16)) _ a), leb-true _ 16 (and_r (leb 2 (word_at s 0 / 2 ^ 16)) _ a))
 
-  word_ok : (i : ℕ) → i < 8 → axis_ok (word_at s 0 % 2 ^ 16) (word_at s (i + 1)) ≡ true
-  word_ok i h = not-false _ (lowest-zero _ 8 g.axes i h)
-
   axis-at : (i : ℕ) → i < 8 → get_or (axes_in s) i free ≡ axis_in (word_at s (i + 1))
   unfolding axes_in
   axis-at i h =
@@ -192,7 +186,7 @@ module _ (s : List ℕ) (g : Good s) where
         view = view_in_lem;
         eight = eight-axes;
         each = λ i h. ap (axis_fits (word_at s 0 % 2 ^ 16)) (axis-at i h)
-            ∙ and_r (eqb (axis_word (axis_in (word_at s (i + 1)))) (word_at s (i + 1))) _ (word_ok i h);
+            ∙ and_r (eqb (axis_word (axis_in (word_at s (i + 1)))) (word_at s (i + 1))) _ (g.axes i h);
       }
 
   read_word : (i : ℕ) → i < 9 → lock_word (locks_of s) i ≡ word_at s i
@@ -205,7 +199,7 @@ module _ (s : List ℕ) (g : Good s) where
       let k : i < 8 = omega arith in
       cond-false _ _ (ne_eqb (suc i) 0 (λ (e : suc i ≡ 0). omega arith))
       ∙ ap (λ (j : ℕ). axis_word (get_or (axes_in s) j free)) z ∙ ap axis_word (axis-at i k)
-      ∙ eqb-true _ _ (and_l (eqb (axis_word (axis_in (word_at s (i + 1)))) (word_at s (i + 1))) _ (word_ok i k)) ∙ ap (word_at s) o
+      ∙ eqb-true _ _ (and_l (eqb (axis_word (axis_in (word_at s (i + 1)))) (word_at s (i + 1))) _ (g.axes i k)) ∙ ap (word_at s) o
 
   image-back : ((i : ℕ) → get_or s i 0 < 256) → lock_image (locks_of s) ≡ s
   unfolding lock_image

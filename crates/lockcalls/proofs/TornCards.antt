@@ -20,12 +20,11 @@ use Rattle.adoption.specs.Adopts.{is_out, adopted_view}
 use Rattle.adoption.proofs.Adoption.{adoption}
 use Rattle.adoption.proofs.AdoptedViews.{adopted-views}
 use Rattle.scanlock.specs.Axis.{axis, free, present, lost_of}
-use Rattle.scanlock.specs.Locks.{locks, fresh_locks, seen_axes, set_view_of, event_of, joystick_of}
+use Rattle.scanlock.specs.Locks.{EventAnswer, locks, fresh_locks, seen_axes, set_view_of, event_of, joystick_of}
 use Rattle.scanlock.specs.ByHistory.{locks_after}
 use Rattle.scanlock.specs.SoundLocks.{held_well, SoundLocks}
 use Rattle.scanlock.specs.declared.Axis.{Axis}
 use Rattle.scanlock.specs.declared.Locks.{Locks}
-use Rattle.scanlock.specs.declared.EventAnswer.{EventAnswer}
 use Rattle.scanlock.specs.declared.Event.{Event}
 use Rattle.scanlock.specs.declared.Event.TheVariants.{View}
 use Rattle.scanlock.proofs.SoundLocks.{fits-of}

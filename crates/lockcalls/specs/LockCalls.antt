@@ -1,8 +1,9 @@
 -- What C calls: the answer, and the output at exit, which a refusal leaves as it was.
-use Rattle.std.specs.Prelude.{ℕ, cond, List, eqb, length}
+use Rattle.std.specs.Prelude.{ℕ, Result, Ok, Err, cond, List, eqb, length}
 use Rattle.words.specs.Bits.{b2n}
-use Rattle.words.specs.Verdict.{is_accepted}
-use Rattle.words.specs.declared.Verdict.{Verdict}
+use Rattle.words.specs.Verdict.{Verdict, is_accepted}
+use Rattle.words.specs.Refusal.{refusal_told}
+use Rattle.words.specs.declared.Refusal.{Refusal}
 use Rattle.scanlock.specs.Locks.{open_locks, event_of, joystick_of}
 use Rattle.scanlock.specs.declared.Locks.{Locks}
 use Rattle.scanlock.specs.declared.Event.{Event}
@@ -29,6 +30,11 @@ answer_for number st = lock_answer number 0 (b2n (joystick_of st))
 -- an answer by the verdict that refuses an image
 abbrev pub answer_by : Verdict → LockAnswer
 answer_by v = lock_answer v.number v.index 0
+
+-- what code answers, a result, as the call has it
+abbrev pub lock_told : Result LockAnswer Refusal → LockAnswer
+lock_told (Ok a) = a
+lock_told (Err e) = answer_by (refusal_told e)
 
 -- 9 for an output that is not of 9 words
 unfoldable pub save_locks : Locks → List ℕ → LockCalled

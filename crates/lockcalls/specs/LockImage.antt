@@ -3,20 +3,19 @@
 --   word 0      bits 20..16 N, 15..0 the view
 --   word a      axis a, 1..8: bits 12..8 the holder (0 for none), 7..4 the depth, 1 a move is unfinished, 0 stopping
 -- Unnamed bits are 0.
-use Rattle.std.specs.Prelude.{ℕ, ◌+◌, ◌-◌, ◌*◌, ◌/◌, ◌%◌, ◌^◌, Bool, cond, not, ◌&&◌, List, [], ◌∷◌, eqb, leb, ltb, get_or, length, replicate}
+use Rattle.std.specs.Prelude.{ℕ, Result, Ok, Err, ◌+◌, ◌-◌, ◌*◌, ◌/◌, ◌%◌, ◌^◌, Bool, cond, ◌&&◌, List, [], ◌∷◌, eqb, leb, ltb, get_or, length, replicate}
 use Rattle.words.specs.Word.{word_at, bytes_of}
 use Rattle.words.specs.Bits.{b2n}
-use Rattle.words.specs.Count.{lowest}
 use Rattle.words.specs.Table.{updated}
-use Rattle.words.specs.Verdict.{is_accepted, Test, single, each, first_refusal}
+use Rattle.words.specs.Verdict.{Verdict, is_accepted, Test, single, each, first_refusal}
+use Rattle.words.specs.Refusal.{code}
+use Rattle.words.specs.declared.Refusal.{Refusal}
 use Rattle.setup.specs.Check.{whole}
-use Rattle.words.specs.declared.Verdict.{Verdict}
 use Rattle.scanlock.specs.Axis.{axis, free}
 use Rattle.scanlock.specs.Locks.{locks, blank_locks}
 use Rattle.scanlock.specs.SoundLocks.{axis_fits}
 use Rattle.scanlock.specs.declared.Axis.{Axis}
 use Rattle.scanlock.specs.declared.Locks.{Locks}
-use Rattle.lockcalls.specs.declared.LocksRead.{LocksRead}
 
 -- ---- words
 
@@ -66,10 +65,6 @@ axis_ok view w = eqb (axis_word (axis_in w)) w && axis_fits view (axis_in w)
 
 -- ---- the check
 
--- the index of the first wrong word of an axis, or 0
-abbrev pub first_wrong : ℕ → List ℕ → ℕ
-first_wrong view s = lowest 8 (λ i. not (axis_ok view (word_at s (i + 1))))
-
 -- 1 empty or not whole words, 2 the head, 3 not 9 words, 8 a word of an axis, each at its word
 abbrev pub lock_tests : List ℕ → List Test
 lock_tests s =
@@ -82,6 +77,17 @@ lock_tests s =
 -- the first refusal
 unfoldable pub check_lock_image : List ℕ → Verdict
 check_lock_image s = first_refusal (lock_tests s)
+
+-- what reading a scan lock answers; where it is refused the locks are blank
+pub record LocksRead : Type 0 where
+  pub number : ℕ
+  pub index : ℕ
+  pub locks : Locks
+
+-- what code answers, a result, as such an answer
+abbrev pub locks_told : Result Locks Refusal → LocksRead
+locks_told (Ok st) = record { number = 0; index = 0; locks = st }
+locks_told (Err e) = record { number = code e.number; index = e.index; locks = blank_locks }
 
 -- reading: what is held where an image is refused is blank
 unfoldable pub read_locks : List ℕ → LocksRead

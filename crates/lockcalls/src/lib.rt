@@ -1,19 +1,10 @@
 // A scan lock as nine words, and what C calls: an image is read, told an event and written. (document 02, E2)
 #![tactic(auto)]
 
-use scanlock::Locks;
-
-// What reading a scan lock answers; where it is refused the locks are blank.
-#[derive(Clone, Copy)]
-pub struct LocksRead {
-    pub number: u32,
-    pub index: u32,
-    pub locks: Locks,
-}
-
-// What a call from C answers: joystick is 1 if the joystick is live after the call, and 0 where it is not or the locks could not be read.
+// What a call from C answers, in the form that the C interface needs: joystick is 1 if the joystick is live after the call, and 0 where it is not or
+// the locks could not be read.
 #[repr(C)]
-#[derive(Clone, Copy)]
+#[derive(Clone, Copy, Debug, PartialEq, Eq)]
 pub struct LockAnswer {
     pub number: u32,
     pub index: u32,

@@ -1,44 +1,44 @@
 // The calls from C: a scan lock is its image, read from one slice and written to the output. A refused call writes nothing.
 ghost use Rattle.std.specs.Prelude.{◌≡◌};
 ghost use Rattle.scanlock.specs.declared.Event.TheVariants.{View, Begin, End, Start, Abort, Finished, Stopped};
-ghost use Rattle.lockcalls.specs.LockCalls.{lock_called, lock_open_call, event_call, joystick_call};
+ghost use Rattle.lockcalls.specs.LockCalls.{lock_told, lock_called, lock_open_call, event_call, joystick_call};
 
 use crate::LockAnswer;
 use crate::check::check_lock;
-use crate::load::locks_in;
-use crate::save::{answer_with, plain, save_locks};
+use crate::load::{locks_in, read_locks};
+use crate::save::{answer_with, save_locks};
 use scanlock::{Event, Locks};
+use words::check::single;
+use words::{Number, Refusal};
 
-// Any event, from image to image: 1, 2, 3, 8 for the image, 9 for the output, then the event's own numbers.
+// Any event, from image to image: 1, 2, 3, 8 for the image, 9 for the output. Then the event's own numbers, with the joystick of the locks as they were.
+fn told(image: &[u8], event: Event, out: &mut [u8]) -> Result<LockAnswer, Refusal>
+    ensures { lock_called (lock_told result) out.new ≡ event_call image.now event out.old }
+{
+    check_lock(image)?;
+    single(out.len() == 36, Number::Lent, 0)?;
+    let locks = locks_in(image);
+    match locks.handle(event) {
+        Ok(next) => Ok(save_locks(next, out)),
+        Err(number) => Ok(answer_with(locks, number.code())),
+    }
+}
+
+// The same as C has it.
 fn call(image: &[u8], event: Event, out: &mut [u8]) -> LockAnswer
     ensures { lock_called result out.new ≡ event_call image.now event out.old }
 {
-    let v = check_lock(image);
-    if v.number != 0 {
-        return plain(v.number, v.index);
-    }
-    if out.len() != 36 {
-        return plain(9, 0);
-    }
-    let locks = locks_in(image);
-    let a = locks.handle(event);
-    if a.number != 0 {
-        return answer_with(locks, a.number);
-    }
-    let next = a.locks;
-    save_locks(next, out)
+    told(image, event, out).unwrap_or_else(LockAnswer::from)
 }
 
 // The scan lock of a backplane of n modules: 2 for another n than 2..16, 9.
 pub fn scanlock_open(n: u32, out: &mut [u8]) -> LockAnswer
     ensures { lock_called result out.new ≡ lock_open_call n out.old }
 {
-    let o = Locks::open(n);
-    if o.number != 0 {
-        return plain(o.number, 0);
+    match Locks::open(n) {
+        Ok(locks) => save_locks(locks, out),
+        Err(number) => number.at(0).into(),
     }
-    let locks = o.locks;
-    save_locks(locks, out)
 }
 
 // The view after an accepted step.
@@ -94,10 +94,8 @@ pub fn scanlock_stopped(image: &[u8], axis: u32, out: &mut [u8]) -> LockAnswer
 pub fn scanlock_joystick(image: &[u8]) -> LockAnswer
     ensures { result ≡ joystick_call image.now }
 {
-    let v = check_lock(image);
-    if v.number != 0 {
-        return plain(v.number, v.index);
+    match read_locks(image) {
+        Ok(locks) => answer_with(locks, 0),
+        Err(refusal) => refusal.into(),
     }
-    let locks = locks_in(image);
-    answer_with(locks, 0)
 }

@@ -1,13 +1,15 @@
 // Writing a scan lock.
 ghost use Rattle.std.specs.Prelude.{◌≡◌, ◌<◌, length};
 ghost use Rattle.lockcalls.specs.LockImage.{lock_word, lock_image};
-ghost use Rattle.lockcalls.specs.LockCalls.{lock_answer, answer_for, lock_called, save_locks};
+ghost use Rattle.words.specs.Refusal.{refusal_told};
+ghost use Rattle.lockcalls.specs.LockCalls.{answer_for, answer_by, lock_called, save_locks};
 
 use crate::LockAnswer;
 use crate::word::{axis_word, head_word};
 use scanlock::Locks;
 use words::bits::flag;
 use words::word::put_word;
+use words::{Number, Refusal};
 
 // Word i of the image.
 fn lock_word(locks: Locks, i: usize) -> u32
@@ -17,9 +19,7 @@ fn lock_word(locks: Locks, i: usize) -> u32
     if i == 0 {
         return head_word(locks.n, locks.view);
     }
-    let a = i - 1;
-    let x = locks.axes[a];
-    axis_word(x)
+    axis_word(locks.axes[i - 1])
 }
 
 // Writes all nine words.
@@ -33,14 +33,16 @@ fn save_words(locks: Locks, out: &mut [u8])
     }
 }
 
-// An answer without the joystick.
-pub fn plain(number: u32, index: u32) -> LockAnswer
-    ensures { result ≡ lock_answer number index 0 }
-{
-    LockAnswer {
-        number,
-        index,
-        joystick: 0,
+// A refusal answers its number and its index, and no joystick.
+impl From<Refusal> for LockAnswer {
+    ghost from_gives = { λ e a. a ≡ answer_by (refusal_told e) };
+
+    fn from(e: Refusal) -> LockAnswer {
+        LockAnswer {
+            number: e.number.code(),
+            index: e.index,
+            joystick: 0,
+        }
     }
 }
 
@@ -60,7 +62,7 @@ pub fn save_locks(locks: Locks, out: &mut [u8]) -> LockAnswer
     ensures { lock_called result out.new ≡ save_locks locks out.old }
 {
     if out.len() != 36 {
-        return plain(9, 0);
+        return Number::Lent.at(0).into();
     }
     save_words(locks, out);
     answer_with(locks, 0)

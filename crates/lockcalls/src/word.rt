@@ -23,7 +23,7 @@ pub fn head_ok(w: u32) -> bool
     (2 <= n) & (n <= 16) & view_fits(n, w % VIEW)
 }
 
-// The axis of a word, whatever its other bits are.
+// The axis of a word, whatever its other bits are. (`From` both ways would have to stand in `scanlock`, which knows no words.)
 pub fn axis_in(w: u32) -> Axis
     ensures { result ≡ axis_in w }
 {

@@ -27,7 +27,7 @@ use Rattle.presence.proofs.RoundTrip.{round_trip}
 use Rattle.calls.specs.Calls.{Called, called, refused_call, wrote, open_call}
 use Rattle.calls.specs.declared.Answer.{Answer}
 use Rattle.presence.specs.declared.State.{State}
-use Rattle.presence.specs.declared.Opened.{Opened}
+use Rattle.presence.specs.Opening.{Opened}
 use Rattle.presence.proofs.StateStepLaws.{open-valid}
 use Rattle.calls.proofs.ModuleCallLaws.{read-front}
 use Rattle.calls.proofs.CallAnswers.{open-writes, open-passed}

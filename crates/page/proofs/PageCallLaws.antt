@@ -10,7 +10,7 @@ use Rattle.words.specs.Word.{word_at, bytes_of}
 use Rattle.words.specs.Runs.{runs_of}
 use Rattle.words.proofs.ByteLaws.{word_first}
 use Rattle.words.specs.Bits.{full}
-use Rattle.words.specs.declared.Verdict.{Verdict}
+use Rattle.words.specs.Verdict.{Verdict}
 use Rattle.setup.specs.Limits.{fades}
 use Rattle.setup.specs.Setup.{head_word, size_in, fades_in, front_of}
 use Rattle.setup.specs.declared.Setup.{Setup}

@@ -8,7 +8,7 @@ use borrow.Author.Tests.{eq-eqb, ne_eqb}
 use Rattle.words.specs.Word.{word_at, put_word}
 use Rattle.words.proofs.Truth.{cond-true, cond-false}
 use Rattle.page.specs.Flags.{cleared, shared}
-use Rattle.page.specs.Page.{cause_word, put_causes, somebody_charged, raised, page_stepped, page_written, interrupt_on}
+use Rattle.page.specs.Page.{put_causes, somebody_charged, raised, page_stepped, page_written, interrupt_on}
 
 -- w and v are words 1 and 2 of the page before the step
 pub stepped-made : (n before health after : ℕ) (causes page : List ℕ) {a b d r : List ℕ} {w v f : ℕ} {charged : Bool} → w ≡ word_at page 1
@@ -20,14 +20,6 @@ stepped-made n before health after causes page {a} {b} {d} {r} {w} {v} {f} {char
     h ∙ ap (λ (x : ℕ). raised v (not (eqb x after)) charged) e₁ ∙ ap₂ (λ (x : ℕ) (y : Bool). raised x (not (eqb (word_at page 1) after)) y) e₂ e
     in
     t ∙ ap (put_causes causes) (s ∙ ap₂ (λ (x : List ℕ) (y : ℕ). put_word x 2 y) (q ∙ ap (λ (x : List ℕ). put_word x 1 after) p) g)
-
--- the four words of the causes, one after the other
-pub causes-made : (causes page : List ℕ) {a b c r : List ℕ} {w x y z : ℕ} → w ≡ cause_word causes 0 → x ≡ cause_word causes 1 → y ≡ cause_word causes 2
-    → z ≡ cause_word causes 3 → a ≡ put_word page 4 w → b ≡ put_word a 5 x → c ≡ put_word b 6 y → r ≡ put_word c 7 z → r ≡ put_causes causes page
-unfolding put_causes
-causes-made causes page e f g h p q s t =
-    let put : ℕ → List ℕ → ℕ → List ℕ = λ i o v. put_word o i v in
-    t ∙ ap₂ (put 7) (s ∙ ap₂ (put 6) (q ∙ ap₂ (put 5) (p ∙ ap (put 4 page) e) f) g) h
 
 module _ (offset value : ℕ) (page : List ℕ) {r : List ℕ} where
   -- w is word 2 of the page before the write

@@ -13,7 +13,7 @@ use Rattle.words.proofs.Truth.{which, clash, cond-true, cond-false, and-true}
 use Rattle.words.specs.Verdict.{verdict, accepted, is_accepted, between, single, and_then}
 use Rattle.setup.specs.Setup.{partitionable_in, front_in, setup_of}
 use Rattle.setup.specs.Check.{check_setup}
-use Rattle.words.specs.declared.Verdict.{Verdict}
+use Rattle.words.specs.Verdict.{Verdict}
 use Rattle.words.proofs.VerdictLaws.{Passed, between-of, tests-ok}
 use Rattle.rules.specs.Hearing.{reading_of, causes_of}
 use Rattle.views.specs.ViewWord.{read_words}
@@ -27,7 +27,7 @@ use Rattle.calls.specs.Calls.{Called, refused_call, wrote, open_call, step_call}
 use Rattle.calls.specs.Refusals.{size_of, has_room, has_words, seen_in, answering}
 use Rattle.rules.specs.declared.Reading.{Reading}
 use Rattle.presence.specs.declared.State.{State}
-use Rattle.presence.specs.declared.Stepped.{Stepped}
+use Rattle.presence.specs.Step.{Stepped}
 use Rattle.calls.proofs.CallAnswers.{open-passed, open-keeps, step-passed, step_keeps, change-keeps, save-keeps}
 use Rattle.presence.proofs.StateStepLaws.{step-accepted as step-of-struct, open-fresh}
 use Rattle.calls.proofs.Refusals.{refusals as without-page, both-accept, two-answers, open-verdict as open-without, step-verdict as step-without}

@@ -29,7 +29,7 @@ use Rattle.presence.proofs.RoundTrip.{round_trip}
 use Rattle.calls.specs.Calls.{Called, called, refused_call, step_call}
 use Rattle.calls.specs.declared.Answer.{Answer}
 use Rattle.presence.specs.declared.State.{State}
-use Rattle.presence.specs.declared.Stepped.{Stepped}
+use Rattle.presence.specs.Step.{Stepped}
 use Rattle.presence.proofs.ValidLaws.{StateFits, valid-fits}
 use Rattle.presence.proofs.StateStepLaws.{step-accepted, step-whole, step-valid}
 use Rattle.presence.proofs.ImageState.{load-valid}

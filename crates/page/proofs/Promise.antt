@@ -38,7 +38,7 @@ use Rattle.setup.proofs.SetupRoundTrip.{read-shaped}
 use Rattle.presence.specs.Image.{state_of}
 use Rattle.calls.specs.Calls.{open_call, step_call}
 use Rattle.presence.specs.declared.State.{State}
-use Rattle.presence.specs.declared.Stepped.{Stepped}
+use Rattle.presence.specs.Step.{Stepped}
 use Rattle.presence.proofs.ValidLaws.{valid-fits}
 use Rattle.presence.proofs.StateChangeLaws.{change-taken}
 use Rattle.presence.proofs.StateStepLaws.{step-accepted}

@@ -6,7 +6,7 @@ use Rattle.words.specs.Bits.{full}
 use Rattle.words.specs.Verdict.{is_accepted, between, single, and_then, first_refusal}
 use Rattle.setup.specs.Setup.{setup_of}
 use Rattle.setup.specs.Check.{check_setup}
-use Rattle.words.specs.declared.Verdict.{Verdict}
+use Rattle.words.specs.Verdict.{Verdict}
 use Rattle.rules.specs.Hearing.{reading_of, causes_of}
 use Rattle.image.specs.Check.{left_in, check_image}
 use Rattle.presence.specs.Opening.{fresh}

@@ -1,4 +1,5 @@
-// Flags: vectors of 32 bits that are joined, cleared and compared bit by bit.
+// Flags: vectors of 32 bits that are joined, cleared and compared bit by bit. Each operator has a function, whose contract says what becomes of each
+// bit: the operators at the calls would be no plainer, and each call would need that proof.
 ghost use Rattle.std.specs.Prelude.{◌≡◌};
 ghost use Rattle.page.specs.Flags.{joined as joined_of, cleared as cleared_of, shared as shared_of};
 

@@ -54,26 +54,11 @@ fn put_causes(causes: [u32; 16], page: &mut [u8])
     requires { (length page.old ≡ 64) × ((k : ℕ) → k < 16 → get_or causes k 0 ≤ 3) }
     ensures { page.new ≡ put_causes causes page.old }
 {
-    put_word(
-        page,
-        4,
-        cause_word(causes[0], causes[1], causes[2], causes[3]),
-    );
-    put_word(
-        page,
-        5,
-        cause_word(causes[4], causes[5], causes[6], causes[7]),
-    );
-    put_word(
-        page,
-        6,
-        cause_word(causes[8], causes[9], causes[10], causes[11]),
-    );
-    put_word(
-        page,
-        7,
-        cause_word(causes[12], causes[13], causes[14], causes[15]),
-    );
+    for i in 0..4 {
+        let k = 4 * i;
+        let w = cause_word(causes[k], causes[k + 1], causes[k + 2], causes[k + 3]);
+        put_word(page, 4 + i, w);
+    }
 }
 
 // Writes what a step leaves: the view before it, the health vector, the view after it and the causes of its read.

@@ -18,7 +18,7 @@ use calls::calls::{presence_open, presence_step};
 use image::{left_at, view_in, views_at};
 use setup::bounds::{fades_at, front_words};
 use setup::check::size_at;
-use words::bits::{bit_at, with_bit};
+use words::bits::{bit_at, from_fn};
 use words::word::{KIND, NUMBER, word_at};
 
 // Opens module `own` of a setup, and writes its image and its page: 1 to 6 and 22, 7, 9 for the output or the page.
@@ -63,13 +63,12 @@ fn turned_view(image: &[u8], n: usize) -> u32
     let at = left_at(3, n);
     let p = word_at(image, at + 1) % KIND;
     let r = word_at(image, at + 2) % KIND;
-    let mut found: u32 = 0;
-    for j in 0..n {
+    let stays = |j: usize| {
         let penalty = word_at(image, at - 3 * n + j) % NUMBER;
         let reward = word_at(image, at - 2 * n + j) % NUMBER;
-        found = with_bit(found, j, bit_at(view, j) & ((r <= reward) | (penalty <= p)));
-    }
-    found
+        bit_at(view, j) & ((r <= reward) | (penalty <= p))
+    };
+    from_fn(n, stays)
 }
 
 // The view that rule 8 finds in a step from an image: the image's own, or, where a change is due, the one after it.

@@ -18,7 +18,7 @@ use Rattle.presence.specs.Change.{change_of}
 use Rattle.presence.specs.RoundTrip.{Shaped}
 use Rattle.presence.specs.Applied.{Reads, stepped_by, Applied}
 use Rattle.presence.specs.declared.State.{State}
-use Rattle.presence.specs.declared.Stepped.{Stepped}
+use Rattle.presence.specs.Step.{Stepped}
 use Rattle.presence.proofs.FrameLaws.{frame-pass, follows-lead}
 use Rattle.presence.proofs.ValidLaws.{valid-fits}
 use Rattle.presence.proofs.StateStepLaws.{step-accepted}

@@ -1,4 +1,6 @@
 -- The state that one pass over an image finds, part by part.
+use Rattle.std.specs.Prelude.{Option, Some, None, if◌then◌else◌}
+use Rattle.std.specs.Bool.{then_some}
 use mathlib.Core.Path.{◌≡◌, refl, ap, ◌∙◌, sym}
 use mathlib.Core.Bool.{Bool, true, false, ◌&&◌}
 use mathlib.Core.List.{List}
@@ -113,3 +115,36 @@ module _ {setup : Setup} {fades : Bool} {n : ℕ} (s : List ℕ) (e : setup ≡ 
   accounts-asked g t at few long most view =
       let q = return-limit s e in
       asked_by s n fades limits_of at few long (limits-hold g t) q (omega (arith, q, most)) (criticality-of at) view
+
+-- ---- the answer: the state where all words are right
+
+module _ {A : Type 0} {good all : Bool} {x y : A} where
+  pub loaded-by : {r : Option A} → good ≡ all → (good ≡ true → x ≡ y) → r ≡ then_some good x → r ≡ (if all then Some y else None)
+  loaded-by e f h = h ∙ handed good f ∙ ap (λ (b : Bool). if b then Some y else None) e
+    where
+      handed : (b : Bool) → (b ≡ true → x ≡ y) → then_some b x ≡ (if b then Some y else None)
+      handed true f = ap Some (f refl)
+      handed false f = refl
+
+pub none-loaded : {A : Type 0} {all : Bool} (y : A) → false ≡ all → None ≡ (if all then Some y else None)
+none-loaded y e = ap (λ (b : Bool). if b then Some y else None) e
+
+-- the same by another truth
+pub loaded-as : {A : Type 0} {good all : Bool} {r : Option A} (y : A) → good ≡ all → r ≡ (if good then Some y else None) → r ≡ (if all then Some y else None)
+loaded-as y e h = h ∙ ap (λ (b : Bool). if b then Some y else None) e
+
+-- what the answer says
+some-of : {A : Type 0} {x : A} (b : Bool) (y : A) → Some x ≡ (if b then Some y else None) → (x ≡ y) × (b ≡ true)
+some-of true y e = (cc, refl)
+some-of false y e = cc
+
+none-of : {A : Type 0} (b : Bool) (y : A) → None ≡ (if b then Some y else None) → b ≡ false
+none-of true y e = cc
+none-of false y e = refl
+
+module _ {A : Type 0} {b : Bool} {r : Option A} (y : A) (h : r ≡ (if b then Some y else None)) where
+  pub loaded-some : {x : A} → r ≡ Some x → (x ≡ y) × (b ≡ true)
+  loaded-some i = some-of b y (sym i ∙ h)
+
+  pub loaded-none : r ≡ None → b ≡ false
+  loaded-none i = none-of b y (sym i ∙ h)

@@ -12,7 +12,7 @@ use Rattle.views.proofs.ViewsLaws.{ViewsFit}
 use Rattle.presence.specs.Step.{mark_of, seen_by, outgoing_view, after_round, accepted_step, step_of}
 use Rattle.presence.specs.Outgoing.{OutgoingHeard}
 use Rattle.presence.specs.declared.State.{State}
-use Rattle.presence.specs.declared.Stepped.{Stepped}
+use Rattle.presence.specs.Step.{Stepped}
 use Rattle.presence.proofs.ValidLaws.{StateFits, valid-fits, after-fits}
 use Rattle.presence.proofs.StateStepLaws.{outgoing-heard, after-size, step-accepted}
 

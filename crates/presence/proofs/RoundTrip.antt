@@ -21,7 +21,7 @@ use Rattle.setup.specs.Setup.{size_in, partitionable_in, fades_in, front_in, fro
 use Rattle.setup.specs.Check.{check_setup, read_setup}
 use Rattle.setup.specs.RoundTrip.{ShapedSetup}
 use Rattle.setup.specs.declared.Setup.{Setup}
-use Rattle.setup.specs.declared.SetupRead.{SetupRead}
+use Rattle.setup.specs.Check.{SetupRead}
 use Rattle.setup.proofs.SetupLaws.{SetupFits, verdict-fits, fits-room}
 use Rattle.setup.proofs.BoundLaws.{front-least, read-fades, fades-same}
 use Rattle.setup.proofs.SetupWords.{written-length, written-fades, place-small}
@@ -58,7 +58,7 @@ use Rattle.presence.specs.Change.{change_of}
 use Rattle.presence.specs.Image.{state_runs, image_runs, image_of, state_of, state_length}
 use Rattle.presence.specs.RoundTrip.{Shaped, RoundTrip}
 use Rattle.presence.specs.declared.State.{State}
-use Rattle.presence.specs.declared.Stepped.{Stepped}
+use Rattle.presence.specs.Step.{Stepped}
 use Rattle.presence.proofs.SmallLaws.{Small, valid-small, valid-setup, valid-tail}
 use Rattle.presence.proofs.StateWords.{views_of, Stands, Read, stands-bytes, words-partitionable, state-read, image-words, image-length, image-left, counters-total, state-total}
 use Rattle.presence.proofs.LoadLaws.{state-by}

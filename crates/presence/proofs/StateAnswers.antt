@@ -1,46 +1,44 @@
 -- What is answered, by what the checks inside have answered.
-use mathlib.Core.Path.{◌≡◌, ap, ◌∙◌, sym}
-use mathlib.Core.Bool.{Bool, true, false, not}
+use Rattle.std.specs.Prelude.{Ok, Err}
+use mathlib.Core.Path.{◌≡◌, ap, ap₂, ◌∙◌, sym}
+use mathlib.Core.Bool.{Bool, true, false}
 use mathlib.Core.List.{List}
 use Prim.Native.Nat.{ℕ, ◌≤◌}
 use native.Mathlib.Omega.{arith}
 use lib.ListN.{length}
 use lib.Dec.{eqb}
-use borrow.Author.Tests.{eq-eqb, ne_eqb, eqb-true, not-true, not-false}
+use borrow.Author.Tests.{ne_eqb, eqb-true}
 use Rattle.words.proofs.Truth.{cond-true, cond-false}
-use Rattle.words.specs.Verdict.{verdict, accepted, is_accepted, single, and_then, outcome}
-use Rattle.words.specs.Runs.{run_word}
-use Rattle.words.specs.declared.Verdict.{Verdict}
-use Rattle.words.proofs.VerdictLaws.{and-then-next, and-then-stays, single-ok, single-refused}
+use Rattle.words.specs.Verdict.{Verdict, accepted, is_accepted, single, outcome}
+use Rattle.words.specs.Refusal.{refusal_told}
+use Rattle.words.specs.declared.Refusal.{Refusal}
+use Rattle.words.proofs.VerdictLaws.{and-then-stops, and-then-goes, single-ok}
 use Rattle.setup.specs.Layout.{front_words}
 use Rattle.setup.specs.Limits.{fades}
-use Rattle.setup.specs.Check.{setup_verdict}
 use Rattle.changes.proofs.SectionTests.{new-most}
 use Rattle.views.proofs.ViewWords.{views-most}
 use Rattle.image.specs.Layout.{image_length}
-use Rattle.image.specs.Check.{check_tail, check_image}
+use Rattle.image.specs.Check.{check_image}
 use Rattle.image.proofs.TailLaws.{image-zero}
-use Rattle.presence.specs.Valid.{roomy, Valid, state_verdict, save_verdict, saved_out}
-use Rattle.presence.specs.Opening.{blank}
-use Rattle.presence.specs.Image.{image_runs, image_of, state_of, load_of, state_length, room_for}
+use Rattle.presence.specs.Valid.{Valid, state_verdict, save_verdict, saved_out}
+use Rattle.presence.specs.Opening.{blank, opened_told}
+use Rattle.presence.specs.Image.{image_of, state_of, load_of, state_length, room_for}
 use Rattle.presence.specs.declared.State.{State}
-use Rattle.presence.specs.declared.Opened.{Opened}
-use Rattle.presence.proofs.SmallLaws.{Small, valid-small}
+use Rattle.presence.proofs.StateRoundLaws.{refused-by}
 
 -- ---- what reading answers
 
-pub load-refused : (s : List ℕ) {r : Opened}
-    → (r.number ≡ (check_image s).number) × (r.index ≡ (check_image s).index) × (r.state ≡ blank)
-    → is_accepted (check_image s) ≡ false → r ≡ load_of s
-unfolding load_of
-load-refused s h f = λ i. record { number = h.0 i; index = h.1 i; state = (h.2 ∙ sym (cond-false (state_of s) blank f)) i }
+module _ (s : List ℕ) where
+  pub load-refused : (x : Refusal) → refusal_told x ≡ check_image s → opened_told (Err x) ≡ load_of s
+  unfolding load_of
+  load-refused x t =
+      ap₂ (λ (v : Verdict) (y : State). record { number = v.number; index = v.index; state = y }) t (sym (cond-false (state_of s) blank (refused-by x t)))
 
-pub load-accepted : (s : List ℕ) {state : State} → state ≡ state_of s → is_accepted (check_image s) ≡ true
-    → ◌≡◌ {A = Opened} (record { number = 0; index = 0; state = state }) (load_of s)
-unfolding load_of
-load-accepted s h t =
-    let v : accepted ≡ check_image s = sym (image-zero s (eqb-true _ 0 t)) in
-    λ i. record { number = (v i).number; index = (v i).index; state = (h ∙ sym (cond-true (state_of s) blank t)) i }
+  pub load-accepted : {state : State} → state ≡ state_of s → is_accepted (check_image s) ≡ true → opened_told (Ok state) ≡ load_of s
+  unfolding load_of
+  load-accepted h t =
+      let v : accepted ≡ check_image s = sym (image-zero s (eqb-true _ 0 t)) in
+      ap₂ (λ (v : Verdict) (y : State). record { number = v.number; index = v.index; state = y }) v (h ∙ sym (cond-true (state_of s) blank t))
 
 -- ---- the length of an image, as it is found from the limits
 
@@ -50,76 +48,48 @@ pub length-by : {b : Bool} {front k : ℕ} (st : State) → b ≡ fades st.setup
 length-by st f e l = l ∙ ap (λ (x : ℕ). image_length x st.setup.n st.pending.left st.setup.partitionable) (e ∙ ap front_words f)
 
 -- no image is longer than 512 bytes
-pub length_most : (front n left : ℕ) (t : Bool) → front ≤ 6 → n ≤ 16 → image_length front n left t ≤ 512
-length_most front n left t h l = omega (arith, new-most n left, views-most t n)
-
--- ---- v is the answer for the setup of a struct
-
-pub room-is : {b : Bool} (st : State) → b ≡ roomy st → not b ≡ false → roomy st ≡ true
-room-is {b} st r t = sym r ∙ not-false b t
-
-module _ {v : Verdict} (st : State) (e : v ≡ setup_verdict st.setup) where
-  goes : and_then v (and_then (outcome (single (roomy st) 8 0)) (check_tail (fades st.setup.limits) (run_word (image_runs st)) st.setup.n)) ≡ state_verdict st
-  unfolding state_verdict
-  goes = ap (λ (x : Verdict). and_then x (and_then (outcome (single (roomy st) 8 0)) (check_tail (fades st.setup.limits) (run_word (image_runs st)) st.setup.n))) e
-
-  pub setup-stays : (v.number ≡ 0 → ⊥) → v ≡ state_verdict st
-  setup-stays f = sym (and-then-stays v _ f) ∙ goes
-
-  module _ {b : Bool} {r : Verdict} (z : v.number ≡ 0) (h : b ≡ roomy st) where
-    pub room-lacks : not b ≡ true → r ≡ verdict 8 0 → r ≡ state_verdict st
-    room-lacks f q =
-        let o : outcome (single (roomy st) 8 0) ≡ verdict 8 0 = single-refused (roomy st) 8 0 (sym h ∙ not-true b f) in
-        q ∙ sym (ap (λ (x : Verdict). and_then x (check_tail (fades st.setup.limits) (run_word (image_runs st)) st.setup.n)) o ∙ and-then-stays (verdict 8 0) _ (λ y. eight y))
-        ∙ sym (and-then-next v _ z) ∙ goes
-      where
-        eight : ◌≡◌ {A = ℕ} 8 0 → ⊥
-        eight y = omega arith
-
-    pub image-answers : not b ≡ false → r ≡ check_tail (fades st.setup.limits) (run_word (image_runs st)) st.setup.n → r ≡ state_verdict st
-    image-answers t q =
-        let o = single-ok (roomy st) 8 0 (room-is st h t) in
-        q ∙ sym (and-then-next (outcome (single (roomy st) 8 0)) _ (ap (λ (x : Verdict). x.number) o)) ∙ sym (and-then-next v _ z) ∙ goes
+pub length_most : (st : State) → st.setup.n ≤ 16 → state_length st st.pending.left ≤ 512
+length_most st l = go (fades st.setup.limits)
+  where
+    go : (b : Bool) → image_length (front_words b) st.setup.n st.pending.left st.setup.partitionable ≤ 512
+    go true = omega (arith, new-most st.setup.n st.pending.left, views-most st.setup.partitionable st.setup.n)
+    go false = omega (arith, new-most st.setup.n st.pending.left, views-most st.setup.partitionable st.setup.n)
 
 -- ---- v is the answer for the struct
 
+pub verdict-valid : {v : Verdict} (st : State) → v ≡ state_verdict st → v.number ≡ 0 → Valid st
+verdict-valid st e z = ap (λ (x : Verdict). x.number) (sym e) ∙ z
+
 module _ {v : Verdict} (st : State) (out : List ℕ) (e : v ≡ state_verdict st) where
-  pub verdict-valid : v.number ≡ 0 → Valid st
-  verdict-valid z = ap (λ (x : Verdict). x.number) (sym e) ∙ z
-
-  pub verdict-small : v.number ≡ 0 → Small st
-  verdict-small z = valid-small st (verdict-valid z)
-
-  goes_on_lem : and_then v (outcome (single (room_for st out) 9 0)) ≡ save_verdict st out
-  unfolding save_verdict
-  goes_on_lem = ap (λ (x : Verdict). and_then x (outcome (single (room_for st out) 9 0))) e
-
   stays : {r : Verdict} → r ≡ save_verdict st out → (r.number ≡ 0 → ⊥) → out ≡ saved_out st out
   unfolding saved_out
   stays {r} h f = sym (cond-false (image_of st) out (ap is_accepted (sym h) ∙ ne_eqb r.number 0 f))
 
   pub save-refused : (v.number ≡ 0 → ⊥) → (v ≡ save_verdict st out) × (out ≡ saved_out st out)
+  unfolding save_verdict
   save-refused f =
-      let h : v ≡ save_verdict st out = sym (and-then-stays v _ f) ∙ goes_on_lem in
+      let h : v ≡ save_verdict st out = and-then-stops _ e f in
       (h, stays h f)
 
-  pub save-short : {r : Verdict} → r ≡ verdict 9 0 → v.number ≡ 0 → (length out ≡ state_length st st.pending.left → ⊥)
+  -- r is the answer of 9
+  pub save-short : {r : Verdict} → r ≡ outcome (single (room_for st out) 9 0) → v.number ≡ 0 → (r.number ≡ 0 → ⊥)
       → (r ≡ save_verdict st out) × (out ≡ saved_out st out)
-  unfolding room_for
+  unfolding save_verdict
   save-short {r} q z f =
-      let h : r ≡ save_verdict st out =
-      q ∙ sym (single-refused (eqb (length out) (state_length st st.pending.left)) 9 0 (ne_eqb _ _ f)) ∙ sym (and-then-next v _ z) ∙ goes_on_lem
-      in
-      (h, stays h (λ y. nine (ap (λ (x : Verdict). x.number) (sym q) ∙ y)))
-    where
-      nine : ◌≡◌ {A = ℕ} 9 0 → ⊥
-      nine y = omega arith
+      let h : r ≡ save_verdict st out = and-then-goes _ e z q in
+      (h, stays h f)
 
-  pub save-done : {r : Verdict} {o : List ℕ} → r ≡ accepted → o ≡ image_of st → v.number ≡ 0 → length out ≡ state_length st st.pending.left
-      → (r ≡ save_verdict st out) × (o ≡ saved_out st out)
-  unfolding room_for saved_out
-  save-done {r} {o} q b z l =
-      let h : r ≡ save_verdict st out =
-      q ∙ sym (single-ok (eqb (length out) (state_length st st.pending.left)) 9 0 (eq-eqb _ _ l)) ∙ sym (and-then-next v _ z) ∙ goes_on_lem
-      in
-      (h, b ∙ sym (cond-true (image_of st) out (ap is_accepted (sym h ∙ q))))
+  pub save-done : {o : List ℕ} → o ≡ image_of st → v.number ≡ 0 → room_for st out ≡ true → (accepted ≡ save_verdict st out) × (o ≡ saved_out st out)
+  unfolding save_verdict saved_out
+  save-done {o} b z t =
+      let h : accepted ≡ save_verdict st out = and-then-goes _ e z (sym (single-ok (room_for st out) 9 0 t)) in
+      (h, b ∙ sym (cond-true (image_of st) out (ap is_accepted (sym h))))
+
+-- the length of an output, by the length that the code finds
+pub room-by : {k : ℕ} (st : State) (out : List ℕ) → k ≡ state_length st st.pending.left → eqb (length out) k ≡ room_for st out
+unfolding room_for
+room-by st out e = ap (eqb (length out)) e
+
+pub room-length : (st : State) (out : List ℕ) → room_for st out ≡ true → length out ≡ state_length st st.pending.left
+unfolding room_for
+room-length st out t = eqb-true _ _ t

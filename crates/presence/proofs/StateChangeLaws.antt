@@ -1,11 +1,12 @@
 -- What a change answers: accepted, what it gives; refused, that the state stays. An accepted change gives a valid state.
+use Rattle.std.specs.Prelude.{Ok, Err}
 use mathlib.Core.Path.{◌≡◌, ap, ap₂, ◌∙◌, subst, sym}
 use mathlib.Core.Logic.{◌≢◌}
-use mathlib.Core.Bool.{cond}
 use Prim.Native.Nat.{ℕ}
 use borrow.Author.Tests.{eq-eqb, ne_eqb}
-use Rattle.words.specs.Verdict.{is_accepted}
-use Rattle.words.specs.declared.Verdict.{Verdict}
+use Rattle.words.specs.Verdict.{Verdict, accepted, is_accepted}
+use Rattle.words.specs.Refusal.{refusal_told}
+use Rattle.words.specs.declared.Refusal.{Refusal}
 use Rattle.words.proofs.Truth.{cond-true, cond-false}
 use Rattle.words.proofs.VerdictLaws.{and-then-pass, and-then-next}
 use Rattle.setup.specs.Check.{setup_verdict}
@@ -15,10 +16,10 @@ use Rattle.changes.specs.Pending.{pending_of}
 use Rattle.changes.specs.Frame.{frame_verdict}
 use Rattle.changes.specs.declared.Pending.{Pending}
 use Rattle.presence.specs.Valid.{state_verdict, Valid}
-use Rattle.presence.specs.Change.{new_verdict, change_verdict, with_pending, change_of}
+use Rattle.presence.specs.Change.{new_verdict, change_verdict, with_pending, change_of, changed_told}
 use Rattle.presence.specs.declared.State.{State}
-use Rattle.presence.specs.declared.Changed.{Changed}
 use Rattle.presence.proofs.ValidLaws.{StateFits, valid-fits, fits-valid, change-fits}
+use Rattle.presence.proofs.StateRoundLaws.{refused-by}
 
 pub change-refused : (st : State) (new : Setup) (lead : ℕ) → (change_of st new lead).number ≢ 0 → (change_of st new lead).state ≡ st
 unfolding change_of
@@ -51,19 +52,17 @@ change-fit st new lead zero =
 pub change-valid : (st : State) (new : Setup) (lead : ℕ) → (change_of st new lead).number ≡ 0 → Valid (change_of st new lead).state
 change-valid st new lead zero = fits-valid _ (change-fit st new lead zero)
 
--- ---- as the code makes it, v being the answer of the checks
+-- ---- as the code makes it
 
-module _ {v : Verdict} (st : State) (new : Setup) (lead : ℕ) (e : v ≡ change_verdict st new lead) where
-  changes : {next : State} → next ≡ cond (is_accepted v) (with_pending st (pending_of new lead)) st
-      → ◌≡◌ {A = Changed} (record { number = v.number; index = v.index; state = next }) (change_of st new lead)
+module _ (st : State) (new : Setup) (lead : ℕ) where
+  pub change-stays : (x : Refusal) → refusal_told x ≡ change_verdict st new lead → changed_told st (Err x) ≡ change_of st new lead
   unfolding change_of
-  changes {next} g =
-      ap₂ (λ (x : Verdict) (y : State). record { number = x.number; index = x.index; state = y }) e
-      (g ∙ ap (λ (x : Verdict). cond (is_accepted x) (with_pending st (pending_of new lead)) st) e)
+  change-stays x t =
+      ap₂ (λ (v : Verdict) (y : State). record { number = v.number; index = v.index; state = y }) t
+      (sym (cond-false (with_pending st (pending_of new lead)) st (refused-by x t)))
 
-  pub change-stays : (v.number ≡ 0 → ⊥) → ◌≡◌ {A = Changed} (record { number = v.number; index = v.index; state = st }) (change_of st new lead)
-  change-stays f = changes (sym (cond-false _ _ (ne_eqb v.number 0 f)))
-
-  pub change-made : {p : Pending} → v.number ≡ 0 → p ≡ pending_of new lead
-      → ◌≡◌ {A = Changed} (record { number = v.number; index = v.index; state = with_pending st p }) (change_of st new lead)
-  change-made z h = changes (ap (with_pending st) h ∙ sym (cond-true _ _ (eq-eqb v.number 0 z)))
+  pub change-made : {p : Pending} → accepted ≡ change_verdict st new lead → p ≡ pending_of new lead → changed_told st (Ok (with_pending st p)) ≡ change_of st new lead
+  unfolding change_of
+  change-made t h =
+      ap₂ (λ (v : Verdict) (y : State). record { number = v.number; index = v.index; state = y }) t
+      (ap (with_pending st) h ∙ sym (cond-true (with_pending st (pending_of new lead)) st (ap is_accepted (sym t))))

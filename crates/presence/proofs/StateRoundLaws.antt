@@ -1,22 +1,23 @@
 -- What an opening and a step answer, put together from the answers of their parts.
+use Rattle.std.specs.Prelude.{Ok, Err}
 use mathlib.Core.Path.{◌≡◌, refl, ap, ap₂, ◌∙◌, sym, subst}
-use mathlib.Core.Bool.{Bool, true, false, cond, ◌||◌}
-use mathlib.Core.Logic.{⊎_elim}
+use mathlib.Core.Bool.{Bool, true, false, cond}
 use mathlib.Core.List.{List}
 use Prim.Native.Nat.{ℕ, ◌-◌, ◌^◌, ◌<◌, ◌≤◌}
 use native.Mathlib.Omega.{arith}
 use lib.ListN.{get_or, length}
-use lib.Dec.{leb, ltb}
-use borrow.Author.Tests.{eq-eqb, ne_eqb, lt-ltb, le-ltb, lt-leb, ltb-true, ltb-false}
+use lib.Dec.{ltb, eqb}
+use borrow.Author.Tests.{eq-eqb, ne_eqb, lt-ltb, le-ltb}
 use Rattle.words.specs.Bits.{full}
 use Rattle.words.specs.Array.{array}
 use Rattle.words.proofs.BitLaws.{pack-lt}
-use Rattle.words.proofs.Truth.{cond-true, cond-false, cond_both, and-false-l, and_false_r, or_cases, or-false-l, or-false-r}
-use Rattle.words.specs.Verdict.{verdict, accepted, is_accepted, between}
-use Rattle.setup.specs.Check.{setup_verdict}
-use Rattle.words.specs.declared.Verdict.{Verdict}
+use Rattle.words.proofs.Truth.{cond-true, cond-false, cond_both}
+use Rattle.words.specs.Verdict.{Verdict, verdict, accepted, is_accepted, single, outcome}
+use Rattle.words.specs.Refusal.{code, refusal_told}
+use Rattle.words.specs.declared.Refusal.{Refusal}
 use Rattle.setup.specs.declared.Setup.{Setup}
-use Rattle.words.proofs.VerdictLaws.{between-of, and-then-stops, and-then-goes, single-ok, single-refused}
+use Rattle.words.proofs.VerdictLaws.{single-ok, single-refused}
+use Rattle.words.proofs.RefusalLaws.{told-err}
 use Rattle.rules.specs.Hearing.{reading_of, causes_of}
 use Rattle.rules.proofs.ReceptionLaws.{below-kind}
 use Rattle.rules.specs.Alignment.{aligned_of}
@@ -40,11 +41,9 @@ use Rattle.image.specs.Counters.{zero_counters}
 use Rattle.image.proofs.CounterLaws.{within-kept, within-waits}
 use Rattle.image.proofs.BooksLaws.{turned-accounts}
 use Rattle.presence.specs.Valid.{state_verdict, Valid}
-use Rattle.presence.specs.Opening.{fresh, blank, check_opening, open_of}
-use Rattle.presence.specs.Step.{skew_of, place_of, mark_of, own_syndrome, aligned_for, judgement_for, outgoing_for, books_of, voted_views, views_for, outgoing_view, read_length, seen_by, after_round, refused_step, accepted_step, read_step, step_of}
+use Rattle.presence.specs.Opening.{fresh, blank, check_opening, open_of, opened_told}
+use Rattle.presence.specs.Step.{skew_of, place_of, mark_of, own_syndrome, aligned_for, judgement_for, outgoing_for, books_of, voted_views, views_for, outgoing_view, read_length, seen_by, after_round, refused_step, accepted_step, read_step, step_of, Stepped, stepped_told}
 use Rattle.presence.specs.declared.State.{State}
-use Rattle.presence.specs.declared.Opened.{Opened}
-use Rattle.presence.specs.declared.Stepped.{Stepped}
 use Rattle.presence.proofs.ValidLaws.{StateFits, valid-fits}
 
 -- ---- rules 1 and 3 to 6
@@ -160,6 +159,18 @@ next_small st this seen {next} v e =
     let most : n ≤ 16 = (turned-setup-fits (books_of st) (valid-fits st v).pending (valid-fits st v).setup).most in
     subst (λ (x : State). x.counters.view < 2 ^ 28) (sym e) (below-kind n _ most (pack-lt n _))
 
+-- ---- a refusal
+
+-- v is not accepted where x tells of it
+pub refused-by : {v : Verdict} (x : Refusal) → refusal_told x ≡ v → is_accepted v ≡ false
+refused-by x t = ap is_accepted (sym t) ∙ ne_eqb (code x.number) 0 (told-err {A = State} {r = Err x} refl)
+
+-- one test was refused
+refused-single : (x : Refusal) (ok : Bool) (number place : ℕ) → refusal_told x ≡ outcome (single ok number place)
+    → (ok ≡ false) × (refusal_told x ≡ verdict number place)
+refused-single x true number place h = absurd (told-err {A = State} {r = Err x} refl (ap (λ (v : Verdict). v.number) (h ∙ single-ok true number place refl)))
+refused-single x false number place h = (refl, h ∙ single-refused false number place refl)
+
 -- ---- 9 and 10
 
 module _ (st : State) (read : List ℕ) (controller : ℕ) {r : Stepped} where
@@ -184,11 +195,29 @@ module _ (st : State) (read : List ℕ) (controller : ℕ) {r : Stepped} where
   unfolding step_of
   step-goes {v} e z h = h ∙ sym (cond-true _ _ (ap is_accepted (sym e) ∙ eq-eqb v.number 0 z))
 
-  pub step-stops : {v : Verdict} → v ≡ state_verdict st → (v.number ≡ 0 → ⊥) → r ≡ refused_step st v.number v.index → r ≡ step_of st read controller
-  unfolding step_of
-  step-stops {v} e f h =
-      h ∙ ap (λ (x : Verdict). refused_step st x.number x.index) e
-      ∙ sym (cond-false _ _ (ap is_accepted (sym e) ∙ ne_eqb v.number 0 f))
+-- as code refuses: x is the answer of the test
+module _ (st : State) (read : List ℕ) (controller : ℕ) (x : Refusal) where
+  refused-as : (number : ℕ) → refusal_told x ≡ verdict number 0 → stepped_told st (Err x) ≡ refused_step st number 0
+  unfolding refused_step
+  refused-as number h = ap (λ (v : Verdict). refused_step st v.number v.index) h
+
+  pub read-short : refusal_told x ≡ outcome (single (eqb (length read) (read_length st)) 9 0) → stepped_told st (Err x) ≡ read_step st read controller
+  unfolding read_step
+  read-short h =
+      let (f, t) = refused-single x (eqb (length read) (read_length st)) 9 0 h in
+      refused-as 9 t ∙ sym (cond-false _ _ f)
+
+  pub read-high : length read ≡ read_length st → refusal_told x ≡ outcome (single (ltb controller (2 ^ st.setup.n)) 10 0)
+      → stepped_told st (Err x) ≡ read_step st read controller
+  unfolding read_step
+  read-high l h =
+      let (f, t) = refused-single x (ltb controller (2 ^ st.setup.n)) 10 0 h in
+      refused-as 10 t ∙ sym (cond-true _ _ (eq-eqb (length read) (read_length st) l) ∙ cond-false _ _ f)
+
+  pub step-stops : refusal_told x ≡ state_verdict st → stepped_told st (Err x) ≡ step_of st read controller
+  unfolding step_of refused_step
+  step-stops t =
+      ap (λ (v : Verdict). refused_step st v.number v.index) t ∙ sym (cond-false _ _ (refused-by x t))
 
 -- a step of a valid state is one of that state as it was read
 pub step-of : (st : State) {k : State} (read : List ℕ) (controller : ℕ) {t : Stepped} → k ≡ st → Valid k → t ≡ read_step k read controller
@@ -210,36 +239,14 @@ fresh-made s own {v} {rows} {c} {p} e h k n f =
     ∙ ap (made v rows) k ∙ ap₂ (λ (x : ℕ) (r : List ℕ). made x r (zero_counters v)) e (h ∙ ap (λ (x : ℕ). array s.n (λ j. x)) e)
     ∙ ap (λ (x : ℕ). made (full s.n) (array s.n (λ j. full s.n)) (zero_counters x)) e
 
--- a number is out of range
-pub not-between : (low high v : ℕ) → ltb v low || ltb high v ≡ true → between low high v ≡ false
-not-between low high v t =
-    ⊎_elim (λ a. and-false-l (leb low v) _ (lt-leb low v (ltb-true v low a))) (λ b. and_false_r (leb low v) _ (lt-leb v high (ltb-true high v b)))
-    (or_cases (ltb v low) (ltb high v) t)
-
--- or in range
-pub is-between : (low high v : ℕ) → ltb v low || ltb high v ≡ false → (low ≤ v) × (v ≤ high)
-is-between low high v f = (ltb-false v low (or-false-l (ltb v low) _ f), ltb-false high v (or-false-r (ltb v low) _ f))
-
-module _ (s : Setup) (own : ℕ) {v : Verdict} (e : v ≡ setup_verdict s) where
-  -- by the verdict w of the opening
-  opens : {w : Verdict} {st : State} → w ≡ check_opening s own → st ≡ cond (is_accepted w) (fresh s own) blank
-      → ◌≡◌ {A = Opened} (record { number = w.number; index = w.index; state = st }) (open_of s own)
+module _ (s : Setup) (own : ℕ) where
+  pub open-refused : (x : Refusal) → refusal_told x ≡ check_opening s own → opened_told (Err x) ≡ open_of s own
   unfolding open_of
-  opens {w} {st} h g =
-      ap₂ (λ (x : Verdict) (y : State). record { number = x.number; index = x.index; state = y }) h
-      (g ∙ ap (λ (x : Verdict). cond (is_accepted x) (fresh s own) blank) h)
+  open-refused x t =
+      ap₂ (λ (v : Verdict) (y : State). record { number = v.number; index = v.index; state = y }) t (sym (cond-false (fresh s own) blank (refused-by x t)))
 
-  pub open-refused : {st : State} → st ≡ blank → (v.number ≡ 0 → ⊥)
-      → ◌≡◌ {A = Opened} (record { number = v.number; index = v.index; state = st }) (open_of s own)
-  unfolding check_opening
-  open-refused g f = opens {w = v} (and-then-stops _ e f) (g ∙ sym (cond-false (fresh s own) blank (ne_eqb v.number 0 f)))
-
-  pub open-other : {st : State} → st ≡ blank → v.number ≡ 0 → between 1 s.n own ≡ false
-      → ◌≡◌ {A = Opened} (record { number = 7; index = 0; state = st }) (open_of s own)
-  unfolding check_opening
-  open-other g z f = opens {w = verdict 7 0} (and-then-goes _ e z (sym (single-refused (between 1 s.n own) 7 0 f))) g
-
-  pub open_done : {st : State} → st ≡ fresh s own → v.number ≡ 0 → 1 ≤ own → own ≤ s.n
-      → ◌≡◌ {A = Opened} (record { number = 0; index = 0; state = st }) (open_of s own)
-  unfolding check_opening
-  open_done g z h l = opens {w = accepted} (and-then-goes _ e z (sym (single-ok (between 1 s.n own) 7 0 (between-of 1 s.n own h l)))) g
+  pub open-done : {st : State} → accepted ≡ check_opening s own → st ≡ fresh s own → opened_told (Ok st) ≡ open_of s own
+  unfolding open_of
+  open-done t e =
+      ap₂ (λ (v : Verdict) (y : State). record { number = v.number; index = v.index; state = y }) t
+      (e ∙ sym (cond-true (fresh s own) blank (ap is_accepted (sym t))))

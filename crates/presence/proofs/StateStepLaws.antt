@@ -11,7 +11,7 @@ use borrow.Author.Tests.{eq-eqb, eqb-true, eqb-false, lt-ltb}
 use Rattle.words.specs.Count.{lowest}
 use Rattle.words.proofs.Truth.{cond_both, cond-true}
 use Rattle.words.specs.Verdict.{accepted, is_accepted, between, single, and_then, outcome, then_tests}
-use Rattle.words.specs.declared.Verdict.{Verdict}
+use Rattle.words.specs.Verdict.{Verdict}
 use Rattle.words.proofs.VerdictLaws.{between_is, between-of, and-then-next, and-then-pass, single-ok, single-pass}
 use Rattle.setup.specs.Setup.{blank_setup}
 use Rattle.setup.specs.Check.{head_fits, room_verdict, setup_verdict}
@@ -27,8 +27,8 @@ use Rattle.presence.specs.Opening.{fresh, blank, check_opening, open_of}
 use Rattle.presence.specs.Step.{skew_of, mark_of, read_length, seen_by, own_syndrome, books_of, judgement_for, outgoing_for, after_round, refused_step, accepted_step, read_step, step_of}
 use Rattle.rules.specs.declared.Reading.{Reading}
 use Rattle.presence.specs.declared.State.{State}
-use Rattle.presence.specs.declared.Opened.{Opened}
-use Rattle.presence.specs.declared.Stepped.{Stepped}
+use Rattle.presence.specs.Opening.{Opened}
+use Rattle.presence.specs.Step.{Stepped}
 use Rattle.rules.proofs.ReceptionLaws.{bus-heard}
 use Rattle.rules.proofs.SyndromeLaws.{syndrome-lt}
 use Rattle.presence.proofs.ValidLaws.{StateFits, valid-fits, fits-verdict, fits-valid, fresh-fits, after-fits}

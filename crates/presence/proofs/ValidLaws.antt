@@ -10,7 +10,7 @@ use borrow.Author.Tests.{lt-ltb}
 use Rattle.words.specs.Bits.{bit, full}
 use Rattle.words.specs.Verdict.{accepted, Test, single, outcome}
 use Rattle.words.specs.Runs.{run_word}
-use Rattle.words.specs.declared.Verdict.{Verdict}
+use Rattle.words.specs.Verdict.{Verdict}
 use Rattle.words.proofs.BitLaws.{pack-lt, full-lt, bit-full}
 use Rattle.words.proofs.ArrayLaws.{clear_from, array_at, array-clear}
 use Rattle.words.proofs.VerdictLaws.{Passed, and-then-next, single-ok}

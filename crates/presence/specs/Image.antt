@@ -15,9 +15,8 @@ use Rattle.image.specs.Rows.{reading_in}
 use Rattle.image.specs.Counters.{counters_in}
 use Rattle.image.specs.Sections.{section_runs}
 use Rattle.image.specs.Check.{check_image}
-use Rattle.presence.specs.Opening.{blank}
+use Rattle.presence.specs.Opening.{Opened, blank}
 use Rattle.presence.specs.declared.State.{State}
-use Rattle.presence.specs.declared.Opened.{Opened}
 
 -- ---- written
 

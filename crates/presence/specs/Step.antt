@@ -1,8 +1,10 @@
 -- One step of a module: rules 1 to 8 in their order, and the answers 9 and 10. (document 01, "One step, round k"; document 02, E7: no rule 9, and
 -- E10: a change that is due takes effect at the start of rule 8; E11: the views)
-use Rattle.std.specs.Prelude.{ℕ, ◌-◌, ◌*◌, ◌^◌, Bool, cond, List, get_or, length, replicate, eqb, ltb}
+use Rattle.std.specs.Prelude.{Result, Ok, Err, ℕ, ◌-◌, ◌*◌, ◌^◌, Bool, cond, List, get_or, length, replicate, eqb, ltb}
 use Rattle.words.specs.Bits.{bit}
 use Rattle.words.specs.Verdict.{is_accepted}
+use Rattle.words.specs.Refusal.{code}
+use Rattle.words.specs.declared.Refusal.{Refusal}
 use Rattle.rules.specs.Lag.{skewed}
 use Rattle.rules.specs.Hearing.{reading_of, causes_of}
 use Rattle.rules.specs.Alignment.{aligned_of}
@@ -16,7 +18,7 @@ use Rattle.presence.specs.Valid.{state_verdict}
 use Rattle.rules.specs.declared.Reading.{Reading}
 use Rattle.rules.specs.declared.Judgement.{Judgement}
 use Rattle.presence.specs.declared.State.{State}
-use Rattle.presence.specs.declared.Stepped.{Stepped}
+use Rattle.presence.specs.declared.Round.{Round}
 
 -- ---- what a state says of its module
 
@@ -97,6 +99,18 @@ after_round st this seen =
 
 -- ---- the answer
 
+-- What a step answers: the number and the index, 0 and 0 where nothing is refused; the health vector and the accusations of rules 4 and 5; the word and
+-- the second word, which holds the local view, those handed out for the bus; the causes of this read; and the state.
+pub record Stepped : Type 0 where
+  pub number : ℕ
+  pub index : ℕ
+  pub health : ℕ
+  pub accusations : List ℕ
+  pub word : ℕ
+  pub second : ℕ
+  pub causes : List ℕ
+  pub state : State
+
 -- a refusal leaves the state as it was; health, accusations, both words and causes are 0
 unfoldable pub refused_step : State → ℕ → ℕ → Stepped
 refused_step st number index =
@@ -129,3 +143,16 @@ unfoldable pub step_of : State → List ℕ → ℕ → Stepped
 step_of st read controller =
     let v = state_verdict st in
     cond (is_accepted v) (read_step st read controller) (refused_step st v.number v.index)
+
+-- ---- the answer as code has it
+
+-- an accepted step
+abbrev pub round_told : Round → Stepped
+round_told r =
+    record { number = 0; index = 0; health = r.health; accusations = r.accusations; word = r.word; second = r.second; causes = r.causes; state = r.state }
+
+-- a step of a state; with a refusal it gives nothing, and the state is as it was
+abbrev pub stepped_told : State → Result Round Refusal → Stepped
+stepped_told st (Ok r) = round_told r
+stepped_told st (Err e) =
+    record { number = code e.number; index = e.index; health = 0; accusations = replicate 16 0; word = 0; second = 0; causes = replicate 16 0; state = st }

@@ -3,7 +3,7 @@
 use Rattle.std.specs.Prelude.{ℕ, ◌≡◌, Bool, cond, ◌&&◌, List, leb, ltb}
 use Rattle.words.specs.Verdict.{is_accepted, single, and_then, outcome}
 use Rattle.words.specs.Runs.{run_word}
-use Rattle.words.specs.declared.Verdict.{Verdict}
+use Rattle.words.specs.Verdict.{Verdict}
 use Rattle.setup.specs.Limits.{most_modules, fades}
 use Rattle.setup.specs.Check.{setup_verdict}
 use Rattle.changes.specs.Pending.{pending_roomy}

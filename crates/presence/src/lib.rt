@@ -1,6 +1,6 @@
 // A module of the backplane: opened from a setup and its own number, stepped once a round, given new limits, saved and read back.
 //
-// This file has what a module holds and what its opening and its step answer. Entries and bits of module j + 1 stand at j;
+// This file has what a module holds and what an accepted step of it answers. Entries and bits of module j + 1 stand at j;
 // those from n on are 0.
 #![tactic(auto)]
 
@@ -19,7 +19,8 @@ use setup::Setup;
 use views::Views;
 
 // A module's state: its setup, its own number, its counters, its previous read, the last two syndromes that it computed, the change of limits that is
-// pending, and, where the setup is partitionable, what it holds of views.
+// pending, and, where the setup is partitionable, what it holds of views. The limits are no invariant of the type: a value outside them is a state too, and
+// every call promises by which number it refuses one. So what is inside a step asks for `Valid`.
 #[derive(Clone, Copy)]
 pub struct State {
     setup: Setup,
@@ -32,28 +33,10 @@ pub struct State {
     views: Views,
 }
 
-// What an opening answers.
+// What an accepted step answers: the word and the second word, which holds the local view, are those handed out for the bus, the second 0 where the
+// setup is not partitionable; the causes are the codes of this read, as it came (0 to 3).
 #[derive(Clone, Copy)]
-pub struct Opened {
-    pub number: u32,
-    pub index: u32,
-    pub state: State,
-}
-
-// What a change answers; where it is refused the state is as it was.
-#[derive(Clone, Copy)]
-pub struct Changed {
-    pub number: u32,
-    pub index: u32,
-    pub state: State,
-}
-
-// What a step answers: the word and the second word, which holds the local view, are those handed out for the bus, the second 0 where the setup is not
-// partitionable; the causes are the codes of this read, as it came (0 to 3).
-#[derive(Clone, Copy)]
-pub struct Stepped {
-    pub number: u32,
-    pub index: u32,
+pub struct Round {
     pub health: u32,
     pub accusations: [u32; 16],
     pub word: u32,

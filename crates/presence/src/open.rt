@@ -1,8 +1,8 @@
 // Opening a module from a setup and its own number.
 ghost use Rattle.std.specs.Prelude.{◌≡◌, ◌≤◌};
-ghost use Rattle.presence.specs.Opening.{fresh, blank, open_of};
+ghost use Rattle.presence.specs.Opening.{fresh, blank, open_of, opened_told};
 
-use crate::{Opened, State};
+use crate::State;
 use changes::change::nothing;
 use image::zero_counters;
 use rules::Reading;
@@ -10,6 +10,8 @@ use setup::Setup;
 use views::after::{fresh_views, no_views};
 use words::array::filled;
 use words::bits::full_of;
+use words::check::single;
+use words::{Number, Refusal};
 
 impl State {
     // A fresh module: all-ones syndromes and rows, all heard, zero counters, full view, no pending change, full views.
@@ -17,74 +19,47 @@ impl State {
         requires { setup.n ≤ 16 }
         ensures { result ≡ fresh setup own }
     {
-        let n = setup.n;
-        let full = full_of(n);
-        let counters = zero_counters(full);
-        let rows = filled(n, full);
-        let pending = nothing();
-        let views = fresh_views(setup.partitionable, n);
+        let full = full_of(setup.n);
         State {
             setup,
             own,
-            counters,
-            previous: Reading { heard: full, rows },
+            counters: zero_counters(full),
+            previous: Reading {
+                heard: full,
+                rows: filled(setup.n, full),
+            },
             latest: full,
             earlier: full,
-            pending,
-            views,
+            pending: nothing(),
+            views: fresh_views(setup.partitionable, setup.n),
         }
     }
 
-    // What is held where nothing was opened: all zeros. No step of it is accepted.
+    // What is held where nothing was opened: all zeros. No step of it is accepted. (Not derived: limits have no default.)
     pub fn blank() -> State
         ensures { result ≡ blank }
     {
-        let setup = setup::read::blank();
-        let counters = zero_counters(0);
-        let zeros = [0u32; 16];
-        let pending = nothing();
-        let views = no_views();
         State {
-            setup,
+            setup: setup::read::blank(),
             own: 0,
-            counters,
+            counters: zero_counters(0),
             previous: Reading {
                 heard: 0,
-                rows: zeros,
+                rows: [0u32; 16],
             },
             latest: 0,
             earlier: 0,
-            pending,
-            views,
+            pending: nothing(),
+            views: no_views(),
         }
     }
 
     // Opens module `own` of a setup: numbers 2, 4 to 6 and 22 of the setup, then 7.
-    pub fn open(setup: Setup, own: usize) -> Opened
-        ensures { result ≡ open_of setup own }
+    pub fn open(setup: Setup, own: usize) -> Result<State, Refusal>
+        ensures { opened_told result ≡ open_of setup own }
     {
-        let v = setup::fields::verdict(setup);
-        if v.number != 0 {
-            let state = State::blank();
-            return Opened {
-                number: v.number,
-                index: v.index,
-                state,
-            };
-        }
-        if (own < 1) | (setup.n < own) {
-            let state = State::blank();
-            return Opened {
-                number: 7,
-                index: 0,
-                state,
-            };
-        }
-        let state = State::fresh(setup, own);
-        Opened {
-            number: 0,
-            index: 0,
-            state,
-        }
+        setup::fields::verdict(setup)?;
+        single((1 <= own) & (own <= setup.n), Number::Own, 0)?;
+        Ok(State::fresh(setup, own))
     }
 }

@@ -1,6 +1,7 @@
 // Writing a state as words.
-ghost use Rattle.std.specs.Prelude.{◌≡◌, true, ◌++◌, length, drop};
+ghost use Rattle.std.specs.Prelude.{◌≡◌, true, ◌≤◌, ◌++◌, length, drop};
 ghost use Rattle.words.specs.Runs.{put_runs};
+ghost use Rattle.words.specs.Refusal.{told};
 ghost use Rattle.setup.specs.Layout.{setup_length};
 ghost use Rattle.setup.specs.Limits.{fades as fades_of};
 ghost use Rattle.setup.specs.Setup.{front_of, setup_bytes};
@@ -18,8 +19,8 @@ use setup::bounds::{fades, front_words};
 use setup::layout::setup_length;
 use setup::write::write_words;
 use views::section::save_views;
-use words::Verdict;
-use words::check::{accept, refusal};
+use words::check::single;
+use words::{Number, Refusal};
 
 // Writes the words of a state that stand before its views.
 fn save_front(state: State, out: &mut [u8])
@@ -29,33 +30,26 @@ fn save_front(state: State, out: &mut [u8])
         (section_runs (fades_of state.setup.limits) state.setup.n state.own state.counters state.previous state.latest state.earlier))
         (left_at (front_of state.setup) state.setup.n) (change_runs state.setup state.pending) }
 {
-    let pending = state.pending;
-    let setup = state.setup;
-    let limits = setup.limits;
-    let form = fades(limits);
+    let form = fades(state.setup.limits);
+    let n = state.setup.n;
     let front = front_words(form);
-    let k = setup_length(front, setup.n);
-    let at = left_at(front, setup.n);
-    let previous = state.previous;
-    let counters = state.counters;
-    let rows = previous.rows;
-    let first = first_of(form, setup.n, counters);
-    let second = second_of(form, setup.n, counters);
-    let returns = counters.returns;
-    write_words(setup, &mut out[..k]);
+    let k = setup_length(front, n);
+    let first = first_of(form, n, state.counters);
+    let second = second_of(form, n, state.counters);
+    write_words(state.setup, &mut out[..k]);
     save_sections(
         form,
-        setup.n,
+        n,
         state.own,
-        counters.view,
-        previous.heard,
-        &rows,
+        state.counters.view,
+        state.previous.heard,
+        &state.previous.rows,
         state.latest,
         state.earlier,
         out,
     );
-    save_accounts(form, setup.n, &first, &second, &returns, out);
-    save_change(setup, pending, out, at);
+    save_accounts(form, n, &first, &second, &state.counters.returns, out);
+    save_change(state.setup, state.pending, out, left_at(front, n));
 }
 
 // Writes all words of a state.
@@ -66,38 +60,35 @@ pub(crate) fn save_words(state: State, out: &mut [u8])
     save_front(state, out);
     let setup = state.setup;
     if setup.partitionable {
-        let limits = setup.limits;
-        let pending = state.pending;
-        let counters = state.counters;
-        let views = state.views;
-        let front = front_words(fades(limits));
+        let front = front_words(fades(setup.limits));
         return save_views(
             setup.n,
-            counters.view,
-            views,
+            state.counters.view,
+            &state.views,
             out,
-            views_at(front, setup.n, pending.left),
+            views_at(front, setup.n, state.pending.left),
         );
     }
 }
 
 impl State {
-    // Saves a state, or refuses it and leaves the output as it was.
-    pub fn save(self, out: &mut [u8]) -> Verdict
-        ensures { (result ≡ save_verdict self out.old) × (out.new ≡ saved_out self out.old) }
+    // How many bytes its image has.
+    pub(crate) fn length(self) -> usize
+        requires { self.setup.n ≤ 16 }
+        ensures { result ≡ state_length self self.pending.left }
     {
-        let pending = self.pending;
-        let v = self.verdict();
-        if v.number != 0 {
-            return v;
-        }
         let setup = self.setup;
-        let limits = setup.limits;
-        let front = front_words(fades(limits));
-        if out.len() != image_length(front, setup.n, pending.left, setup.partitionable) {
-            return refusal(9, 0);
-        }
+        let front = front_words(fades(setup.limits));
+        image_length(front, setup.n, self.pending.left, setup.partitionable)
+    }
+
+    // Saves a state, or refuses it and leaves the output as it was.
+    pub fn save(self, out: &mut [u8]) -> Result<(), Refusal>
+        ensures { (told result ≡ save_verdict self out.old) × (out.new ≡ saved_out self out.old) }
+    {
+        self.verdict()?;
+        single(out.len() == self.length(), Number::Lent, 0)?;
         save_words(self, out);
-        accept()
+        Ok(())
     }
 }

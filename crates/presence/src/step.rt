@@ -2,9 +2,9 @@
 ghost use Rattle.std.specs.Prelude.{◌≡◌, ◌^◌, ◌<◌};
 ghost use Rattle.changes.specs.Books.{turned as turned_of};
 ghost use Rattle.presence.specs.Valid.{Valid};
-ghost use Rattle.presence.specs.Step.{place_of, mark_of, judgement_for, outgoing_for, books_of, views_for, outgoing_view, after_round, refused_step, accepted_step, read_step, step_of};
+ghost use Rattle.presence.specs.Step.{place_of, mark_of, judgement_for, outgoing_for, books_of, views_for, outgoing_view, after_round, accepted_step, read_step, step_of, round_told, stepped_told};
 
-use crate::{State, Stepped};
+use crate::{Round, State};
 use changes::Books;
 use changes::turn::turned;
 use rules::{Judgement, Reading};
@@ -13,6 +13,8 @@ use views::after::{no_views, views_after};
 use views::read::{read_words, views_seen};
 use views::word::view_word;
 use words::bits::{bit_at, pick, power};
+use words::check::single;
+use words::{Number, Refusal};
 
 impl State {
     // The module's own read place.
@@ -20,9 +22,7 @@ impl State {
         requires { Valid self }
         ensures { result ≡ place_of self }
     {
-        let setup = self.setup;
-        let i = self.own - 1;
-        setup.places[i]
+        self.setup.places[self.own - 1]
     }
 
     // Whether the module has the send mark.
@@ -30,9 +30,7 @@ impl State {
         requires { Valid self }
         ensures { result ≡ mark_of self }
     {
-        let setup = self.setup;
-        let i = self.own - 1;
-        bit_at(setup.marks, i)
+        bit_at(self.setup.marks, self.own - 1)
     }
 
     // Rules 1 and 3 to 6: what the module makes of this read.
@@ -40,15 +38,11 @@ impl State {
         requires { Valid self }
         ensures { result ≡ judgement_for self this }
     {
-        let setup = self.setup;
-        let n = setup.n;
-        let places = setup.places;
-        let skew = rules::lag::is_skewed(n, places);
-        let previous = self.previous;
-        let aligned = rules::align::aligned(n, skew, self.place(), previous, this);
+        let n = self.setup.n;
+        let skew = rules::lag::is_skewed(n, self.setup.places);
+        let aligned = rules::align::aligned(n, skew, self.place(), self.previous, this);
         let own = pick(skew, self.earlier, self.latest);
-        let counters = self.counters;
-        rules::judge::judgement(n, counters.view, aligned, own)
+        rules::judge::judgement(n, self.counters.view, aligned, own)
     }
 
     // Rule 7: the word handed out.
@@ -65,13 +59,10 @@ impl State {
         requires { Valid self }
         ensures { result ≡ turned_of (books_of self) }
     {
-        let setup = self.setup;
-        let counters = self.counters;
-        let pending = self.pending;
         turned(Books {
-            setup,
-            counters,
-            pending,
+            setup: self.setup,
+            counters: self.counters,
+            pending: self.pending,
         })
     }
 
@@ -80,16 +71,13 @@ impl State {
         requires { Valid self }
         ensures { result ≡ views_for self seen }
     {
-        let setup = self.setup;
-        if !setup.partitionable {
+        if !self.setup.partitionable {
             return no_views();
         }
-        let n = setup.n;
-        let places = setup.places;
-        let counters = self.counters;
-        let views = self.views;
-        let split = pick(rules::lag::is_skewed(n, places), self.place(), 0);
-        views_after(n, split, views, seen, counters.view)
+        let n = self.setup.n;
+        let skew = rules::lag::is_skewed(n, self.setup.places);
+        let split = pick(skew, self.place(), 0);
+        views_after(n, split, self.views, seen, self.counters.view)
     }
 
     // The view word handed out, with the local view after the round.
@@ -97,12 +85,10 @@ impl State {
         requires { Valid self × (view < 2 ^ 28) }
         ensures { result ≡ outgoing_view self view }
     {
-        let setup = self.setup;
-        if !setup.partitionable {
+        if !self.setup.partitionable {
             return 0;
         }
-        let counters = self.counters;
-        view_word(pick(self.marked(), counters.view, view))
+        view_word(pick(self.marked(), self.counters.view, view))
     }
 
     // Rule 8, and what the next step needs.
@@ -112,88 +98,59 @@ impl State {
         ensures { result ≡ after_round self this seen }
     {
         let books = self.turned();
-        let setup = books.setup;
-        let counters = books.counters;
-        let pending = books.pending;
-        let counted = accounts::round::counters(setup, j.health, counters);
-        let views = self.agreed(seen);
         State {
-            setup,
+            setup: books.setup,
             own: self.own,
-            counters: counted,
+            counters: accounts::round::counters(books.setup, j.health, books.counters),
             previous: this,
             latest: j.syndrome,
             earlier: self.latest,
-            pending,
-            views,
-        }
-    }
-
-    // A refusal leaves the state as it was.
-    fn refused(self, number: u32, index: u32) -> Stepped
-        ensures { result ≡ refused_step self number index }
-    {
-        Stepped {
-            number,
-            index,
-            health: 0,
-            accusations: [0u32; 16],
-            word: 0,
-            second: 0,
-            causes: [0u32; 16],
-            state: self,
+            pending: books.pending,
+            views: self.agreed(seen),
         }
     }
 
     // A round. The causes are handed on.
-    fn played(self, this: Reading, seen: [u32; 16], causes: [u32; 16]) -> Stepped
+    fn played(self, this: Reading, seen: [u32; 16], causes: [u32; 16]) -> Round
         requires { Valid self }
-        ensures { result ≡ accepted_step self this seen causes }
+        ensures { round_told result ≡ accepted_step self this seen causes }
     {
         let j = self.judged(this);
         let word = self.outgoing(this, j);
         let accusations = j.accusations;
         let state = self.after(this, seen, j);
-        let counters = state.counters;
-        let second = self.outgoing_view(counters.view);
-        Stepped {
-            number: 0,
-            index: 0,
+        Round {
             health: j.health,
             accusations,
             word,
-            second,
+            second: self.outgoing_view(state.counters.view),
             causes,
             state,
         }
     }
 
-    // 9 for a read of other than N words, or 2N where the setup is partitionable, 10 for a controller bit at N or above, then the round.
-    pub fn stepped(self, read: &[u8], controller: u32) -> Stepped
+    // 9 for a read of other than N words, or 2N where the setup is partitionable, 10 for a controller bit at N or above, then the round. A refusal leaves
+    // the state as it was.
+    pub fn stepped(self, read: &[u8], controller: u32) -> Result<Round, Refusal>
         requires { Valid self }
-        ensures { result ≡ read_step self read.now controller }
+        ensures { stepped_told self result ≡ read_step self read.now controller }
     {
-        let setup = self.setup;
-        let n = setup.n;
-        if read.len() != read_words(setup.partitionable, n) * 4 {
-            return self.refused(9, 0);
-        }
-        if power(n) <= controller {
-            return self.refused(10, 0);
-        }
+        let n = self.setup.n;
+        let partitionable = self.setup.partitionable;
+        let whole = read.len() == read_words(partitionable, n) * 4;
+        single(whole, Number::Lent, 0)?;
+        single(controller < power(n), Number::Controller, 0)?;
         let causes = rules::hearing::causes(n, read, controller);
-        let seen = views_seen(setup.partitionable, n, read, controller);
-        self.played(rules::hearing::reading(n, read, controller), seen, causes)
+        let seen = views_seen(partitionable, n, read, controller);
+        let this = rules::hearing::reading(n, read, controller);
+        Ok(self.played(this, seen, causes))
     }
 
     // One step of any state: one outside the limits is refused first.
-    pub fn step(self, read: &[u8], controller: u32) -> Stepped
-        ensures { result ≡ step_of self read.now controller }
+    pub fn step(self, read: &[u8], controller: u32) -> Result<Round, Refusal>
+        ensures { stepped_told self result ≡ step_of self read.now controller }
     {
-        let v = self.verdict();
-        if v.number != 0 {
-            return self.refused(v.number, v.index);
-        }
+        self.verdict()?;
         self.stepped(read, controller)
     }
 }

@@ -17,10 +17,8 @@ impl State {
     pub fn shown(self) -> u32
         ensures { result ≡ shown_view self }
     {
-        let setup = self.setup;
-        let views = self.views;
-        let counters = self.counters;
-        pick(setup.partitionable, views.adopted, counters.view)
+        let local = self.counters.view;
+        pick(self.setup.partitionable, self.views.adopted, local)
     }
 
     // The syndrome computed last, which the module sends in the next round, with the send mark or without it (rule 7).

@@ -3,12 +3,12 @@ use Prim.Native.Nat.{ℕ, ◌<◌}
 use mathlib.Core.Path.{◌≡◌, sym, ap, ◌∙◌}
 use mathlib.Core.List.{List}
 use borrow.Author.Tests.{eq-eqb}
-use Rattle.words.specs.declared.Verdict.{Verdict}
+use Rattle.words.specs.Verdict.{Verdict}
 use Rattle.words.proofs.Truth.{cond-true}
 use Rattle.setup.specs.Setup.{setup_of, setup_bytes}
 use Rattle.setup.specs.Check.{check_setup, setup_verdict, read_setup}
 use Rattle.setup.specs.declared.Setup.{Setup}
-use Rattle.setup.specs.declared.SetupRead.{SetupRead}
+use Rattle.setup.specs.Check.{SetupRead}
 use Rattle.setup.proofs.SetupRoundTrip.{round_trip as setups}
 use Rattle.presence.specs.Image.{image_of}
 use Rattle.calls.specs.declared.WordAnswer.{WordAnswer}

@@ -8,7 +8,7 @@ use Rattle.setup.specs.declared.Setup.{Setup}
 use Rattle.presence.specs.Shown.{shown_view}
 use Rattle.presence.specs.Step.{accepted_step}
 use Rattle.presence.specs.declared.State.{State}
-use Rattle.presence.specs.declared.Stepped.{Stepped}
+use Rattle.presence.specs.Step.{Stepped}
 use Rattle.agreement.specs.Session.{Offer, Session, Accepted, size, u, answer_at}
 use Rattle.agreement.specs.Life.{Life}
 use Rattle.agreement.specs.Existence.{NoChanges}

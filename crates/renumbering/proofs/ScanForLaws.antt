@@ -10,7 +10,7 @@ use lib.ListN.{length}
 use borrow.Author.Tests.{lt-ltb, le-leb, not-true}
 use Rattle.words.specs.Word.{word_at}
 use Rattle.words.specs.Verdict.{verdict, accepted, single, and_then, outcome}
-use Rattle.words.specs.declared.Verdict.{Verdict}
+use Rattle.words.specs.Verdict.{Verdict}
 use Rattle.words.proofs.Truth.{which, not-neither, cond-true, cond-false}
 use Rattle.words.proofs.VerdictLaws.{Passed, and-then-next, single-ok, tests-ok}
 use Rattle.setup.specs.Setup.{size_in, place_in}

@@ -12,7 +12,7 @@ use Rattle.words.proofs.BitLaws.{bit-pack, pack-ext, full-lt}
 use Rattle.setup.specs.declared.Setup.{Setup}
 use Rattle.rules.specs.Hearing.{bus_word, entry_of, reading_of, causes_of}
 use Rattle.rules.specs.Causes.{cause_of}
-use Rattle.rules.specs.declared.Entry.{Entry}
+use Rattle.rules.specs.Hearing.{Entry}
 use Rattle.rules.specs.declared.Reading.{Reading}
 use Rattle.changes.specs.Pending.{nothing}
 use Rattle.changes.specs.declared.Pending.{Pending}

@@ -9,7 +9,7 @@ use Rattle.words.specs.Count.{any, all}
 use Rattle.words.proofs.Truth.{which}
 use Rattle.words.proofs.CountLaws.{any-witness, any_none, all-at}
 use Rattle.rules.specs.Hearing.{entry_of}
-use Rattle.rules.specs.declared.Entry.{Entry}
+use Rattle.rules.specs.Hearing.{Entry}
 use Rattle.presence.specs.declared.State.{State}
 use Rattle.agreement.specs.Fault.{limit}
 use Rattle.agreement.specs.Session.{Session, Accepted, size, u, follows, RuleFollower, bit_in, word_in, view_word_in, hears_view, round, sent, Bound, view_word_sent, BoundViews, view_of, kept_by, kept}

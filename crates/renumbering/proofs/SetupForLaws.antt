@@ -5,7 +5,7 @@ use mathlib.Core.Bool.{true, false}
 use native.Mathlib.Omega.{arith}
 use lib.ListN.{get_or}
 use Rattle.words.specs.Bits.{bit, b2n}
-use Rattle.words.specs.declared.Verdict.{Verdict}
+use Rattle.words.specs.Verdict.{Verdict}
 use Rattle.words.proofs.ArrayLaws.{array-length, array-clear}
 use Rattle.setup.specs.Check.{setup_roomy, setup_verdict}
 use Rattle.setup.specs.declared.Setup.{Setup}

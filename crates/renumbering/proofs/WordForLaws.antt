@@ -12,9 +12,10 @@ use Rattle.words.proofs.Truth.{iff-eq}
 use Rattle.words.proofs.BitLaws.{bit-low, bit-mod, bit-ext, pack-ext}
 use Rattle.rules.specs.Hearing.{bus_word, reception_of, is_heard, heard_row, cause_in, entry_of}
 use Rattle.rules.specs.Causes.{cause_of}
-use Rattle.rules.specs.declared.Reception.{Reception}
-use Rattle.rules.specs.declared.Reception.TheVariants.{Heard, ControllerLoss, WrongKind, StrayBits}
-use Rattle.rules.specs.declared.Entry.{Entry}
+use Rattle.rules.specs.Hearing.{Reception}
+use Rattle.std.specs.Prelude.{Ok, Err}
+use Rattle.rules.specs.declared.Cause.TheVariants.{ControllerLoss, WrongKind, StrayBits}
+use Rattle.rules.specs.Hearing.{Entry}
 use Rattle.rules.proofs.ReceptionLaws.{word-lost, word-other, word-stray, word-clean, word-cases, below-kind}
 use Rattle.views.specs.ViewWord.{view_word, view_word_heard, view_entry}
 use Rattle.views.specs.Adoption.{is_there}
@@ -59,31 +60,31 @@ module _ (n : ℕ) (π : Renumbering n) where
 
   -- what is read of a word, with its row renumbered
   unfoldable reception_for : Reception → Reception
-  reception_for (Heard row) = Heard (vector_for n π row)
-  reception_for ControllerLoss = ControllerLoss
-  reception_for WrongKind = WrongKind
-  reception_for StrayBits = StrayBits
+  reception_for (Ok row) = Ok (vector_for n π row)
+  reception_for (Err ControllerLoss) = Err ControllerLoss
+  reception_for (Err WrongKind) = Err WrongKind
+  reception_for (Err StrayBits) = Err StrayBits
 
   cause-same : (r : Reception) → cause_in (reception_for r) ≡ cause_in r
   unfolding reception_for cause_in
-  cause-same (Heard row) = refl
-  cause-same ControllerLoss = refl
-  cause-same WrongKind = refl
-  cause-same StrayBits = refl
+  cause-same (Ok row) = refl
+  cause-same (Err ControllerLoss) = refl
+  cause-same (Err WrongKind) = refl
+  cause-same (Err StrayBits) = refl
 
   heard-same : (r : Reception) → is_heard (reception_for r) ≡ is_heard r
   unfolding reception_for is_heard
-  heard-same (Heard row) = refl
-  heard-same ControllerLoss = refl
-  heard-same WrongKind = refl
-  heard-same StrayBits = refl
+  heard-same (Ok row) = refl
+  heard-same (Err ControllerLoss) = refl
+  heard-same (Err WrongKind) = refl
+  heard-same (Err StrayBits) = refl
 
   row_same : (r : Reception) → heard_row (reception_for r) ≡ vector_for n π (heard_row r)
   unfolding reception_for heard_row
-  row_same (Heard row) = refl
-  row_same ControllerLoss = sym (vector-zero n π)
-  row_same WrongKind = sym (vector-zero n π)
-  row_same StrayBits = sym (vector-zero n π)
+  row_same (Ok row) = refl
+  row_same (Err ControllerLoss) = sym (vector-zero n π)
+  row_same (Err WrongKind) = sym (vector-zero n π)
+  row_same (Err StrayBits) = sym (vector-zero n π)
 
   -- an entry, with its row renumbered
   abbrev pub entry_for : Entry → Entry
@@ -117,7 +118,7 @@ module _ (n : ℕ) (π : Renumbering n) where
         (λ e k l. sym (word-stray n on (word_for n π w) e (word-kind w ∙ k) refl
         (ltb-false _ (2 ^ n) (word-rest w ∙ le-ltb (w % 2 ^ 28) (2 ^ n) l))))
         (λ e k l. let l' = ltb-true _ (2 ^ n) (word-rest w ∙ lt-ltb (w % 2 ^ 28) (2 ^ n) l) in
-        sym (word-clean n on (word_for n π w) e (word-kind w ∙ k) refl l') ∙ ap Heard (word_row w l'))
+        sym (word-clean n on (word_for n π w) e (word-kind w ∙ k) refl l') ∙ ap Ok (word_row w l'))
 
     -- rule 2
     pub cause-for : (on : Bool) (w : ℕ) → cause_of n on (word_for n π w) ≡ cause_of n on w

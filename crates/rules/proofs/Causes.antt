@@ -18,10 +18,10 @@ use Rattle.words.proofs.Truth.{which, clash, and_l, and_r}
 use Rattle.words.proofs.BitLaws.{bit_high, bit-mod, bit-ext, pack-bits, pack-ext}
 use Rattle.words.proofs.CountLaws.{any-witness, any_none}
 use Rattle.words.proofs.ArrayLaws.{array_at, array-above}
-use Rattle.rules.specs.Hearing.{reception_of, is_heard, heard_row, cause_in, entry_of, reading_of, causes_of}
+use Rattle.std.specs.Prelude.{Ok, Err}
+use Rattle.rules.specs.Hearing.{Reception, reception_of, is_heard, heard_row, cause_in, entry_of, reading_of, causes_of}
 use Rattle.rules.specs.Causes.{cause_of, Causes, CasesRight}
-use Rattle.rules.specs.declared.Reception.{Reception}
-use Rattle.rules.specs.declared.Reception.TheVariants.{Heard, ControllerLoss, WrongKind, StrayBits}
+use Rattle.rules.specs.declared.Cause.TheVariants.{ControllerLoss, WrongKind, StrayBits}
 use Rattle.rules.proofs.ReceptionLaws.{word-cases, reading-heard}
 
 -- ---- stray bits
@@ -127,10 +127,10 @@ module _ (n : ℕ) (on : Bool) (w : ℕ) where
 -- 0 is the code of what is heard, and of nothing else
 pub zero-heard : (r : Reception) → (cause_in r ≡ 0) ↔ (is_heard r ≡ true)
 unfolding cause_in is_heard
-zero-heard (Heard v) = ((λ h. refl), (λ h. refl))
-zero-heard ControllerLoss = ((λ h. absurd (omega arith)), (λ h. absurd (true≢false (sym h))))
-zero-heard WrongKind = ((λ h. absurd (omega arith)), (λ h. absurd (true≢false (sym h))))
-zero-heard StrayBits = ((λ h. absurd (omega arith)), (λ h. absurd (true≢false (sym h))))
+zero-heard (Ok v) = ((λ h. refl), (λ h. refl))
+zero-heard (Err ControllerLoss) = ((λ h. absurd (omega arith)), (λ h. absurd (true≢false (sym h))))
+zero-heard (Err WrongKind) = ((λ h. absurd (omega arith)), (λ h. absurd (true≢false (sym h))))
+zero-heard (Err StrayBits) = ((λ h. absurd (omega arith)), (λ h. absurd (true≢false (sym h))))
 
 -- ---- a read
 

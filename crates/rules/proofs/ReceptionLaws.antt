@@ -14,9 +14,10 @@ use Rattle.words.specs.Array.{array, replaced, Filled}
 use Rattle.words.proofs.Truth.{cond-true, cond-false}
 use Rattle.words.proofs.BitLaws.{bit-pack, bit-mod}
 use Rattle.words.proofs.ArrayLaws.{array_at, array-ext, replaced-ahead, replaced-array}
-use Rattle.rules.specs.Hearing.{bus_word, reception_of, is_heard, heard_row, word_heard, entry_of, reading_of}
-use Rattle.rules.specs.declared.Reception.{Reception}
-use Rattle.rules.specs.declared.Reception.TheVariants.{Heard, ControllerLoss, WrongKind, StrayBits}
+use Rattle.std.specs.Prelude.{Ok, Err}
+use Rattle.std.specs.Result.{is_ok, result_unwrap_or}
+use Rattle.rules.specs.Hearing.{bus_word, Reception, reception_of, is_heard, heard_row, word_heard, entry_of, reading_of}
+use Rattle.rules.specs.declared.Cause.TheVariants.{ControllerLoss, WrongKind, StrayBits}
 
 -- a vector of n ≤ 16 modules fits below the kind
 pub below-kind : (n v : ℕ) → n ≤ 16 → v < 2 ^ n → v < 2 ^ 28
@@ -25,31 +26,31 @@ below-kind n v h l = omega (arith, pow_mono {i = n} {j = 16} h)
 -- ---- what reading a word answers, by its three tests
 
 module _ (n : ℕ) (on : Bool) (w : ℕ) where
-  pub word-lost : on ≡ false → ControllerLoss ≡ reception_of n on w
+  pub word-lost : on ≡ false → Err ControllerLoss ≡ reception_of n on w
   unfolding reception_of
   word-lost e = sym (cond-false _ _ e)
 
-  pub word-other : on ≡ true → (w / 2 ^ 28 ≡ 5 → ⊥) → WrongKind ≡ reception_of n on w
+  pub word-other : on ≡ true → (w / 2 ^ 28 ≡ 5 → ⊥) → Err WrongKind ≡ reception_of n on w
   unfolding reception_of
   word-other e k = sym (cond-true _ _ e ∙ cond-false _ _ (ne_eqb (w / 2 ^ 28) 5 k))
 
-  pub word-stray : {power : ℕ} → on ≡ true → w / 2 ^ 28 ≡ 5 → power ≡ 2 ^ n → power ≤ w % 2 ^ 28 → StrayBits ≡ reception_of n on w
+  pub word-stray : {power : ℕ} → on ≡ true → w / 2 ^ 28 ≡ 5 → power ≡ 2 ^ n → power ≤ w % 2 ^ 28 → Err StrayBits ≡ reception_of n on w
   unfolding reception_of
   word-stray e k p l = sym (cond-true _ _ e ∙ cond-true _ _ (eq-eqb (w / 2 ^ 28) 5 k) ∙ cond-false _ _ (le-ltb (w % 2 ^ 28) (2 ^ n) (omega (arith, p, l))))
 
-  pub word-clean : {power : ℕ} → on ≡ true → w / 2 ^ 28 ≡ 5 → power ≡ 2 ^ n → w % 2 ^ 28 < power → Heard (w % 2 ^ 28) ≡ reception_of n on w
+  pub word-clean : {power : ℕ} → on ≡ true → w / 2 ^ 28 ≡ 5 → power ≡ 2 ^ n → w % 2 ^ 28 < power → Ok (w % 2 ^ 28) ≡ reception_of n on w
   unfolding reception_of
   word-clean e k p l = sym (cond-true _ _ e ∙ cond-true _ _ (eq-eqb (w / 2 ^ 28) 5 k) ∙ cond-true _ _ (lt-ltb (w % 2 ^ 28) (2 ^ n) (omega (arith, p, l))))
 
   -- one of the four holds
-  pub word-cases : (P : Reception → Type 0) → (on ≡ false → P ControllerLoss) → (on ≡ true → (w / 2 ^ 28 ≡ 5 → ⊥) → P WrongKind)
-      → (on ≡ true → w / 2 ^ 28 ≡ 5 → 2 ^ n ≤ w % 2 ^ 28 → P StrayBits)
-      → (on ≡ true → w / 2 ^ 28 ≡ 5 → w % 2 ^ 28 < 2 ^ n → P (Heard (w % 2 ^ 28))) → P (reception_of n on w)
+  pub word-cases : (P : Reception → Type 0) → (on ≡ false → P (Err ControllerLoss)) → (on ≡ true → (w / 2 ^ 28 ≡ 5 → ⊥) → P (Err WrongKind))
+      → (on ≡ true → w / 2 ^ 28 ≡ 5 → 2 ^ n ≤ w % 2 ^ 28 → P (Err StrayBits))
+      → (on ≡ true → w / 2 ^ 28 ≡ 5 → w % 2 ^ 28 < 2 ^ n → P (Ok (w % 2 ^ 28))) → P (reception_of n on w)
   unfolding reception_of
   word-cases P lost other stray clean = go on (eqb (w / 2 ^ 28) 5) (ltb (w % 2 ^ 28) (2 ^ n)) refl refl refl
     where
       go : (a k c : Bool) → on ≡ a → eqb (w / 2 ^ 28) 5 ≡ k → ltb (w % 2 ^ 28) (2 ^ n) ≡ c
-          → P (cond a (cond k (cond c (Heard (w % 2 ^ 28)) StrayBits) WrongKind) ControllerLoss)
+          → P (cond a (cond k (cond c (Ok (w % 2 ^ 28)) (Err StrayBits)) (Err WrongKind)) (Err ControllerLoss))
       go false k c e t l = lost e
       go true false c e t l = other e (eqb-false (w / 2 ^ 28) 5 t)
       go true true false e t l = stray e (eqb-true (w / 2 ^ 28) 5 t) (ltb-false (w % 2 ^ 28) (2 ^ n) l)
@@ -78,11 +79,6 @@ bus-heard n v h l =
     ap is_heard (sym (word-clean n true (5 * 2 ^ 28 + v) refl kind refl (omega arith)))
 
 -- ---- one entry
-
-pub entry-by : {r : Reception} {heard : Bool} {row : ℕ} (n : ℕ) (on : Bool) (w : ℕ) → r ≡ reception_of n on w → heard ≡ is_heard r → row ≡ heard_row r
-    → record { heard = heard; row = row } ≡ entry_of n on w
-unfolding entry_of
-entry-by n on w e h l = rw (h, l, e)
 
 pub entry-heard : (n : ℕ) (on : Bool) (w : ℕ) → (entry_of n on w).heard ≡ on && word_heard n w
 unfolding entry_of reception_of is_heard
@@ -134,15 +130,26 @@ module _ (j n : ℕ) (read : List ℕ) (controller : ℕ) (e : j ≡ n) where
       replaced-array n n _ a (omega arith) small f (λ i s t. absurd (omega arith)) (rw e at r)
       ∙ array-ext n _ _ (λ k l. ap (λ (v : ℕ). cond (ltb k split) (get_or a k 0) v) (sym (array_at n _ k l small)))
 
+-- what code asks of a result
+pub ok-heard : (r : Reception) → is_ok r ≡ is_heard r
+unfolding is_heard
+ok-heard (Ok row) = refl
+ok-heard (Err cause) = refl
+
+pub or-row : (r : Reception) → result_unwrap_or r 0 ≡ heard_row r
+unfolding heard_row
+or-row (Ok row) = refl
+or-row (Err cause) = refl
+
 -- an entry by the answer that reading its word gave
 module _ (n : ℕ) (on : Bool) (w : ℕ) {r : Reception} (e : r ≡ reception_of n on w) where
-  pub heard-of : {b : Bool} → b ≡ is_heard r → b ≡ (entry_of n on w).heard
+  pub heard-of : {b : Bool} → b ≡ is_ok r → b ≡ (entry_of n on w).heard
   unfolding entry_of
-  heard-of h = h ∙ ap is_heard e
+  heard-of h = h ∙ ok-heard r ∙ ap is_heard e
 
-  pub row_of : {v : ℕ} → v ≡ heard_row r → v ≡ (entry_of n on w).row
+  pub row_of : {v : ℕ} → v ≡ result_unwrap_or r 0 → v ≡ (entry_of n on w).row
   unfolding entry_of
-  row_of h = h ∙ ap heard_row e
+  row_of h = h ∙ or-row r ∙ ap heard_row e
 
 -- the row that a turn replaces
 pub kept_row : {l : List ℕ} {u v : ℕ} (b : Bool) (a : List ℕ) (j : ℕ) (f : ℕ → ℕ) (w : ℕ) → l ≡ replaced j f a → v ≡ w

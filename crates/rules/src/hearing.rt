@@ -1,10 +1,22 @@
 // Rule 2: which modules are heard in a read, and with which rows, and why one is not heard. And how a row is sent.
-ghost use Rattle.std.specs.Prelude.{◌≡◌, ◌*◌, ◌^◌, ◌≤◌, ◌<◌, length};
-ghost use Rattle.rules.specs.Hearing.{bus_word, reception_of, is_heard, heard_row, cause_in, entry_of, reading_of, causes_of};
+ghost use Rattle.std.specs.Prelude.{◌≡◌, ◌+◌, ◌*◌, ◌^◌, ◌≤◌, ◌<◌, length};
+ghost use Rattle.words.specs.Bits.{bit};
+ghost use Rattle.words.specs.Word.{word_at};
+ghost use Rattle.rules.specs.Hearing.{bus_word, cause_code, reception_of, cause_in, reading_of, causes_of};
 
-use crate::{Entry, Reading, Reception};
+use crate::{Cause, Reading};
+use words::array::from_fn;
 use words::bits::{bit_at, power, with_bit};
 use words::word::{KIND, word_at};
+
+impl Cause {
+    // The code of the cause, as C and the page have it.
+    pub fn code(self) -> u32
+        ensures { result ≡ cause_code self }
+    {
+        self as u32
+    }
+}
 
 // The bus word of a syndrome.
 pub fn bus_word(v: u32) -> u32
@@ -14,70 +26,42 @@ pub fn bus_word(v: u32) -> u32
     5 * KIND + v
 }
 
-// Reads a bus word: its controller bit is `on`. A word is heard where this says so, and nowhere else is it decided.
-pub fn receive(n: usize, on: bool, w: u32) -> Reception
+// Reads a bus word: its controller bit is `on`. A word is heard, and then has a row, where this says so, and nowhere else is it decided.
+// That it is heard is one test of three conditions, so that a step reads a word without a branch.
+pub fn receive(n: usize, on: bool, w: u32) -> Result<u32, Cause>
     requires { n < 32 }
     ensures { result ≡ reception_of n on w }
 {
+    let row = w % KIND;
+    let heard = on & (w / KIND == 5) & (row < power(n));
+    if heard {
+        return Ok(row);
+    }
     if !on {
-        return Reception::ControllerLoss;
+        return Err(Cause::ControllerLoss);
     }
     if w / KIND != 5 {
-        return Reception::WrongKind;
+        return Err(Cause::WrongKind);
     }
-    if power(n) <= w % KIND {
-        return Reception::StrayBits;
-    }
-    Reception::Heard(w % KIND)
+    Err(Cause::StrayBits)
 }
 
-impl Reception {
-    // Whether the word is heard.
-    pub fn is_heard(self) -> bool
-        ensures { result ≡ is_heard self }
-    {
-        match self {
-            Reception::Heard(_) => true,
-            Reception::ControllerLoss => false,
-            Reception::WrongKind => false,
-            Reception::StrayBits => false,
-        }
-    }
-
-    // Its row, 0 where it is not heard.
-    pub fn row(self) -> u32
-        ensures { result ≡ heard_row self }
-    {
-        match self {
-            Reception::Heard(row) => row,
-            Reception::ControllerLoss => 0,
-            Reception::WrongKind => 0,
-            Reception::StrayBits => 0,
-        }
-    }
-
-    // The code of the cause for which it is not heard, 0 where it is.
-    pub fn cause(self) -> u32
-        ensures { result ≡ cause_in self }
-    {
-        match self {
-            Reception::Heard(_) => 0,
-            Reception::ControllerLoss => 1,
-            Reception::WrongKind => 2,
-            Reception::StrayBits => 3,
-        }
-    }
-}
-
-// One module: its controller bit is `on`, its word is w.
-fn entry(n: usize, on: bool, w: u32) -> Entry
-    requires { n < 32 }
-    ensures { result ≡ entry_of n on w }
+// Module j + 1 of a read.
+pub(crate) fn received(n: usize, read: &[u8], controller: u32, j: usize) -> Result<u32, Cause>
+    requires { (n < 32) × (j < 16) × (j * 4 + 4 ≤ length read.now) }
+    ensures { result ≡ reception_of n (bit controller j) (word_at read.now j) }
 {
-    let r = receive(n, on, w);
-    Entry {
-        heard: r.is_heard(),
-        row: r.row(),
+    receive(n, bit_at(controller, j), word_at(read, j))
+}
+
+// The code of the cause for which a word is not heard, 0 where it is.
+#[tactic(auto, unfolding(crate::specs::Hearing::cause_in))]
+pub fn cause_in(reception: Result<u32, Cause>) -> u32
+    ensures { result ≡ cause_in reception }
+{
+    match reception {
+        Ok(_) => 0,
+        Err(cause) => cause.code(),
     }
 }
 
@@ -89,22 +73,18 @@ pub fn reading(n: usize, read: &[u8], controller: u32) -> Reading
     let mut heard: u32 = 0;
     let mut rows = [0u32; 16];
     for j in 0..n {
-        let e = entry(n, bit_at(controller, j), word_at(read, j));
-        heard = with_bit(heard, j, e.heard);
-        rows[j] = e.row;
+        let r = received(n, read, controller, j);
+        heard = with_bit(heard, j, r.is_ok());
+        rows[j] = r.unwrap_or(0);
     }
     Reading { heard, rows }
 }
 
 // The causes of a read, by their codes; 0 from n on. They are found apart from the reading: who needs none does not pay for them.
+#[tactic(auto, unfolding(crate::specs::Hearing::causes_of))]
 pub fn causes(n: usize, read: &[u8], controller: u32) -> [u32; 16]
     requires { (n ≤ 16) × (n * 4 ≤ length read.now) }
     ensures { result ≡ causes_of n read.now controller }
 {
-    let mut causes = [0u32; 16];
-    for j in 0..n {
-        let r = receive(n, bit_at(controller, j), word_at(read, j));
-        causes[j] = r.cause();
-    }
-    causes
+    from_fn(n, |j| cause_in(received(n, read, controller, j)))
 }

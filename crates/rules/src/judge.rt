@@ -12,7 +12,7 @@ use crate::hearing::bus_word;
 use crate::splice::{aligned_heard, read_aligned};
 use crate::{Judged, Judgement, Reading};
 use vote::health::health;
-use words::bits::{bit_at, pick, with_bit};
+use words::bits::{bit_at, from_fn, pick};
 
 // Whose rows vote and can be accused: those present, of the modules in the view.
 fn voters(n: usize, view: u32, heard: u32) -> u32
@@ -27,12 +27,10 @@ fn syndrome(n: usize, voters: u32, heard: u32, rows: &[u32; 16], health: u32) ->
     requires { n ≤ 16 }
     ensures { result ≡ syndrome_of n heard (accusations_of n voters rows.now health) }
 {
-    let mut acc: u32 = 0;
-    for j in 0..n {
-        let good = bit_at(heard, j) & clean(n, voters, rows[j], health, j);
-        acc = with_bit(acc, j, good);
-    }
-    acc
+    from_fn(
+        n,
+        |j| bit_at(heard, j) & clean(n, voters, rows[j], health, j),
+    )
 }
 
 // Rules 4 to 6, by the view held at the end of the round before. An empty vote falls back on `own`.
@@ -53,7 +51,7 @@ pub fn judgement(n: usize, view: u32, aligned: Reading, own: u32) -> Judgement
 }
 
 // Rules 2 to 6 on lent arrays: the rows of this read in `this`, and those of the round that is voted on in `rows`, which holds those of the previous
-// read, in which `before` were heard.
+// read, in which `before` were heard. What is lent is handed over piece by piece, and not in a struct: one caller would build it for this call alone.
 pub fn judged_read(
     n: usize,
     view: u32,

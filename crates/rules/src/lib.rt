@@ -11,20 +11,15 @@ pub mod judge;
 pub mod lag;
 mod splice;
 
-// What reading a bus word answers: it is heard, with its row, or it is not, and why, the first cause that applies.
-#[derive(Clone, Copy)]
-pub enum Reception {
-    Heard(u32),
-    ControllerLoss,
-    WrongKind,
-    StrayBits,
-}
-
-// What became of one module's bus word: whether it is heard, and its row, 0 if it is not.
-#[derive(Clone, Copy)]
-pub struct Entry {
-    pub heard: bool,
-    pub row: u32,
+// Why a word is not heard, the first that applies, by its code.
+#[derive(Clone, Copy, Debug, PartialEq, Eq)]
+pub enum Cause {
+    // Its controller bit is 0.
+    ControllerLoss = 1,
+    // Its kind is another than 5.
+    WrongKind = 2,
+    // It has bits at N or above.
+    StrayBits = 3,
 }
 
 // What a read holds: who is heard, and the rows, 0 where a module is not heard.

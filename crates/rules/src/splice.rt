@@ -4,9 +4,8 @@ ghost use Rattle.words.specs.Bits.{bit, pack};
 ghost use Rattle.words.specs.Array.{array, Filled};
 ghost use Rattle.rules.specs.Hearing.{reading_of};
 
-use crate::hearing::receive;
-use words::bits::{bit_at, pick, power, with_bit};
-use words::word::word_at;
+use crate::hearing::received;
+use words::bits::{pick, power, with_bit};
 
 // Who is heard: the low `split` bits by the previous read, the others by this one.
 pub fn aligned_heard(n: usize, split: u32, previous: u32, this: u32) -> u32
@@ -19,7 +18,8 @@ pub fn aligned_heard(n: usize, split: u32, previous: u32, this: u32) -> u32
 }
 
 // All modules of a read, their rows in `this`; and in `rows`, which holds those of the previous read, the rows of the round that is voted on: below
-// `split` they stay, the others are of this read. The answer is who is heard. (Rules 2 and 3 in one pass.)
+// `split` they stay, the others are of this read. The answer is who is heard. (Rules 2 and 3 in one pass, so
+// that a step has no array between.)
 pub fn read_aligned(
     n: usize,
     read: &[u8],
@@ -35,9 +35,9 @@ pub fn read_aligned(
 {
     let mut heard: u32 = 0;
     for j in 0..n {
-        let r = receive(n, bit_at(controller, j), word_at(read, j));
-        let row = r.row();
-        heard = with_bit(heard, j, r.is_heard());
+        let r = received(n, read, controller, j);
+        let row = r.unwrap_or(0);
+        heard = with_bit(heard, j, r.is_ok());
         this[j] = row;
         rows[j] = pick((j as u32) < split, rows[j], row);
     }

@@ -13,12 +13,11 @@ use Rattle.words.specs.Count.{all}
 use Rattle.words.proofs.Truth.{which, cond-true, cond-false, and_l, and_r}
 use Rattle.words.proofs.TableLaws.{updated-at, updated-length}
 use Rattle.scanlock.specs.Axis.{axis, free, axis_answer, present, on_axis, barred, begun_of, ended_of, started_of, aborted_of, finished_of, stopped_of, deeper, shallower, moved, lost_of, idle_axis}
-use Rattle.scanlock.specs.Locks.{locks, event_answer, fresh_locks, axis_at, with_axis, admits, refused_of, put_of, settled_of, seen_axes, set_view_of, begin_of, end_of, start_move_of, abort_of, finished_by, stopped_by, event_of, joystick_of}
+use Rattle.scanlock.specs.Locks.{EventAnswer, locks, event_answer, fresh_locks, axis_at, with_axis, admits, refused_of, put_of, settled_of, seen_axes, set_view_of, begin_of, end_of, start_move_of, abort_of, finished_by, stopped_by, event_of, joystick_of}
 use Rattle.scanlock.specs.History.{depth, latest_view, named, taken, number, accepted_events, live}
 use Rattle.scanlock.specs.ByHistory.{locks_after, ByHistory}
 use Rattle.scanlock.specs.declared.Axis.{Axis}
 use Rattle.scanlock.specs.declared.Locks.{Locks}
-use Rattle.scanlock.specs.declared.EventAnswer.{EventAnswer}
 use Rattle.scanlock.specs.declared.Event.{Event}
 use Rattle.scanlock.specs.declared.Event.TheVariants.{View, Begin, End, Start, Abort, Finished, Stopped}
 use Rattle.scanlock.proofs.LockEventLaws.{on-axis, admitted}

@@ -3,5 +3,5 @@ pub mod AxisHistory
 pub mod ByHistory
 pub mod ByEvents
 pub mod SoundLocks
-pub mod RefusalLaws
+pub mod EventRefusalLaws
 pub mod Cases

@@ -1,26 +1,28 @@
 -- How the answer of a function follows from the way that its tests came out.
-use mathlib.Core.Path.{◌≡◌, refl, sym, ap, ap₂, ◌∙◌}
+use mathlib.Core.Path.{◌≡◌, refl, sym, ap, ◌∙◌}
 use mathlib.Core.Bool.{Bool, true, false, cond, ◌&&◌}
+use Rattle.std.specs.Prelude.{Some, None, Err}
 use Prim.Native.Nat.{ℕ, ◌-◌, ◌^◌, ◌≤◌, ◌<◌}
 use native.Mathlib.Omega.{arith}
 use mathlib.Core.Logic.{⊎_elim}
-use borrow.Author.Tests.{leb-true, leb-false, lt-ltb}
+use borrow.Author.Tests.{leb-true, leb-false, lt-ltb, ne_eqb}
 use mathlib.Core.List.{List}
 use native.Mathlib.Nat.{le_refl}
 use lib.Dec.{eqb, leb, ltb}
-use lib.ListN.{get_or, replicate}
+use lib.ListN.{get_or, set, replicate}
 use lib.Pow.{pow_mono}
 use Rattle.words.specs.Bits.{bit, full}
 use Rattle.words.proofs.Truth.{which, and_l, and_r, cond-true, cond-false}
 use Rattle.words.specs.Table.{updated}
+use Rattle.words.specs.Refusal.{code}
+use Rattle.words.specs.declared.Number.{Number}
+use Rattle.words.proofs.RefusalLaws.{code-positive}
 use Rattle.words.proofs.BitLaws.{bit_high}
 use Rattle.words.proofs.TableLaws.{updated-above}
-use Rattle.scanlock.specs.Axis.{free, axis, axis_answer, present, on_axis, shallower}
-use Rattle.scanlock.specs.Locks.{locks, fresh_locks, blank_locks, admits, axis_at, settled_of, put_of}
+use Rattle.scanlock.specs.Axis.{AxisAnswer, free, axis, axis_answer, present, on_axis, shallower}
+use Rattle.scanlock.specs.Locks.{event_answer, event_told, locks, fresh_locks, index_of, admits, settled_of, refused_of}
 use Rattle.scanlock.specs.declared.Axis.{Axis}
-use Rattle.scanlock.specs.declared.AxisAnswer.{AxisAnswer}
 use Rattle.scanlock.specs.declared.Locks.{Locks}
-use Rattle.scanlock.specs.declared.EventAnswer.{EventAnswer}
 
 -- ---- one test
 
@@ -66,13 +68,33 @@ every-view-fits v n h k = sym (lt-ltb v (2 ^ n) (omega (arith, pow_mono {i = 32}
 
 -- ---- the axis that an event names
 
-pub asked-axis : (st : Locks) (a : ℕ) (f : Axis → AxisAnswer) {x : Axis} {t : AxisAnswer} {r : EventAnswer}
-    → x ≡ axis_at st a → t ≡ f x → r ≡ settled_of st a t → r ≡ settled_of st a (f (axis_at st a))
-asked-axis st a f h e k = k ∙ ap (settled_of st a) (e ∙ ap f h)
+-- it is the one at the index that code has
+pub index-is : (may : Bool) (a i : ℕ) → Some i ≡ index_of may a → (may ≡ true) × (i ≡ a - 1)
+index-is true a i e = (refl, cc)
+index-is false a i e = absurd (cc)
 
-pub told-axis : (st : Locks) (a : ℕ) (f : Axis → Axis) {x y : Axis} {r : EventAnswer}
-    → x ≡ axis_at st a → y ≡ f x → r ≡ put_of st a y → r ≡ put_of st a (f (axis_at st a))
-told-axis st a f h e k = k ∙ ap (put_of st a) (e ∙ ap f h)
+pub index-none : (may : Bool) (a : ℕ) → None ≡ index_of may a → may ≡ false
+index-none true a e = absurd (cc)
+index-none false a e = refl
+
+-- an event on it that the axis accepts
+pub event-done : (st : Locks) (may : Bool) (a i : ℕ) (t : AxisAnswer) {y : Axis} → Some i ≡ index_of may a → axis_answer 0 y ≡ t
+    → event_answer 0 (locks st.n st.view (set st.axes i y)) ≡ cond may (settled_of st a t) (refused_of st 19)
+unfolding settled_of
+event-done st true a i t e h =
+    let (_, k) = index-is true a i e in
+    rw (k, ← h) refl
+event-done st false a i t e h = absurd (cc)
+
+-- and one that it refuses
+pub event-refused : (st : Locks) (may : Bool) (a i : ℕ) (t : AxisAnswer) (x : Axis) (number : Number) → Some i ≡ index_of may a
+    → axis_answer (code number) x ≡ t → event_told st (Err number) ≡ cond may (settled_of st a t) (refused_of st 19)
+unfolding settled_of
+event-refused st true a i t x number e h =
+    let p = code-positive number in
+    let z : eqb (code number) 0 ≡ false = ne_eqb (code number) 0 (omega arith) in
+    rw (← h, z) refl
+event-refused st false a i t x number e h = absurd (cc)
 
 -- the fields of an axis after an end, put together
 pub end-made : (x : Axis) {h : ℕ} → h ≡ cond (eqb x.depth 1) 0 x.holder
@@ -86,11 +108,6 @@ not-yet-seen i f l e = rw e (updated-above i f l i free (le_refl i))
 
 -- ---- opening
 
--- eight axes that are all the same free one
-pub fresh-locks-made : (n : ℕ) {x : Axis} {v : ℕ} → x ≡ free → v ≡ full n → locks n v (replicate 8 x) ≡ fresh_locks n
+pub fresh-locks-made : (n : ℕ) {v : ℕ} → v ≡ full n → locks n v (replicate 8 free) ≡ fresh_locks n
 unfolding fresh_locks
-fresh-locks-made n e h = ap₂ (λ (x : Axis) (v : ℕ). locks n v (replicate 8 x)) e h
-
-pub blank-locks-made : {x : Axis} → x ≡ free → locks 0 0 (replicate 8 x) ≡ blank_locks
-unfolding blank_locks
-blank-locks-made e = ap (λ (x : Axis). locks 0 0 (replicate 8 x)) e
+fresh-locks-made n h = ap (λ (v : ℕ). locks n v (replicate 8 free)) h

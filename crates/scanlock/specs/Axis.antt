@@ -1,16 +1,27 @@
 -- What an event does to the axis that it names. (document 02, E2)
-use Rattle.std.specs.Prelude.{ℕ, ◌+◌, ◌-◌, Bool, true, false, cond, not, ◌&&◌, ◌||◌, eqb, leb}
+use Rattle.std.specs.Prelude.{ℕ, Result, Ok, Err, ◌+◌, ◌-◌, Bool, true, false, cond, not, ◌&&◌, ◌||◌, eqb, leb}
 use Rattle.words.specs.Bits.{bit}
+use Rattle.words.specs.Refusal.{code}
+use Rattle.words.specs.declared.Number.{Number}
 use Rattle.scanlock.specs.declared.Axis.{Axis}
-use Rattle.scanlock.specs.declared.AxisAnswer.{AxisAnswer}
 
 -- an axis by its fields; holder 0 is nobody
 abbrev pub axis : ℕ → ℕ → Bool → Bool → Axis
 axis holder depth moving stopping = record { holder = holder; depth = depth; moving = moving; stopping = stopping }
 
 -- what an axis answers to a begin, an end or a start: 0 and the axis after it, or the number of the refusal and the axis as it was
+pub record AxisAnswer : Type 0 where
+  pub number : ℕ
+  pub axis : Axis
+
+-- such an answer by its fields
 abbrev pub axis_answer : ℕ → Axis → AxisAnswer
 axis_answer number x = record { number = number; axis = x }
+
+-- what code answers of an axis that was x, a result, as such an answer
+abbrev pub axis_told : Axis → Result Axis Number → AxisAnswer
+axis_told x (Ok next) = axis_answer 0 next
+axis_told x (Err number) = axis_answer (code number) x
 
 -- held by nobody, at rest
 abbrev pub free : Axis

@@ -1,14 +1,14 @@
 -- What the scan lock makes of each event, and whether the joystick is live. (document 02, E2)
 -- specs/History.antt says the same of a whole history, without a state.
-use Rattle.std.specs.Prelude.{ℕ, ◌-◌, ◌^◌, Bool, cond, ◌&&◌, List, eqb, leb, ltb, get_or, set, replicate}
+use Rattle.std.specs.Prelude.{ℕ, Option, Some, None, Result, Ok, Err, ◌-◌, ◌^◌, Bool, cond, ◌&&◌, List, eqb, leb, ltb, get_or, set, replicate}
 use Rattle.words.specs.Bits.{full}
 use Rattle.words.specs.Count.{all}
 use Rattle.words.specs.Table.{updated}
-use Rattle.scanlock.specs.Axis.{free, present, on_axis, begun_of, ended_of, started_of, aborted_of, finished_of, stopped_of, lost_of, idle_axis}
+use Rattle.words.specs.Refusal.{code}
+use Rattle.words.specs.declared.Number.{Number}
+use Rattle.scanlock.specs.Axis.{AxisAnswer, free, present, on_axis, begun_of, ended_of, started_of, aborted_of, finished_of, stopped_of, lost_of, idle_axis}
 use Rattle.scanlock.specs.declared.Axis.{Axis}
-use Rattle.scanlock.specs.declared.AxisAnswer.{AxisAnswer}
 use Rattle.scanlock.specs.declared.Locks.{Locks}
-use Rattle.scanlock.specs.declared.EventAnswer.{EventAnswer}
 use Rattle.scanlock.specs.declared.Event.{Event}
 use Rattle.scanlock.specs.declared.Event.TheVariants.{View, Begin, End, Start, Abort, Finished, Stopped}
 
@@ -16,9 +16,19 @@ use Rattle.scanlock.specs.declared.Event.TheVariants.{View, Begin, End, Start, A
 abbrev pub locks : ℕ → ℕ → List Axis → Locks
 locks n view axes = record { n = n; view = view; axes = axes }
 
--- an answer with the state after it
+-- what an opening or an event answers: 0 or the number by which it is refused, and the locks after it
+pub record EventAnswer : Type 0 where
+  pub number : ℕ
+  pub locks : Locks
+
+-- such an answer by its fields
 abbrev pub event_answer : ℕ → Locks → EventAnswer
 event_answer number st = record { number = number; locks = st }
+
+-- what code answers, a result, as such an answer: a refusal leaves the locks st, which are those before it
+abbrev pub event_told : Locks → Result Locks Number → EventAnswer
+event_told st (Ok next) = event_answer 0 next
+event_told st (Err number) = event_answer (code number) st
 
 -- ---- opening: n modules, a full view, no lock; 2 for an n that no backplane has
 
@@ -47,6 +57,10 @@ with_axis st a x = locks st.n st.view (set st.axes (a - 1) x)
 -- not 19: there is such an axis and such a module, and the module is in the view
 unfoldable pub admits : Locks → ℕ → ℕ → Bool
 admits st by a = on_axis a && leb by st.n && present st.view by
+
+-- where axis a stands, if the event may name it
+abbrev pub index_of : Bool → ℕ → Option ℕ
+index_of may a = cond may (Some (a - 1)) None
 
 -- ---- the answers
 

@@ -3,19 +3,12 @@ ghost use Rattle.std.specs.Prelude.{◌≡◌};
 ghost use Rattle.scanlock.specs.Locks.{joystick_of};
 
 use crate::Locks;
-use crate::on_axis::is_idle;
 
 impl Locks {
     // Asks every axis.
     pub fn joystick(self) -> bool
         ensures { result ≡ joystick_of self }
     {
-        let axes = self.axes;
-        let mut live = true;
-        for i in 0..8 {
-            let x = axes[i];
-            live = live & is_idle(x);
-        }
-        live
+        self.axes.iter().all(|x| x.is_idle())
     }
 }

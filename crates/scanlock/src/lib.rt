@@ -17,7 +17,7 @@ pub use fits::{axis_fits, view_fits};
 
 // What the scan lock is told: the view after a step; begin, end, start of a move and abort, by module and axis; the axis's reports
 // that its move is finished or that it has stopped.
-#[derive(Clone, Copy)]
+#[derive(Clone, Copy, Debug, PartialEq, Eq)]
 pub enum Event {
     View(u32),
     Begin(u32, u32),
@@ -29,7 +29,7 @@ pub enum Event {
 }
 
 // One axis: the module that holds it (0 for none) and how deep, whether a move is unfinished, and whether it is stopping.
-#[derive(Clone, Copy)]
+#[derive(Clone, Copy, Debug, PartialEq, Eq)]
 pub struct Axis {
     pub holder: u32,
     pub depth: u32,
@@ -37,24 +37,10 @@ pub struct Axis {
     pub stopping: bool,
 }
 
-// What an axis answers to a begin, an end or a start: 0 and the axis after it, or 20 or 21 and the axis as it was.
-#[derive(Clone, Copy)]
-struct AxisAnswer {
-    number: u32,
-    axis: Axis,
-}
-
 // All that is held from event to event: how many modules there are, the view handed last, and the axes.
-#[derive(Clone, Copy)]
+#[derive(Clone, Copy, Debug, PartialEq, Eq)]
 pub struct Locks {
     pub n: u32,
     pub view: u32,
     pub axes: [Axis; 8],
-}
-
-// What an opening or an event answers: 0 or the number by which it is refused, and the locks after it.
-#[derive(Clone, Copy)]
-pub struct EventAnswer {
-    pub number: u32,
-    pub locks: Locks,
 }

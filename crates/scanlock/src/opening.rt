@@ -1,9 +1,9 @@
 // The scan lock of a backplane of n modules, with a full view and nobody's lock.
 ghost use Rattle.std.specs.Prelude.{◌≡◌, ◌≤◌};
-ghost use Rattle.scanlock.specs.Locks.{fresh_locks, blank_locks, open_locks};
+ghost use Rattle.scanlock.specs.Locks.{fresh_locks, blank_locks, open_locks, event_told};
 
-use crate::on_axis::free;
-use crate::{EventAnswer, Locks};
+use crate::{Axis, Locks};
+use words::Number;
 use words::bits::full_of;
 
 impl Locks {
@@ -12,35 +12,31 @@ impl Locks {
         requires { n ≤ 16 }
         ensures { result ≡ fresh_locks n }
     {
-        let one = free();
         Locks {
             n,
             view: full_of(n as usize),
-            axes: [one; 8],
+            axes: [Axis::FREE; 8],
         }
     }
 
-    // What a refused opening and a refused reading hold: no module is in its range.
+    // What is held where an opening or a reading is refused: no module is in its range.
     pub fn blank() -> Locks
         ensures { result ≡ blank_locks }
     {
-        let one = free();
         Locks {
             n: 0,
             view: 0,
-            axes: [one; 8],
+            axes: [Axis::FREE; 8],
         }
     }
 
     // 2 for a number of modules that no backplane has.
-    pub fn open(n: u32) -> EventAnswer
-        ensures { result ≡ open_locks n }
+    pub fn open(n: u32) -> Result<Locks, Number>
+        ensures { event_told blank_locks result ≡ open_locks n }
     {
         if (2 <= n) & (n <= 16) {
-            let locks = Locks::fresh(n);
-            return EventAnswer { number: 0, locks };
+            return Ok(Locks::fresh(n));
         }
-        let locks = Locks::blank();
-        EventAnswer { number: 2, locks }
+        Err(Number::Head)
     }
 }

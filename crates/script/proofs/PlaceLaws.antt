@@ -213,11 +213,11 @@ module _ (s : List ℕ) (cast total : ℕ) where
           let f = plain-play s sc.due at z ∙ t in
           ⊎_elim
           (λ (l : kind_of w ≡ 7).
-          on-behind f (events-loss s sc.due at e refl z l refl) x
+          on-behind f (events-loss s sc.due at e refl z (eq-eqb _ 7 l) refl) x
           (tells-event s (r + 1) at 0 0 e k.after p (inl l) this-round (λ z. absurd (omega arith)) o)
           (told_with cast w 0 0 e b (λ z. absurd (omega arith))))
           (λ (l : (kind_of w ≡ 8) × (bit cast (sender_in w - 1) ≡ true)).
-          on-behind f (events-lie s sc.due at e refl z l.0 refl refl refl) x
+          on-behind f (events-lie s sc.due at e refl z (eq-eqb _ 8 l.0) refl refl refl) x
           (tells-event s (r + 1) at (word_within s (at + 1)) (told_view_of s at) e k.after p (inr l.0) this-round (λ _. told-there z l.0) o)
           (told_with cast w (word_within s (at + 1)) (told_view_of s at) e b (λ _. l.1)))
           (event-taken n cast w (sym (refusal-event sc w n cast z t) ∙ zero-answer))

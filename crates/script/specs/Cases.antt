@@ -2,7 +2,7 @@
 -- pairs, E11, and of their order. Then run scripts and what their events do in each round. Computed in proofs/Cases.antt.
 use Rattle.std.specs.Prelude.{ℕ, ◌+◌, ◌-◌, ◌/◌, ◌%◌, ◌^◌, ◌≡◌, Bool, true, not, ◌&&◌, ◌||◌, List, [], ◌∷◌, ◌++◌, eqb, get_or, length, replicate}
 use Rattle.words.specs.Word.{bytes_of}
-use Rattle.words.specs.declared.Verdict.{Verdict}
+use Rattle.words.specs.Verdict.{Verdict}
 use Rattle.script.specs.Check.{check_script}
 use Rattle.script.specs.Rounds.{rounds_of}
 use Rattle.script.specs.Effect.{fate_in, told_in, told_view_in}

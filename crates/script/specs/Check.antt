@@ -1,12 +1,14 @@
 -- Which run scripts are accepted, and the number and index by which the others are refused: 16, then 1 to 6 and 22, then 12, 13 and 15 word by word, 14 last.
 -- (document 01, "Answers and their order")
-use Rattle.std.specs.Prelude.{ℕ, zero, suc, ◌+◌, ◌-◌, ◌/◌, Bool, false, cond, not, ◌&&◌, ◌||◌, List, [], ◌∷◌, length, eqb, leb, ltb}
+use Rattle.std.specs.Prelude.{Result, Ok, Err, ℕ, zero, suc, ◌+◌, ◌-◌, ◌/◌, Bool, false, cond, not, ◌&&◌, ◌||◌, List, [], ◌∷◌, length, eqb, leb, ltb}
 use Rattle.words.specs.Word.{word_at}
 use Rattle.words.specs.Bits.{bit}
 use Rattle.words.specs.Verdict.{verdict, between, single, and_then, outcome, first_refusal}
 use Rattle.setup.specs.Setup.{size_in}
 use Rattle.setup.specs.Check.{check_front}
-use Rattle.words.specs.declared.Verdict.{Verdict}
+use Rattle.words.specs.Verdict.{Verdict}
+use Rattle.words.specs.Refusal.{code}
+use Rattle.words.specs.declared.Number.{Number}
 use Rattle.script.specs.Words.{cast_at, events_at, most_bytes, most_rounds, kind_of, is_partitionable, cast_in, cast_ok, sender_in, event_ok, rounds_in, play_ok, due_after, is_play}
 use Rattle.script.specs.declared.Scan.{Scan}
 
@@ -19,6 +21,11 @@ play_refusal rounds w = cond (play_ok w) (cond (leb (rounds + rounds_in w) most_
 -- the number by which a loss or a lie w is refused, or 0. 12: a wrong kind, spare bits, sender or mask; 13: a lie by one outside the cast
 unfoldable pub event_refusal : ℕ → ℕ → ℕ → ℕ
 event_refusal n cast w = cond (between 7 8 (kind_of w) && event_ok n w) (cond (eqb (kind_of w) 7 || bit cast (sender_in w - 1)) 0 13) 12
+
+-- the number of a refusal as code has it, or 0
+abbrev pub number_told : Result (Unit {0}) Number → ℕ
+number_told (Ok _) = 0
+number_told (Err number) = code number
 
 -- the number by which the word w is refused, or 0; a told word that is due is taken as it is
 unfoldable pub word_refusal : ℕ → ℕ → Scan → ℕ → ℕ

@@ -4,6 +4,8 @@ use Rattle.words.specs.Word.{word_at, field, kind_unit, number_unit}
 use Rattle.words.specs.Verdict.{between}
 use Rattle.setup.specs.Layout.{setup_words}
 use Rattle.setup.specs.Setup.{size_in, partitionable_in, front_in}
+use Rattle.script.specs.declared.Kind.{Kind}
+use Rattle.script.specs.declared.Kind.TheVariants.{Cast, Loss, Lie, Play}
 
 -- where the cast of the script s stands, after its setup
 abbrev pub cast_at : List ℕ → ℕ
@@ -31,6 +33,13 @@ most_rounds = 100000
 -- the kind: the top four bits
 abbrev pub kind_of : ℕ → ℕ
 kind_of w = w / kind_unit
+
+-- the number of a kind as code has it
+abbrev pub kind_number : Kind → ℕ
+kind_number Cast = 6
+kind_number Loss = 7
+kind_number Lie = 8
+kind_number Play = 9
 
 -- kind 6: bits 15..0 the rule-breakers, may be 0; here with the spare bits 27..16, which the check refuses
 abbrev pub cast_in : ℕ → ℕ

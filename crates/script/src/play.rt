@@ -1,11 +1,12 @@
 // The place of a round in a run script.
 ghost use Rattle.std.specs.Prelude.{◌≡◌, ◌-◌, ◌/◌, ◌%◌, ◌≤◌, ◌<◌, length};
+ghost use Rattle.script.specs.Words.{rounds_in};
 ghost use Rattle.script.specs.Events.{none};
 ghost use Rattle.script.specs.Cursor.{told_view_of, events_after, gather, start, advanced};
 
 use crate::layout::{events_at, partitionable_at};
 use crate::told::{due_after, is_play, word_within};
-use crate::{Cursor, Events};
+use crate::{Cursor, Events, Kind};
 use words::word::{KIND, word_at};
 
 // The told view word of the lie at `at`, or 0.
@@ -29,20 +30,20 @@ fn events_after(s: &[u8], due: u32, at: usize, events: Events) -> Events
     if due != 0 {
         return events;
     }
-    if w / KIND == 7 {
+    if Kind::Loss.is(w) {
         return events.with(w, 0, 0);
     }
-    if w / KIND == 8 {
+    if Kind::Lie.is(w) {
         return events.with(w, word_within(s, at + 1), told_view_of(s, at));
     }
     events
 }
 
-// One less; 0 stays 0.
-fn less_one(x: u32) -> u32
-    ensures { result ≡ x - 1 }
+// How many rounds are left of the play w after its first.
+fn rounds_left(w: u32) -> u32
+    ensures { result ≡ rounds_in w - 1 }
 {
-    if x == 0 { 0 } else { x - 1 }
+    (w % KIND).saturating_sub(1)
 }
 
 // The first round of the next play, with the events that the words from `from` on tell before it.
@@ -50,25 +51,14 @@ fn next_play(s: &[u8], from: usize) -> Cursor
     ensures { result ≡ gather s.now (length s.now / 4 - from) from 0 none }
 {
     let count = s.len() / 4;
-    let mut at = from;
     let mut due: u32 = 0;
     let mut events = Events::none();
-    loop {
-        if count <= at {
-            let nothing = Events::none();
-            break Cursor {
-                at,
-                left: 0,
-                over: true,
-                events: nothing,
-            };
-        }
+    for at in from..count {
         let w = word_at(s, at);
-        let next = at + 1;
         if is_play(due, w) {
-            break Cursor {
-                at: next,
-                left: less_one(w % KIND),
+            return Cursor {
+                at: at + 1,
+                left: rounds_left(w),
                 over: false,
                 events,
             };
@@ -76,7 +66,13 @@ fn next_play(s: &[u8], from: usize) -> Cursor
         let more = events_after(s, due, at, events);
         events = more;
         due = due_after(partitionable_at(s), due, w);
-        at = next;
+    }
+    let nothing = Events::none();
+    Cursor {
+        at: from.max(count),
+        left: 0,
+        over: true,
+        events: nothing,
     }
 }
 

@@ -14,7 +14,7 @@ use Rattle.words.specs.Verdict.{all_right}
 use Rattle.setup.specs.Layout.{front_words, setup_words, setup_length}
 use Rattle.setup.specs.Setup.{return_limit_in, partitionable_in, size_in, mark_in, place_in, criticality_in, fades_in, front_in, limits_in, setup_of, setup_bytes}
 use Rattle.setup.specs.Check.{module_ok, mark_ok, limit_tests, length_in, check_setup}
-use Rattle.words.specs.declared.Verdict.{Verdict}
+use Rattle.words.specs.Verdict.{Verdict}
 use Rattle.setup.proofs.BoundLaws.{front-least, limits-same, right-same, fades-same}
 use Rattle.setup.proofs.SetupLaws.{SetupFits}
 use Rattle.setup.proofs.SetupCheckLaws.{HeadFits, WordsFit, BytesFit, setup-ok}

@@ -1,17 +1,18 @@
 -- What is answered of a setup, by what the checks inside have answered.
-use Rattle.std.proofs.Common.{◌≡◌, ℕ, Bool, true, false, eqb, List, length, take, sym, refl, ap, ◌∙◌, ap₂, arith, eq-eqb, ne_eqb}
+use Rattle.std.proofs.Common.{◌≡◌, Result, Ok, Err, [], ◌∷◌, ℕ, Bool, true, eqb, List, length, take, sym, refl, ap, ◌∙◌, ap₂, eq-eqb, ne_eqb}
 use Rattle.words.specs.Word.{word_at}
-use Rattle.words.specs.Verdict.{verdict, accepted, is_accepted, single, and_then, outcome, then_tests, first_refusal}
-use Rattle.words.specs.declared.Verdict.{Verdict}
+use Rattle.words.specs.Verdict.{accepted, is_accepted, single, and_then, outcome, then_tests, first_refusal}
+use Rattle.words.specs.Verdict.{Verdict}
 use Rattle.words.proofs.Truth.{cond-true, cond-false}
-use Rattle.words.proofs.VerdictLaws.{and-then-next, and-then-assoc, and-then-stops, and-then-goes, single-ok, single-refused}
-use Rattle.words.proofs.SearchLaws.{two-after}
+use Rattle.words.proofs.VerdictLaws.{and-then-next, and-then-assoc, and-then-stops, and-then-goes, single-ok, tests-join}
+use Rattle.words.specs.Refusal.{refusal_told, told}
+use Rattle.words.specs.declared.Refusal.{Refusal}
+use Rattle.words.proofs.RefusalLaws.{told-ok, told-none, told-err, told-on, then-stops, then-goes, first-stops, first-goes, first-last}
 use Rattle.setup.specs.Layout.{front_words, setup_length}
 use Rattle.setup.specs.Limits.{fades}
 use Rattle.setup.specs.Setup.{size_in, fades_in, front_in, front_of, setup_of, setup_bytes, blank_setup}
-use Rattle.setup.specs.Check.{whole, head_ok, limit_tests, module_tests, length_in, check_head, check_words, check_setup, check_front, setup_part, room_verdict, setup_verdict, read_setup, write_verdict, written_setup}
+use Rattle.setup.specs.Check.{whole, head_ok, limit_tests, module_tests, length_in, check_head, check_words, check_setup, check_front, setup_part, room_verdict, setup_verdict, read_setup, read_told, write_verdict, written_setup}
 use Rattle.setup.specs.declared.Setup.{Setup}
-use Rattle.setup.specs.declared.SetupRead.{SetupRead}
 use Rattle.setup.proofs.SetupCheckLaws.{HeadFits, BytesFit, FrontFits, head-pass, setup-pass, front-pass}
 use Rattle.setup.proofs.SetupWords.{Room, room-pass}
 use Rattle.setup.proofs.SetupLaws.{SetupFits, verdict-fits}
@@ -36,18 +37,9 @@ module _ {v : Verdict} (s : List ℕ) (e : v ≡ check_head s true) where
   pub head-stays : (fits : Bool) (next : Verdict) → (v.number ≡ 0 → ⊥) → v ≡ and_then (check_head s fits) next
   head-stays fits next f = and-then-stops next (and-then-stops _ e f ∙ sym (head-then s fits)) f
 
-  pub head-short : {r : Verdict} {fits : Bool} (next : Verdict) → v.number ≡ 0 → fits ≡ false → r ≡ verdict 3 0 → r ≡ and_then (check_head s fits) next
-  head-short {r} {fits} next z f a =
-      let h : verdict 3 0 ≡ check_head s fits = and-then-goes _ e z (sym (single-refused fits 3 0 f)) ∙ sym (head-then s fits) in
-      a ∙ and-then-stops next h (λ y. three y)
-    where
-      three : ◌≡◌ {A = ℕ} 3 0 → ⊥
-      three y = omega arith
-
-  pub head-goes : {r : Verdict} {fits : Bool} (next : Verdict) → v.number ≡ 0 → fits ≡ true → r ≡ next → r ≡ and_then (check_head s fits) next
-  head-goes {r} {fits} next z t a =
-      let h : accepted ≡ check_head s fits = and-then-goes _ e z (sym (single-ok fits 3 0 t)) ∙ sym (head-then s fits) in
-      and-then-goes next h refl a
+  -- t is the answer of 3
+  pub head-length : (fits : Bool) {t : Verdict} → v.number ≡ 0 → t ≡ outcome (single fits 3 0) → t ≡ check_head s fits
+  head-length fits z h = and-then-goes _ e z h ∙ sym (head-then s fits)
 
 -- ---- by whether the setup fades, and by the number of words that follows from it
 
@@ -55,13 +47,30 @@ module _ {fading : Bool} {front : ℕ} (s : List ℕ) (form : fading ≡ fades_i
   pub length-by : {n k : ℕ} → n ≡ size_in (word_at s 0) → k ≡ setup_length front n → k ≡ length_in s
   length-by h k = k ∙ ap₂ setup_length (at ∙ ap front_words form) h
 
-  pub words-by : {v₀ v₁ v₂ : Verdict} (n : ℕ) → v₀ ≡ first_refusal (limit_tests fading (word_at s))
-      → v₁ ≡ and_then v₀ (outcome (module_tests (word_at s) front n 5)) → v₂ ≡ and_then v₁ (outcome (module_tests (word_at s) front n 6)) → v₂ ≡ check_words s n
+  limits-by : {v : Verdict} → v ≡ first_refusal (limit_tests fading (word_at s)) → v ≡ first_refusal (limit_tests (fades_in (word_at s)) (word_at s))
+  limits-by h = h ∙ ap (λ (x : Bool). first_refusal (limit_tests x (word_at s))) form
+
+  modules-by : {v : Verdict} (n number : ℕ) → v ≡ outcome (module_tests (word_at s) front n number) → v ≡ outcome (module_tests (word_at s) (front_in (word_at s)) n number)
+  modules-by n number h = h ∙ ap (λ (k : ℕ). outcome (module_tests (word_at s) k n number)) (at ∙ ap front_words form)
+
+  words-split : (n : ℕ)
+      → check_words s n
+      ≡ and_then (first_refusal (limit_tests (fades_in (word_at s)) (word_at s)))
+      (first_refusal (module_tests (word_at s) (front_in (word_at s)) n 5 ∷ module_tests (word_at s) (front_in (word_at s)) n 6 ∷ []))
   unfolding check_words
-  words-by {v₀} {v₁} n a b c =
-      let f : front ≡ front_in (word_at s) = at ∙ ap front_words form in
-      two-after (limit_tests (fades_in (word_at s)) (word_at s)) _ _ (a ∙ ap (λ (x : Bool). first_refusal (limit_tests x (word_at s))) form)
-      (b ∙ ap (λ (k : ℕ). and_then v₀ (outcome (module_tests (word_at s) k n 5))) f) (c ∙ ap (λ (k : ℕ). and_then v₁ (outcome (module_tests (word_at s) k n 6))) f)
+  words-split n = tests-join (limit_tests (fades_in (word_at s)) (word_at s)) _ _
+
+  -- l, m and k are the answers of the limits, of number 5 and of number 6
+  module _ {l : Result (Unit {0}) Refusal} (n : ℕ) (hl : told l ≡ first_refusal (limit_tests fading (word_at s))) where
+    pub words-limits : {e : Refusal} → l ≡ Err e → refusal_told e ≡ check_words s n
+    words-limits i = then-stops _ (limits-by hl) i ∙ sym (words-split n)
+
+    module _ {m : Result (Unit {0}) Refusal} {x : Unit {0}} (i : l ≡ Ok x) (hm : told m ≡ outcome (module_tests (word_at s) front n 5)) where
+      pub words-modules : {e : Refusal} → m ≡ Err e → refusal_told e ≡ check_words s n
+      words-modules j = then-goes _ (limits-by hl) i (first-stops _ _ (modules-by n 5 hm) j) ∙ sym (words-split n)
+
+      pub words-marks : {y : Unit {0}} {k : Verdict} → m ≡ Ok y → k ≡ outcome (module_tests (word_at s) front n 6) → k ≡ check_words s n
+      words-marks j hk = then-goes _ (limits-by hl) i (first-goes _ _ (modules-by n 5 hm) j (first-last _ (modules-by n 6 hk))) ∙ sym (words-split n)
 
 pub struct-length : {fading : Bool} {front k : ℕ} (s : Setup) → fading ≡ fades s.limits → front ≡ front_words fading → k ≡ setup_length front s.n
     → k ≡ setup_length (front_of s) s.n
@@ -72,20 +81,19 @@ struct-length s form at k = k ∙ ap (λ (x : ℕ). setup_length x s.n) (at ∙ 
 pub bytes_fit : {v : Verdict} (s : List ℕ) → v ≡ check_setup s → v.number ≡ 0 → BytesFit s
 bytes_fit s e z = setup-pass s (ap (λ (x : Verdict). x.number) (sym e) ∙ z)
 
-module _ {v : Verdict} {setup : Setup} (s : List ℕ) (e : v ≡ check_setup s) where
-  pub read-refused : setup ≡ blank_setup → (v.number ≡ 0 → ⊥)
-      → ◌≡◌ {A = SetupRead} (record { number = v.number; index = v.index; setup = setup }) (read_setup s)
+module _ {A : Type 0} {r : Result A Refusal} (s : List ℕ) (h : told r ≡ check_setup s) where
+  pub read-refused : {e : Refusal} → r ≡ Err e → read_told (Err e) ≡ read_setup s
   unfolding read_setup
-  read-refused h f =
-      ap₂ (λ (x : Verdict) (y : Setup). record { number = x.number; index = x.index; setup = y }) e
-      (h ∙ sym (cond-false (setup_of s) blank_setup (ap is_accepted (sym e) ∙ ne_eqb v.number 0 f)))
+  read-refused {e} i =
+      let t : refusal_told e ≡ check_setup s = told-on i ∙ h in
+      ap₂ (λ (x : Verdict) (y : Setup). record { number = x.number; index = x.index; setup = y }) t
+      (sym (cond-false (setup_of s) blank_setup (ap is_accepted (sym h) ∙ ne_eqb (told r).number 0 (told-err i))))
 
-  pub read-accepted : setup ≡ setup_of s → v.number ≡ 0
-      → ◌≡◌ {A = SetupRead} (record { number = v.number; index = v.index; setup = setup }) (read_setup s)
+  pub read-accepted : {x : A} {setup : Setup} → r ≡ Ok x → setup ≡ setup_of s → read_told (Ok setup) ≡ read_setup s
   unfolding read_setup
-  read-accepted h z =
-      ap₂ (λ (x : Verdict) (y : Setup). record { number = x.number; index = x.index; setup = y }) e
-      (h ∙ sym (cond-true (setup_of s) blank_setup (ap is_accepted (sym e) ∙ eq-eqb v.number 0 z)))
+  read-accepted i e =
+      ap₂ (λ (x : Verdict) (y : Setup). record { number = x.number; index = x.index; setup = y }) (sym (told-ok i) ∙ h)
+      (e ∙ sym (cond-true (setup_of s) blank_setup (ap is_accepted (sym h) ∙ eq-eqb (told r).number 0 (told-none i))))
 
 -- ---- v is the answer of the check at the front of a script
 
@@ -139,17 +147,13 @@ module _ {v : Verdict} (s : Setup) (out : List ℕ) (e : v ≡ setup_verdict s) 
       let h : v ≡ write_verdict s out = and-then-stops _ e f in
       (h, stays h f)
 
-  pub write-short : {r : Verdict} → r ≡ verdict 9 0 → v.number ≡ 0 → (length out ≡ setup_length (front_of s) s.n → ⊥)
+  -- r is the answer of 9
+  pub write-short : {r : Verdict} → r ≡ outcome (single (eqb (length out) (setup_length (front_of s) s.n)) 9 0) → v.number ≡ 0 → (r.number ≡ 0 → ⊥)
       → (r ≡ write_verdict s out) × (out ≡ written_setup s out)
   unfolding write_verdict
   write-short {r} q z f =
-      let h : r ≡ write_verdict s out =
-      and-then-goes _ e z (q ∙ sym (single-refused (eqb (length out) (setup_length (front_of s) s.n)) 9 0 (ne_eqb _ _ f)))
-      in
-      (h, stays h (λ y. nine (ap (λ (x : Verdict). x.number) (sym q) ∙ y)))
-    where
-      nine : ◌≡◌ {A = ℕ} 9 0 → ⊥
-      nine y = omega arith
+      let h : r ≡ write_verdict s out = and-then-goes _ e z q in
+      (h, stays h f)
 
   pub write_done : {r : Verdict} {o : List ℕ} → r ≡ accepted → o ≡ setup_bytes s → v.number ≡ 0 → length out ≡ setup_length (front_of s) s.n
       → (r ≡ write_verdict s out) × (o ≡ written_setup s out)

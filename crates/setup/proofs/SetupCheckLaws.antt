@@ -3,7 +3,7 @@ use Rattle.std.proofs.Common.{◌≡◌, ℕ, ◌+◌, ◌%◌, ◌<◌, ◌≤�
 use borrow.Author.Tests.{eqb-false, not-true}
 use Rattle.words.specs.Word.{word_at}
 use Rattle.words.specs.Verdict.{Test, accepted, and_then, all_right}
-use Rattle.words.specs.declared.Verdict.{Verdict}
+use Rattle.words.specs.Verdict.{Verdict}
 use Rattle.words.proofs.Truth.{and_l, and_r, and-true}
 use Rattle.words.proofs.VerdictLaws.{Passed, numbered, and-then-next, and-then-pass, all-passed, passed-all, tests-pass, tests-ok, right-join, numbers-join}
 use Rattle.setup.specs.Setup.{size_in, fades_in, front_in}

@@ -3,7 +3,7 @@ use Rattle.std.proofs.Common.{◌≡◌, ℕ, ◌+◌, ◌*◌, ◌/◌, ◌^◌
 use Rattle.words.specs.Word.{word_at, number_unit}
 use Rattle.words.specs.Bits.{bit}
 use Rattle.words.specs.Verdict.{accepted, and_then, all_right}
-use Rattle.words.specs.declared.Verdict.{Verdict}
+use Rattle.words.specs.Verdict.{Verdict}
 use Rattle.words.proofs.Truth.{and_l, and_r, and-true}
 use Rattle.words.proofs.VerdictLaws.{between_is, between-of, and-then-next, and-then-pass}
 use Rattle.setup.specs.Limits.{most_return_limit, most_criticality}

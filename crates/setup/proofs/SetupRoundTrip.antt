@@ -1,5 +1,5 @@
 -- What is read is what was written, and what is written is what was read.
-use Rattle.std.proofs.Common.{◌≡◌, ℕ, ◌+◌, ◌*◌, ◌/◌, ◌^◌, ◌<◌, Bool, true, eqb, List, length, get_or, sym, refl, ap, ◌∙◌, subst, ap₂, arith, eqb-true}
+use Rattle.std.proofs.Common.{◌≡◌, Ok, ℕ, ◌+◌, ◌*◌, ◌/◌, ◌^◌, ◌<◌, Bool, true, eqb, List, length, get_or, sym, refl, ap, ◌∙◌, subst, ap₂, arith, eqb-true}
 use Rattle.words.specs.Word.{word_at, number_unit}
 use Rattle.words.specs.Runs.{total}
 use Rattle.words.specs.Bits.{bit, pack}
@@ -164,7 +164,7 @@ module _ (s : Setup) (e : (setup_verdict s).number ≡ 0) where
 
   -- a setup that is written is read back
   pub read_back : ShapedSetup s → read_setup (setup_bytes s) ≡ record { number = 0; index = 0; setup = s }
-  read_back shaped = sym (read-accepted (setup_bytes s) (sym (setup-ok (setup_bytes s) bytes-written)) (sym (setup-back shaped)) refl)
+  read_back shaped = sym (read-accepted {r = Ok s} (setup_bytes s) (sym (setup-ok (setup_bytes s) bytes-written)) refl (sym (setup-back shaped)))
 
 pub round_trip : SetupRoundTrip
 round_trip = record {

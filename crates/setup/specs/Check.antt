@@ -1,10 +1,11 @@
 -- Which setups are accepted, and the number and index by which the others are refused: numbers 1 to 6, and 22 in the place of 4 where a setup
 -- fades. (document 01, "Answers and their order"; the limits stand in the table of "What runs"; document 02, E9)
-use Rattle.std.specs.Prelude.{ℕ, ◌+◌, ◌-◌, ◌*◌, ◌/◌, ◌%◌, ◌^◌, Bool, true, false, cond, not, ◌&&◌, ◌||◌, List, [], ◌∷◌, ◌++◌, length, take, ◌==◌, nat_le, nat_lt}
+use Rattle.std.specs.Prelude.{Result, Ok, Err, ℕ, ◌+◌, ◌-◌, ◌*◌, ◌/◌, ◌%◌, ◌^◌, Bool, true, false, cond, not, ◌&&◌, ◌||◌, List, [], ◌∷◌, ◌++◌, length, take, ◌==◌, nat_le, nat_lt}
 use Rattle.words.specs.Word.{word_at, field, kind_unit, number_unit}
 use Rattle.words.specs.Array.{bounded}
-use Rattle.words.specs.Verdict.{is_accepted, between, Test, single, each, and_then, outcome, first_refusal}
-use Rattle.words.specs.declared.Verdict.{Verdict}
+use Rattle.words.specs.Verdict.{Verdict, is_accepted, between, Test, single, each, and_then, outcome, first_refusal}
+use Rattle.words.specs.Refusal.{code}
+use Rattle.words.specs.declared.Refusal.{Refusal}
 use Rattle.doubles.specs.Double.{double_in, is_double}
 use Rattle.setup.specs.Layout.{head_at, form_at, penalty_limit_at, reward_limit_at, factor_at, score_limit_at, setup_length}
 use Rattle.setup.specs.Limits.{least_modules, most_modules, most_return_limit, most_penalty_limit, most_reward_limit, most_criticality, factor_fits, limit_fits}
@@ -12,7 +13,6 @@ use Rattle.setup.specs.Setup.{return_limit_in, size_in, limit_word, place_unit, 
 use Rattle.setup.specs.declared.Limits.{Limits}
 use Rattle.setup.specs.declared.Limits.TheVariants.{Counts, Fading}
 use Rattle.setup.specs.declared.Setup.{Setup}
-use Rattle.setup.specs.declared.SetupRead.{SetupRead}
 
 -- ---- what is asked of a word
 
@@ -126,11 +126,22 @@ setup_verdict s = and_then (room_verdict s) (check_words (setup_bytes s) s.n)
 
 -- ---- reading and writing
 
+-- what reading answers: the number and the index, 0 and 0 where nothing is refused, and the setup
+pub record SetupRead : Type 0 where
+  pub number : ℕ
+  pub index : ℕ
+  pub setup : Setup
+
 -- reading: 1 to 6 and 22; what is held where a setup is refused is blank
 unfoldable pub read_setup : List ℕ → SetupRead
 read_setup s =
     let v = check_setup s in
     record { number = v.number; index = v.index; setup = cond (is_accepted v) (setup_of s) blank_setup }
+
+-- the same as code has it; with a refusal it gives no setup
+abbrev pub read_told : Result Setup Refusal → SetupRead
+read_told (Ok setup) = record { number = 0; index = 0; setup = setup }
+read_told (Err e) = record { number = code e.number; index = e.index; setup = blank_setup }
 
 -- writing: a setup outside the limits is refused first, then 9 for an output of another length
 unfoldable pub write_verdict : Setup → List ℕ → Verdict

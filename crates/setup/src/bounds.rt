@@ -2,6 +2,7 @@
 ghost use Rattle.std.specs.Prelude.{◌≡◌, ◌*◌, ◌%◌, ◌<◌, ◌≤◌, true, false, length, slice_index};
 ghost use Rattle.words.specs.Word.{word_at, kind_unit};
 ghost use Rattle.words.specs.Verdict.{first_refusal, all_right};
+ghost use Rattle.words.specs.Refusal.{told};
 ghost use Rattle.words.specs.Runs.{put_run};
 ghost use Rattle.setup.specs.Layout.{form_at, limit_words, front_words};
 ghost use Rattle.setup.specs.Limits.{fades as fades_of, factor_fits, limit_fits};
@@ -15,9 +16,9 @@ use crate::layout::{
 };
 use crate::word::limit_ok;
 use doubles::{double_at, is_double, is_non_negative, put_double};
-use words::Verdict;
-use words::check::{accept, refusal};
+use words::check::single;
 use words::word::{KIND, put_word, word_at};
+use words::{Number, Refusal};
 
 // ---- which form
 
@@ -98,40 +99,32 @@ pub fn limits_right(s: &[u8], fades: bool) -> bool
 }
 
 // Number 4.
-fn check_counts(s: &[u8]) -> Verdict
+fn check_counts(s: &[u8]) -> Result<(), Refusal>
     requires { 12 ≤ length s.now }
-    ensures { result ≡ first_refusal (limit_tests false (word_at s.now)) }
+    ensures { told result ≡ first_refusal (limit_tests false (word_at s.now)) }
 {
-    if !limit_ok(2, MOST_PENALTY_LIMIT, word_at(s, PENALTY_LIMIT_AT)) {
-        return refusal(4, PENALTY_LIMIT_AT as u32);
-    }
-    if !limit_ok(3, MOST_REWARD_LIMIT, word_at(s, REWARD_LIMIT_AT)) {
-        return refusal(4, REWARD_LIMIT_AT as u32);
-    }
-    accept()
+    let penalty = limit_ok(2, MOST_PENALTY_LIMIT, word_at(s, PENALTY_LIMIT_AT));
+    single(penalty, Number::Limit, PENALTY_LIMIT_AT)?;
+    let reward = limit_ok(3, MOST_REWARD_LIMIT, word_at(s, REWARD_LIMIT_AT));
+    single(reward, Number::Limit, REWARD_LIMIT_AT)
 }
 
 // Number 22.
-fn check_fading(s: &[u8]) -> Verdict
+fn check_fading(s: &[u8]) -> Result<(), Refusal>
     requires { 24 ≤ length s.now }
-    ensures { result ≡ first_refusal (limit_tests true (word_at s.now)) }
+    ensures { told result ≡ first_refusal (limit_tests true (word_at s.now)) }
 {
-    if !(word_at(s, FORM_AT) == 0) {
-        return refusal(22, FORM_AT as u32);
-    }
-    if !factor_fits(double_at(s, FACTOR_AT)) {
-        return refusal(22, FACTOR_AT as u32);
-    }
-    if !limit_fits(double_at(s, SCORE_LIMIT_AT)) {
-        return refusal(22, SCORE_LIMIT_AT as u32);
-    }
-    accept()
+    single(word_at(s, FORM_AT) == 0, Number::Fading, FORM_AT)?;
+    let factor = factor_fits(double_at(s, FACTOR_AT));
+    single(factor, Number::Fading, FACTOR_AT)?;
+    let limit = limit_fits(double_at(s, SCORE_LIMIT_AT));
+    single(limit, Number::Fading, SCORE_LIMIT_AT)
 }
 
 // Number 4 or 22, of a setup that counts or fades.
-pub(crate) fn check_limits(s: &[u8], fades: bool) -> Verdict
+pub(crate) fn check_limits(s: &[u8], fades: bool) -> Result<(), Refusal>
     requires { front_words fades * 4 ≤ length s.now }
-    ensures { result ≡ first_refusal (limit_tests fades (word_at s.now)) }
+    ensures { told result ≡ first_refusal (limit_tests fades (word_at s.now)) }
 {
     if fades {
         return check_fading(s);
@@ -140,34 +133,24 @@ pub(crate) fn check_limits(s: &[u8], fades: bool) -> Verdict
 }
 
 // Number 4 for P or R without room in its word.
-fn counts_room(p: u32, r: u32) -> Verdict
-    ensures { result ≡ first_refusal (limit_room (Limits.Counts p r)) }
+fn counts_room(p: u32, r: u32) -> Result<(), Refusal>
+    ensures { told result ≡ first_refusal (limit_room (Limits.Counts p r)) }
 {
-    if !(p < KIND) {
-        return refusal(4, PENALTY_LIMIT_AT as u32);
-    }
-    if !(r < KIND) {
-        return refusal(4, REWARD_LIMIT_AT as u32);
-    }
-    accept()
+    single(p < KIND, Number::Limit, PENALTY_LIMIT_AT)?;
+    single(r < KIND, Number::Limit, REWARD_LIMIT_AT)
 }
 
 // Number 22 for what is no double, which no value of the code is.
-fn fading_room(factor: f64, limit: f64) -> Verdict
-    ensures { result ≡ first_refusal (limit_room (Limits.Fading factor limit)) }
+fn fading_room(factor: f64, limit: f64) -> Result<(), Refusal>
+    ensures { told result ≡ first_refusal (limit_room (Limits.Fading factor limit)) }
 {
-    if !is_double(factor) {
-        return refusal(22, FACTOR_AT as u32);
-    }
-    if !is_double(limit) {
-        return refusal(22, SCORE_LIMIT_AT as u32);
-    }
-    accept()
+    single(is_double(factor), Number::Fading, FACTOR_AT)?;
+    single(is_double(limit), Number::Fading, SCORE_LIMIT_AT)
 }
 
 // Whether limits have room in their words.
-pub fn limits_room(limits: Limits) -> Verdict
-    ensures { result ≡ first_refusal (limit_room limits) }
+pub fn limits_room(limits: Limits) -> Result<(), Refusal>
+    ensures { told result ≡ first_refusal (limit_room limits) }
 {
     match limits {
         Limits::Counts(p, r) => counts_room(p, r),

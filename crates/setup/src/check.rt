@@ -1,8 +1,8 @@
 // The check of a setup in lent bytes: numbers 1 to 6 and 22, each with the index of the first word that is wrong.
 ghost use Rattle.std.specs.Prelude.{◌≡◌, ◌<◌, ◌≤◌, true, not, length};
 ghost use Rattle.words.specs.Word.{word_at};
-ghost use Rattle.words.specs.Count.{lowest};
-ghost use Rattle.words.specs.Verdict.{and_then, outcome};
+ghost use Rattle.words.specs.Verdict.{outcome};
+ghost use Rattle.words.specs.Refusal.{told};
 ghost use Rattle.setup.specs.Layout.{front_words, setup_length};
 ghost use Rattle.setup.specs.Setup.{size_in, fades_in};
 ghost use Rattle.setup.specs.Check.{module_test, module_tests, check_head, check_words, check_setup, check_front};
@@ -10,9 +10,9 @@ ghost use Rattle.setup.specs.Check.{module_test, module_tests, check_head, check
 use crate::bounds::{check_limits, fades_at, front_words};
 use crate::layout::setup_length;
 use crate::word::{head_ok, mark_ok, module_ok};
-use words::Verdict;
-use words::check::{accept, refusal};
+use words::check::{each, single};
 use words::word::word_at;
+use words::{Number, Refusal};
 
 // The N of the head word.
 pub fn size_at(s: &[u8]) -> usize
@@ -22,102 +22,63 @@ pub fn size_at(s: &[u8]) -> usize
     (word_at(s, 0) % 32) as usize
 }
 
-// Whether the word of module j + 1 is right by number 5 or by number 6.
-fn module_right(s: &[u8], front: usize, n: usize, number: u32, j: usize) -> bool
-    requires { (front ≤ 6) × (n ≤ 16) × (setup_length front n ≤ length s.now) × (j < n) }
-    ensures { result ≡ module_test (word_at s.now) front n number j }
+// Number 5, at the first module word that is wrong by it.
+fn check_modules(s: &[u8], front: usize, n: usize) -> Result<(), Refusal>
+    requires { (front ≤ 6) × (n ≤ 16) × (setup_length front n ≤ length s.now) }
+    ensures { told result ≡ outcome (module_tests (word_at s.now) front n 5) }
 {
-    let w = word_at(s, front + j);
-    if number == 5 {
-        return module_ok(n, j, w);
-    }
-    mark_ok(j, w)
+    let right = |j: usize| module_ok(n, j, word_at(s, front + j));
+    each(n, right, Number::Module, front)
 }
 
-// The first module whose word is wrong by that number, or 0.
-fn wrong_module(s: &[u8], front: usize, n: usize, number: u32) -> usize
+// Number 6, at the first module word that is wrong by it.
+fn check_marks(s: &[u8], front: usize, n: usize) -> Result<(), Refusal>
     requires { (front ≤ 6) × (n ≤ 16) × (setup_length front n ≤ length s.now) }
-    ensures { result ≡ lowest n (λ j. not (module_test (word_at s.now) front n number j)) }
+    ensures { told result ≡ outcome (module_tests (word_at s.now) front n 6) }
 {
-    let mut j: usize = 0;
-    loop {
-        if n <= j {
-            break 0;
-        }
-        if !module_right(s, front, n, number, j) {
-            break j + 1;
-        }
-        j += 1;
-    }
-}
-
-// The answer v, then that number at the first module word that is wrong by it.
-fn then_modules(v: Verdict, s: &[u8], front: usize, n: usize, number: u32) -> Verdict
-    requires { (front ≤ 6) × (n ≤ 16) × (setup_length front n ≤ length s.now) }
-    ensures { result ≡ and_then v (outcome (module_tests (word_at s.now) front n number)) }
-{
-    if v.number != 0 {
-        return v;
-    }
-    let found = wrong_module(s, front, n, number);
-    if found == 0 {
-        return accept();
-    }
-    refusal(number, (front + found - 1) as u32)
+    let right = |j: usize| mark_ok(j, word_at(s, front + j));
+    each(n, right, Number::Mark, front)
 }
 
 // Numbers 4 or 22, 5 and 6, of bytes that hold the words of n modules, whatever follows them.
-pub fn check_words(s: &[u8], fades: bool, n: usize) -> Verdict
+pub fn check_words(s: &[u8], fades: bool, n: usize) -> Result<(), Refusal>
     requires { (n ≤ 16) × (setup_length (front_words fades) n ≤ length s.now) × (fades ≡ fades_in (word_at s.now)) }
-    ensures { result ≡ check_words s.now n }
+    ensures { told result ≡ check_words s.now n }
 {
     let front = front_words(fades);
-    let limits = check_limits(s, fades);
-    let modules = then_modules(limits, s, front, n, 5);
-    then_modules(modules, s, front, n, 6)
+    check_limits(s, fades)?;
+    check_modules(s, front, n)?;
+    check_marks(s, front, n)
 }
 
 // Numbers 1 and 2.
-pub fn check_head(s: &[u8]) -> Verdict
-    ensures { result ≡ check_head s.now true }
+pub fn check_head(s: &[u8]) -> Result<(), Refusal>
+    ensures { told result ≡ check_head s.now true }
 {
-    if !((s.len() != 0) & (s.len() % 4 == 0)) {
-        return refusal(1, 0);
-    }
-    if !head_ok(word_at(s, 0)) {
-        return refusal(2, 0);
-    }
-    accept()
+    single((s.len() != 0) & (s.len() % 4 == 0), Number::Bytes, 0)?;
+    single(head_ok(word_at(s, 0)), Number::Head, 0)
 }
 
 // Numbers 1 to 6 and 22 of a setup by itself.
-pub fn check(s: &[u8]) -> Verdict
-    ensures { result ≡ check_setup s.now }
+pub fn check(s: &[u8]) -> Result<(), Refusal>
+    ensures { told result ≡ check_setup s.now }
 {
-    let head = check_head(s);
-    if head.number != 0 {
-        return head;
-    }
+    check_head(s)?;
     let n = size_at(s);
     let fades = fades_at(s);
-    if s.len() != setup_length(front_words(fades), n) {
-        return refusal(3, 0);
-    }
+    let whole = s.len() == setup_length(front_words(fades), n);
+    single(whole, Number::Length, 0)?;
     check_words(s, fades, n)
 }
 
 // Numbers 1 to 6 and 22 of the setup at the front of a run script.
-pub fn check_front(s: &[u8]) -> Verdict
-    ensures { result ≡ check_front s.now }
+pub fn check_front(s: &[u8]) -> Result<(), Refusal>
+    ensures { told result ≡ check_front s.now }
 {
-    let head = check_head(s);
-    if head.number != 0 {
-        return head;
-    }
+    check_head(s)?;
     let n = size_at(s);
     let fades = fades_at(s);
-    if s.len() < setup_length(front_words(fades), n) {
-        return refusal(3, 0);
-    }
+    let room = setup_length(front_words(fades), n) <= s.len();
+    single(room, Number::Length, 0)?;
     check_words(s, fades, n)
 }

@@ -22,22 +22,15 @@ pub struct Setup {
     pub criticality: [u32; 16],
 }
 
-// What reading a setup answers; where it is refused the setup is blank, all zeros.
-#[derive(Clone, Copy)]
-pub struct SetupRead {
-    pub number: u32,
-    pub index: u32,
-    pub setup: Setup,
-}
-
-// What the words of a setup hold, and whether those after the head are right.
+// What the words of a setup hold, and whether those after the head are right: the setup of words that are wrong too, so it is no Option.
 #[derive(Clone, Copy)]
 pub struct SetupPart {
     pub good: bool,
     pub setup: Setup,
 }
 
-// What the words of the modules say together: whether they are right, and, where they are, whether some read place is not n.
+// What the words of the modules say together: whether they are right, and whether some read place is not n; two flags that a pass without a branch
+// gathers, so no Option.
 #[derive(Clone, Copy)]
 pub struct ModulesPart {
     pub good: bool,

@@ -10,8 +10,7 @@ use crate::layout::setup_length;
 pub fn part(s: &[u8]) -> &[u8]
     ensures { result.now ≡ setup_part s.now }
 {
-    let v = check_front(s);
-    if v.number != 0 {
+    if check_front(s).is_err() {
         return &s[..0];
     }
     let k = setup_length(front_words(fades_at(s)), size_at(s));

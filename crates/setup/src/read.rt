@@ -4,13 +4,14 @@ ghost use Rattle.words.specs.Word.{word_at};
 ghost use Rattle.words.specs.Verdict.{all_right};
 ghost use Rattle.setup.specs.Layout.{front_words, setup_length};
 ghost use Rattle.setup.specs.Setup.{size_in, fades_in, setup_of, blank_setup};
-ghost use Rattle.setup.specs.Check.{word_tests, read_setup};
+ghost use Rattle.setup.specs.Check.{word_tests, read_setup, read_told};
 
 use crate::bounds::{fades_at, front_words, limits_at, limits_right};
 use crate::check::{check, size_at};
 use crate::layout::PLACE;
 use crate::word::{mark_ok, module_ok};
-use crate::{Limits, Setup, SetupPart, SetupRead};
+use crate::{Limits, Setup, SetupPart};
+use words::Refusal;
 use words::bits::{bit_at, with_bit};
 use words::word::{field, word_at};
 
@@ -66,23 +67,10 @@ pub fn load_setup(s: &[u8], fades: bool, n: usize) -> SetupPart
 }
 
 // Numbers 1 to 6 and 22, and the setup where none of them refuses it.
-pub fn read(s: &[u8]) -> SetupRead
-    ensures { result ≡ read_setup s.now }
+pub fn read(s: &[u8]) -> Result<Setup, Refusal>
+    ensures { read_told result ≡ read_setup s.now }
 {
-    let v = check(s);
-    if v.number != 0 {
-        let setup = blank();
-        return SetupRead {
-            number: v.number,
-            index: v.index,
-            setup,
-        };
-    }
+    check(s)?;
     let part = load_setup(s, fades_at(s), size_at(s));
-    let setup = part.setup;
-    SetupRead {
-        number: v.number,
-        index: v.index,
-        setup,
-    }
+    Ok(part.setup)
 }

@@ -2,6 +2,7 @@
 ghost use Rattle.std.specs.Prelude.{◌≡◌, ◌^◌, ◌<◌, ◌≤◌, length, slice_index};
 ghost use Rattle.words.specs.Bits.{bit};
 ghost use Rattle.words.specs.Runs.{put_run};
+ghost use Rattle.words.specs.Refusal.{told};
 ghost use Rattle.setup.specs.Layout.{setup_length};
 ghost use Rattle.setup.specs.Setup.{head_word, module_word, front_of, setup_bytes};
 ghost use Rattle.setup.specs.Check.{room_verdict, write_verdict, written_setup};
@@ -10,10 +11,10 @@ use crate::Setup;
 use crate::bounds::{fades, front_words, put_limits};
 use crate::fields::verdict;
 use crate::layout::{MARK, PARTITIONABLE, PLACE, RETURN, setup_length};
-use words::Verdict;
 use words::bits::{bit_at, flag};
-use words::check::{accept, refusal};
+use words::check::single;
 use words::word::{KIND, NUMBER, put_word};
+use words::{Number, Refusal};
 
 // The head.
 fn head_word(q: u32, partitionable: bool, n: usize) -> u32
@@ -38,13 +39,14 @@ fn write_modules(setup: Setup, out: &mut [u8])
         (λ j. module_word j (bit setup.marks j) (slice_index setup.places j) (slice_index setup.criticality j)) }
 {
     let n = setup.n;
-    let limits = setup.limits;
-    let front = front_words(fades(limits));
-    let marks = setup.marks;
-    let places = setup.places;
-    let criticality = setup.criticality;
+    let front = front_words(fades(setup.limits));
     for j in 0..n {
-        let w = module_word(j, bit_at(marks, j), places[j], criticality[j]);
+        let w = module_word(
+            j,
+            bit_at(setup.marks, j),
+            setup.places[j],
+            setup.criticality[j],
+        );
         put_word(out, front + j, w);
     }
 }
@@ -54,24 +56,18 @@ pub fn write_words(setup: Setup, out: &mut [u8])
     requires { ((room_verdict setup).number ≡ 0) × (length out.old ≡ setup_length (front_of setup) setup.n) }
     ensures { out.new ≡ setup_bytes setup }
 {
-    let limits = setup.limits;
     put_word(out, 0, head_word(setup.q, setup.partitionable, setup.n));
-    put_limits(limits, out);
+    put_limits(setup.limits, out);
     write_modules(setup, out);
 }
 
 // Writes a setup, or refuses it and leaves the output as it was.
-pub fn write(setup: Setup, out: &mut [u8]) -> Verdict
-    ensures { (result ≡ write_verdict setup out.old) × (out.new ≡ written_setup setup out.old) }
+pub fn write(setup: Setup, out: &mut [u8]) -> Result<(), Refusal>
+    ensures { (told result ≡ write_verdict setup out.old) × (out.new ≡ written_setup setup out.old) }
 {
-    let v = verdict(setup);
-    if v.number != 0 {
-        return v;
-    }
-    let limits = setup.limits;
-    if out.len() != setup_length(front_words(fades(limits)), setup.n) {
-        return refusal(9, 0);
-    }
+    verdict(setup)?;
+    let fits = out.len() == setup_length(front_words(fades(setup.limits)), setup.n);
+    single(fits, Number::Lent, 0)?;
     write_words(setup, out);
-    accept()
+    Ok(())
 }

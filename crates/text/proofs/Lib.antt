@@ -1,4 +1,3 @@
-pub mod WroteLaws
 pub mod NumberLaws
 pub mod LineLaws
 pub mod Cases

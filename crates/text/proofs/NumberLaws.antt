@@ -1,25 +1,38 @@
--- Laws of numerals: the last digit and what stands before it, and how many places a small number takes.
-use mathlib.Core.Path.{◌≡◌, ◌∙◌}
-use mathlib.Core.List.{[], ◌∷◌, ◌++◌}
-use Prim.Native.Nat.{ℕ, zero, suc, ◌+◌, ◌-◌, ◌/◌, ◌%◌, ◌<◌, ◌≤◌}
+-- Numerals are what the library prints, and how many places they take.
+use mathlib.Core.Path.{◌≡◌, ap}
+use mathlib.Core.List.{List, [], ◌∷◌, ◌++◌, append_assoc}
+use Prim.Native.Nat.{ℕ, ◌+◌, ◌<◌, ◌≤◌, ◌^◌}
+use native.Mathlib.Numerals.{add-one}
 use native.Mathlib.Omega.{arith}
+use lib.ListN.{length}
 use borrow.Author.Tests.{lt-ltb, le-ltb}
 use Rattle.words.proofs.Truth.{cond-true, cond-false}
-use Rattle.text.specs.Text.{numeral, decimal}
+use Rattle.std.specs.Fmt.{decimal as printed}
+use Rattle.std.proofs.lemmas.Fmt.{AppendsLastDigit, decimal_from_appends, length-decimal-le}
+use Rattle.words.specs.Bits.{b2n, bit}
+use Rattle.text.specs.Text.{numeral, decimal, vector}
 
-pub numeral-one : (k v : ℕ) → 0 < k → v < 10 → numeral k v ≡ (48 + v) ∷ []
+appends : AppendsLastDigit numeral
 unfolding numeral
-numeral-one zero v h l = absurd (omega arith)
-numeral-one (suc k) v h l = cond-true _ _ (lt-ltb v 10 l)
+appends = record { one = λ k n h. cond-true _ _ (lt-ltb n 10 h); more = λ k n h. cond-false _ _ (le-ltb n 10 h) }
 
-pub numeral-more : (k v : ℕ) → 0 < k → 10 ≤ v → numeral k v ≡ numeral (k - 1) (v / 10) ++ ((48 + v % 10) ∷ [])
-unfolding numeral
-numeral-more zero v h l = absurd (omega arith)
-numeral-more (suc k) v h l =
-    let e : suc k - 1 ≡ k = omega arith in
-    cond-false _ _ (le-ltb v 10 l) ∙ rw e
+-- ten places hold any 32-bit number
+pub decimal-printed : (v : ℕ) → v < 2 ^ 32 → decimal v ≡ printed v
+decimal-printed v h = decimal_from_appends numeral appends 10 v (omega arith) (length-decimal-le 10 v (omega arith) (omega arith) (omega arith))
 
--- two places hold a number below 100
-pub numeral-two : (v : ℕ) → v < 100 → numeral 2 v ≡ decimal v
-unfolding numeral
-numeral-two v h = rw (lt-ltb (v / 10) 10 (omega arith))
+pub decimal-places : (k v : ℕ) → 0 < k → v < 10 ^ k → v < 2 ^ 32 → length (decimal v) ≤ k
+decimal-places k v p h l =
+    let e = ap length (decimal-printed v l) in
+    let m = length-decimal-le k v p h (omega arith) in
+    omega (arith, e, m)
+
+-- a 32-bit number has at most ten digits
+pub decimal_ten : (v : ℕ) → v < 2 ^ 32 → length (decimal v) ≤ 10
+decimal_ten v h = decimal-places 10 v (omega arith) (omega arith) h
+
+-- ---- bit vectors
+
+-- one bit more
+pub vector_step : (old : List ℕ) {a b : List ℕ} {d : ℕ} (v j : ℕ) → a ≡ old ++ vector j v → d ≡ 48 + b2n (bit v j) → b ≡ a ++ (d ∷ []) → b ≡ old ++ vector (j + 1) v
+unfolding vector
+vector_step old v j e q f = rw (f, e, q, add-one) (append_assoc old (vector j v) ((48 + b2n (bit v j)) ∷ []))

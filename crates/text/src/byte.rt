@@ -1,23 +1,13 @@
 // Bytes as they are.
-ghost use Rattle.std.specs.Prelude.{[], ◌∷◌, ◌+◌, ◌≤◌, ◌<◌, length};
-ghost use Rattle.text.specs.Wrote.{Wrote};
+ghost use Rattle.std.specs.Prelude.{◌≡◌, ◌+◌, ◌≤◌, ◌++◌, length};
+ghost use Rattle.arrayvec.specs.ArrayVec.{array_vec_len};
 
-// Writes the byte b.
-pub fn put_byte(out: &mut [u8], at: usize, b: u8) -> usize
-    requires { at < length out.old }
-    ensures { Wrote out.old at (b ∷ []) out.new result }
-{
-    out[at] = b;
-    at + 1
-}
+use arrayvec::ArrayVec;
 
-// Writes the bytes of `text`.
-pub fn put_text(out: &mut [u8], at: usize, text: &[u8]) -> usize
-    requires { at + length text.now ≤ length out.old }
-    ensures { Wrote out.old at text.now out.new result }
+// Adds the bytes of `text`, for which there must be room.
+pub fn put_text<const N: usize>(out: &mut ArrayVec<u8, N>, text: &[u8])
+    requires { array_vec_len out.old + length text.now ≤ N }
+    ensures { (out.new.items ≡ out.old.items ++ text.now) × (array_vec_len out.new ≡ array_vec_len out.old + length text.now) }
 {
-    for j in 0..text.len() {
-        out[at + j] = text[j];
-    }
-    at + text.len()
+    let _fits = out.try_extend_from_slice(text);
 }

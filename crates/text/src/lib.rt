@@ -1,4 +1,4 @@
-// The lines of the bench as text in lent bytes. Each function writes at a place and answers the place after its text.
+// The lines of the bench, each added to a text of fixed room, which takes no heap. Every function asks for the room that it may need.
 #![tactic(auto)]
 
 mod byte;

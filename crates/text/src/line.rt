@@ -1,96 +1,99 @@
 // The lines of a round, and the line of a refusal.
-ghost use Rattle.std.specs.Prelude.{◌∷◌, ◌+◌, ◌*◌, ◌≤◌, ◌<◌, length, get_or};
+ghost use Rattle.std.specs.Prelude.{◌≡◌, ◌∷◌, ◌++◌, ◌+◌, ◌*◌, ◌≤◌, ◌<◌, length, get_or};
+ghost use Rattle.arrayvec.specs.ArrayVec.{array_vec_len};
+ghost use Rattle.words.specs.Refusal.{code};
 ghost use Rattle.text.specs.Text.{decimal, vector};
 ghost use Rattle.text.specs.Lines.{limit_text, line_with, lines_of, refused_line};
-ghost use Rattle.text.specs.Wrote.{Wrote};
 
-use crate::byte::{put_byte, put_text};
+use crate::byte::put_text;
 use crate::number::put_number;
 use crate::vector::put_vector;
+use arrayvec::ArrayVec;
+use itoa::Buffer;
+use words::Refusal;
 
-// Writes a space and the number of module i + 1.
-fn put_module(out: &mut [u8], at: usize, i: usize) -> usize
-    requires { (i < 16) × (at + 3 ≤ length out.old) }
-    ensures { Wrote out.old at (32 ∷ decimal (i + 1)) out.new result × (result ≤ at + 3) }
+// Adds a space and the number of module i + 1.
+fn put_module<const N: usize>(out: &mut ArrayVec<u8, N>, i: usize)
+    requires { (i < 16) × (array_vec_len out.old + 3 ≤ N) }
+    ensures { (out.new.items ≡ out.old.items ++ (32 ∷ decimal (i + 1))) × (array_vec_len out.new ≤ array_vec_len out.old + 3) }
 {
-    let p = put_byte(out, at, 32);
-    put_number(out, p, 2, i as u32 + 1)
+    out.push(b' ');
+    put_number(out, i as u32 + 1);
 }
 
-// Writes a space and the first n bits of v.
-fn put_bits(out: &mut [u8], at: usize, n: usize, v: u32) -> usize
-    requires { (n ≤ 16) × (at + 17 ≤ length out.old) }
-    ensures { Wrote out.old at (32 ∷ vector n v) out.new result × (result ≤ at + 17) }
+// Adds a space and the first n bits of v.
+fn put_bits<const N: usize>(out: &mut ArrayVec<u8, N>, n: usize, v: u32)
+    requires { (n ≤ 16) × (array_vec_len out.old + 17 ≤ N) }
+    ensures { (out.new.items ≡ out.old.items ++ (32 ∷ vector n v)) × (array_vec_len out.new ≤ array_vec_len out.old + 17) }
 {
-    let p = put_byte(out, at, 32);
-    put_vector(out, p, n, v)
+    out.push(b' ');
+    put_vector(out, n, v);
 }
 
-// Writes a space, and `in` where the limit was kept so far, else `out`.
-fn put_limit(out: &mut [u8], at: usize, kept: bool) -> usize
-    requires { at + 4 ≤ length out.old }
-    ensures { Wrote out.old at (32 ∷ limit_text kept) out.new result × (result ≤ at + 4) }
+// Adds a space, and `in` where the limit was kept so far, else `out`.
+fn put_limit<const N: usize>(out: &mut ArrayVec<u8, N>, kept: bool)
+    requires { array_vec_len out.old + 4 ≤ N }
+    ensures { (out.new.items ≡ out.old.items ++ (32 ∷ limit_text kept)) × (array_vec_len out.new ≤ array_vec_len out.old + 4) }
 {
     if kept {
-        put_text(out, at, b" in")
+        put_text(out, b" in");
     } else {
-        put_text(out, at, b" out")
+        put_text(out, b" out");
     }
 }
 
-// Writes the line of module i + 1; `round` is the round's number as text.
-fn put_line(
-    out: &mut [u8],
-    at: usize,
+// Adds the line of module i + 1; `round` is the round's number as text.
+fn put_line<const N: usize>(
+    out: &mut ArrayVec<u8, N>,
     round: &[u8],
     n: usize,
     kept: bool,
     i: usize,
     health: u32,
     view: u32,
-) -> usize
-    requires { (n ≤ 16) × (i < 16) × (length round.now ≤ 10) × (at + 52 ≤ length out.old) }
-    ensures { Wrote out.old at (line_with round.now n kept i health view) out.new result × (result ≤ at + 52) }
+)
+    requires { (n ≤ 16) × (i < 16) × (length round.now ≤ 10) × (array_vec_len out.old + 52 ≤ N) }
+    ensures { (out.new.items ≡ out.old.items ++ line_with round.now n kept i health view)
+        × (array_vec_len out.new ≤ array_vec_len out.old + 52) }
 {
-    let a = put_text(out, at, round);
-    let b = put_module(out, a, i);
-    let c = put_bits(out, b, n, health);
-    let d = put_bits(out, c, n, view);
-    let e = put_limit(out, d, kept);
-    put_byte(out, e, 10)
+    put_text(out, round);
+    put_module(out, i);
+    put_bits(out, n, health);
+    put_bits(out, n, view);
+    put_limit(out, kept);
+    out.push(b'\n');
 }
 
-// Writes the lines of all modules of a round; its number is the same text in each.
-pub fn put_lines(
-    out: &mut [u8],
-    at: usize,
+// Adds the lines of all modules of a round; its number is the same text in each.
+pub fn put_lines<const N: usize>(
+    out: &mut ArrayVec<u8, N>,
     n: usize,
     round: u32,
     kept: bool,
     health: [u32; 16],
     view: [u32; 16],
-) -> usize
-    requires { (n ≤ 16) × (at + n * 52 ≤ length out.old) }
-    ensures { Wrote out.old at (lines_of n round kept (λ i. get_or health i 0) (λ i. get_or view i 0) n) out.new result
-        × (result ≤ at + n * 52) }
+)
+    requires { (n ≤ 16) × (array_vec_len out.old + n * 52 ≤ N) }
+    ensures { (out.new.items ≡ out.old.items ++ lines_of n round kept (λ i. get_or health i 0) (λ i. get_or view i 0) n)
+        × (array_vec_len out.new ≤ array_vec_len out.old + n * 52) }
 {
-    let mut digits = [0u8; 10];
-    let k = put_number(&mut digits, 0, 10, round);
-    let mut p = at;
+    let mut digits = Buffer::new();
+    let round = digits.format(round).as_bytes();
     for i in 0..n {
-        p = put_line(out, p, &digits[..k], n, kept, i, health[i], view[i]);
+        put_line(out, round, n, kept, i, health[i], view[i]);
     }
-    p
 }
 
-// Writes the line of a refusal.
-pub fn put_refusal(out: &mut [u8], at: usize, number: u32, index: u32) -> usize
-    requires { at + 33 ≤ length out.old }
-    ensures { Wrote out.old at (refused_line number index) out.new result × (result ≤ at + 33) }
+// Adds the line of a refusal.
+#[tactic(auto, using(crate::proofs::NumberLaws::decimal_ten))]
+pub fn put_refusal<const N: usize>(out: &mut ArrayVec<u8, N>, refusal: &Refusal)
+    requires { array_vec_len out.old + 33 ≤ N }
+    ensures { (out.new.items ≡ out.old.items ++ refused_line (code refusal.now.number) refusal.now.index)
+        × (array_vec_len out.new ≤ array_vec_len out.old + 33) }
 {
-    let a = put_text(out, at, b"refused ");
-    let b = put_number(out, a, 10, number);
-    let c = put_text(out, b, b" at ");
-    let d = put_number(out, c, 10, index);
-    put_byte(out, d, 10)
+    put_text(out, b"refused ");
+    put_number(out, refusal.number.code());
+    put_text(out, b" at ");
+    put_number(out, refusal.index);
+    put_text(out, b"\n");
 }

@@ -1,21 +1,17 @@
 // Numbers in decimal.
-ghost use Rattle.std.specs.Prelude.{◌+◌, ◌≤◌, ◌<◌, length};
-ghost use Rattle.text.specs.Text.{numeral};
-ghost use Rattle.text.specs.Wrote.{Wrote};
+ghost use Rattle.std.specs.Prelude.{◌≡◌, ◌+◌, ◌≤◌, ◌++◌, length};
+ghost use Rattle.arrayvec.specs.ArrayVec.{array_vec_len};
+ghost use Rattle.text.specs.Text.{decimal};
 
-use crate::byte::put_byte;
+use crate::byte::put_text;
+use arrayvec::ArrayVec;
+use itoa::Buffer;
 
-// Writes v in at most `places` digits: what stands before the last digit first.
-pub fn put_number(out: &mut [u8], at: usize, places: usize, v: u32) -> usize
-    requires { at + places ≤ length out.old }
-    ensures { Wrote out.old at (numeral places v) out.new result × (result ≤ at + places) }
+// Adds v in decimal. (Not by `write!`, whose contract says what it writes where it succeeds, and not that it does.)
+pub fn put_number<const N: usize>(out: &mut ArrayVec<u8, N>, v: u32)
+    requires { array_vec_len out.old + length (decimal v) ≤ N }
+    ensures { (out.new.items ≡ out.old.items ++ decimal v) × (array_vec_len out.new ≡ array_vec_len out.old + length (decimal v)) }
 {
-    if places == 0 {
-        return at;
-    }
-    if v < 10 {
-        return put_byte(out, at, (48 + v) as u8);
-    }
-    let last = put_number(out, at, places - 1, v / 10);
-    put_byte(out, last, (48 + v % 10) as u8)
+    let mut digits = Buffer::new();
+    put_text(out, digits.format(v).as_bytes());
 }

@@ -1,9 +1,10 @@
 // Bit vectors, bit 0 leftmost.
-ghost use Rattle.std.specs.Prelude.{◌≡◌, ◌+◌, ◌≤◌, ◌<◌, length};
+ghost use Rattle.std.specs.Prelude.{◌≡◌, ◌+◌, ◌≤◌, ◌<◌, ◌++◌};
+ghost use Rattle.arrayvec.specs.ArrayVec.{array_vec_len};
 ghost use Rattle.words.specs.Bits.{b2n, bit};
 ghost use Rattle.text.specs.Text.{vector};
-ghost use Rattle.text.specs.Wrote.{Wrote};
 
+use arrayvec::ArrayVec;
 use words::bits::{bit_at, flag};
 
 // Bit j of v as a digit.
@@ -14,13 +15,12 @@ fn digit(v: u32, j: usize) -> u8
     (48 + flag(bit_at(v, j))) as u8
 }
 
-// Writes the first n bits of v.
-pub fn put_vector(out: &mut [u8], at: usize, n: usize, v: u32) -> usize
-    requires { (n ≤ 32) × (at + n ≤ length out.old) }
-    ensures { Wrote out.old at (vector n v) out.new result × (result ≡ at + n) }
+// Adds the first n bits of v.
+pub fn put_vector<const N: usize>(out: &mut ArrayVec<u8, N>, n: usize, v: u32)
+    requires { (n ≤ 32) × (array_vec_len out.old + n ≤ N) }
+    ensures { (out.new.items ≡ out.old.items ++ vector n v) × (array_vec_len out.new ≡ array_vec_len out.old + n) }
 {
     for j in 0..n {
-        out[at + j] = digit(v, j);
+        out.push(digit(v, j));
     }
-    at + n
 }

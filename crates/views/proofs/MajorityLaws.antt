@@ -1,18 +1,20 @@
 -- Two sets of more than half of all n share a sender; so at most one value of a module, and one view, is carried by more than half.
 use mathlib.Core.Path.{◌≡◌, refl, sym, ap, ap₂, ◌∙◌, subst}
-use mathlib.Core.Bool.{Bool, true, false, cond, not, ◌&&◌, ◌||◌, beq}
+use Rattle.std.proofs.Common.{Option, Some, None, if◌then◌else◌}
+use Rattle.std.specs.Bool.{then_some}
+use mathlib.Core.Bool.{Bool, true, false, not, ◌&&◌, ◌||◌, beq}
 use mathlib.Core.Logic.{⊎_elim}
 use mathlib.Core.List.{List}
 use Prim.Native.Nat.{ℕ, ◌+◌, ◌*◌, ◌%◌, ◌^◌, ◌<◌, ◌≤◌}
 use native.Mathlib.Omega.{arith}
 use native.Mathlib.Nat.{mod-lt}
 use lib.ListN.{get_or}
-use lib.Dec.{eqb, ltb}
+use lib.Dec.{eqb}
 use lib.Pow.{pow_pos}
 use borrow.Author.Tests.{eqb-true, ne_eqb, ltb-true, lt-ltb, le-ltb}
 use Rattle.words.specs.Bits.{bit, pack}
-use Rattle.words.specs.Count.{count, any}
-use Rattle.words.proofs.Truth.{which, and-true, or_cases, or_l, or_r, clash, beq-refl, cond-true, cond-false}
+use Rattle.words.specs.Count.{count, any, all}
+use Rattle.words.proofs.Truth.{which, and-true, or_cases, or_l, or_r, clash, beq-refl}
 use Rattle.words.proofs.BitLaws.{bit-pack, bit-ext, bit_high, bit-mod, pack-lt}
 use Rattle.words.proofs.CountLaws.{any-witness, any_none, count-mono, count-ext, count-le, count-split, all-at, all-intro}
 use Rattle.views.specs.ViewWord.{view_word_heard, view_entry}
@@ -147,6 +149,20 @@ module _ (n : ℕ) (views : List ℕ) (w : ℕ) (some : w ≡ 0 → ⊥) (most :
       adopted n views (w % 2 ^ n) (mod-lt w (pow_pos n))
       (λ j h. subst (λ (b : Bool). n < 2 * carriers n views j b) (sym (bit-mod n w j h)) (omega (arith, same-carry j)))
 
+-- what is decided is so by the first n entries alone
+module _ (n : ℕ) (views others : List ℕ) (same : (l : ℕ) → l < n → get_or views l 0 ≡ get_or others l 0) where
+  carriers-ext : (j : ℕ) (value : Bool) → carriers n views j value ≡ carriers n others j value
+  unfolding carriers
+  carriers-ext j value = count-ext n _ _ (λ l h. ap (λ (w : ℕ). is_there w && beq (bit w j) value) (same l h))
+
+  pub adoptable-ext : adoptable n views ≡ adoptable n others
+  unfolding adoptable
+  adoptable-ext = (λ i. all n (λ j. most_of n (carriers-ext j true i) || most_of n (carriers-ext j false i)))
+
+  pub adopted-ext : adopted_from n views ≡ adopted_from n others
+  unfolding adopted_from
+  adopted-ext = (λ i. pack n (λ j. most_of n (carriers-ext j true i)))
+
 -- ---- as the code counts
 
 pub count-end : {c j n : ℕ} (p : ℕ → Bool) → j ≡ n → c ≡ count j p → c ≡ count n p
@@ -160,20 +176,17 @@ zeros_by n views j t o z = omega (arith, carriers-both n views j)
 pub ones-le : {there one : ℕ} (n : ℕ) (views : List ℕ) (j : ℕ) → there ≡ count n (λ l. is_there (get_or views l 0)) → one ≡ carriers n views j true → one ≤ there
 ones-le n views j t o = omega (arith, carriers-both n views j)
 
--- the word that was found, if any
-pub common-by : {r votes l : ℕ} (n : ℕ) (views : List ℕ) (word : ℕ) → l ≡ n → votes ≡ count l (λ m. eqb (get_or views m 0) word) → r ≡ cond (ltb n (2 * votes)) word 0
-    → (r ≡ 0 → ⊥) → n < 2 * count n (λ m. eqb (get_or views m 0) r)
-common-by {votes = votes} n views word e c p f =
-    ⊎_elim
-    (λ (t : ltb n (2 * votes) ≡ true).
-    subst (λ (w : ℕ). n < 2 * count n (λ m. eqb (get_or views m 0) w)) (sym (p ∙ cond-true word 0 t))
-    (omega (arith, ltb-true n (2 * votes) t, count-end (λ m. eqb (get_or views m 0) word) e c)))
-    (λ (t : ltb n (2 * votes) ≡ false). absurd (f (p ∙ cond-false word 0 t)))
-    (which (ltb n (2 * votes)))
+-- a view that is handed on if it is decided
+some-if : {A : Type 0} (b : Bool) (x : A) → then_some b x ≡ (if b then Some x else None)
+some-if true x = refl
+some-if false x = refl
 
--- and what it decides
-pub same_by : {size : ℕ} (n : ℕ) (views : List ℕ) (word : ℕ) → ((word ≡ 0 → ⊥) → n < 2 * count n (λ m. eqb (get_or views m 0) word)) → (word ≡ 0 → ⊥) → size ≡ 2 ^ n
-    → (true ≡ adoptable n views) × (word % size ≡ adopted_from n views)
-same_by n views word c some e =
-    let (d, v) = same-adopted n views word some (c some) in
-    (sym d, ap (λ (s : ℕ). word % s) e ∙ sym v)
+pub decided-by : {A : Type 0} {d e : Bool} {x y : A} {r : Option A} → d ≡ e → x ≡ y → r ≡ then_some d x → r ≡ (if e then Some y else None)
+decided-by {d = d} {x = x} p q h = h ∙ some-if d x ∙ (λ i. if p i then Some (q i) else None)
+
+-- what one word decides that more than half are
+pub same_by : {size : ℕ} (n : ℕ) (views : List ℕ) (word : ℕ) → (word ≡ 0 → ⊥) × (n < 2 * count n (λ m. eqb (get_or views m 0) word)) → size ≡ 2 ^ n
+    → Some (word % size) ≡ (if adoptable n views then Some (adopted_from n views) else None)
+same_by n views word (some, most) e =
+    let (d, v) = same-adopted n views word some most in
+    decided-by (sym d) (ap (λ (s : ℕ). word % s) e ∙ sym v) refl

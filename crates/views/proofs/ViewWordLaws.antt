@@ -1,5 +1,5 @@
 -- View words: which are heard, what a read keeps of them, and how they are aligned.
-use mathlib.Core.Path.{◌≡◌, refl, sym, ap, ◌∙◌, subst}
+use mathlib.Core.Path.{◌≡◌, sym, refl, ap, ◌∙◌}
 use mathlib.Core.Bool.{Bool, true, false, cond, not, ◌&&◌}
 use mathlib.Core.List.{List}
 use Prim.Native.Nat.{ℕ, ◌+◌, ◌*◌, ◌/◌, ◌%◌, ◌^◌, ◌<◌, ◌≤◌, zero-le}
@@ -9,10 +9,10 @@ use lib.Dec.{eqb, ltb}
 use borrow.Author.Tests.{eqb-true, eq-eqb, ne_eqb, ltb-true, lt-ltb, le-ltb}
 use Rattle.words.specs.Word.{word_at}
 use Rattle.words.specs.Bits.{bit}
-use Rattle.words.specs.Array.{array, replaced, Filled}
+use Rattle.words.specs.Array.{array, replaced}
 use Rattle.words.proofs.Truth.{and_l, and_r, and-true, cond-false}
 use Rattle.words.proofs.BitLaws.{bit-low}
-use Rattle.words.proofs.ArrayLaws.{clear_from, array_at, array-ext, array-length, array-clear, array-filled, replaced-ahead, replaced-array}
+use Rattle.words.proofs.ArrayLaws.{clear_from, array_at, array-ext, array-length, array-clear, replaced-ahead, replaced-at}
 use Rattle.rules.specs.Alignment.{from_previous}
 use Rattle.rules.proofs.ReceptionLaws.{below-kind}
 use Rattle.views.specs.ViewWord.{view_word, view_word_heard, view_entry, read_words, views_read, aligned_views}
@@ -117,11 +117,11 @@ pub kept-view : {l : List ℕ} {u : ℕ} (b : Bool) (a : List ℕ) (j : ℕ) (f 
     → u ≡ cond b (get_or a j 0) w
 kept-view b a j f w e h = h ∙ ap (λ (x : ℕ). cond b x w) (ap (λ (x : List ℕ). get_or x j 0) e ∙ replaced-ahead j f a j (omega arith))
 
-pub views-aligned : {l : List ℕ} (j n split : ℕ) (a this : List ℕ) → j ≡ n → n ≤ 16 → Filled n a
-    → l ≡ replaced j (λ k. cond (ltb k split) (get_or a k 0) (get_or this k 0)) a → l ≡ array n (λ k. cond (ltb k split) (get_or a k 0) (get_or this k 0))
-views-aligned j n split a this e small f h =
-    replaced-array n n (λ k. cond (ltb k split) (get_or a k 0) (get_or this k 0)) a (omega arith) small f (λ i p q. absurd (omega arith)) (rw e at h)
+pub replaced-end : {l : List ℕ} {j n : ℕ} (f : ℕ → ℕ) (a : List ℕ) → j ≡ n → l ≡ replaced j f a → l ≡ replaced n f a
+replaced-end f a e h = rw e at h
 
--- view words that were just read are in use below n alone
-pub filled-by : {l : List ℕ} (n : ℕ) (f : ℕ → ℕ) → n ≤ 16 → l ≡ array n f → Filled n l
-filled-by n f small e = subst (Filled n) (sym e) (array-filled n f small)
+-- which are those of the array of the first n
+pub replaced-same : {l : List ℕ} (n : ℕ) (f : ℕ → ℕ) (a : List ℕ) → n ≤ 16 → length a ≡ 16 → l ≡ replaced n f a
+    → (j : ℕ) → j < n → get_or l j 0 ≡ get_or (array n f) j 0
+replaced-same n f a small long e j h =
+    ap (λ (x : List ℕ). get_or x j 0) e ∙ replaced-at n f a j h (omega (arith, long)) ∙ sym (array_at n f j h small)

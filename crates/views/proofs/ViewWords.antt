@@ -1,17 +1,10 @@
 -- The words of the views at the end of a saved state: written, they pass and are read back; those that pass hold views that fit, and are the words
 -- that these are written as.
-use mathlib.Core.Path.{◌≡◌, refl, sym, ap, ap₂, ◌∙◌}
-use mathlib.Core.Bool.{Bool, true, false, cond, not, ◌||◌}
-use mathlib.Core.Logic.{⊎_elim}
-use mathlib.Core.List.{List}
-use Prim.Native.Nat.{ℕ, ◌+◌, ◌^◌, ◌<◌, ◌≤◌}
-use native.Mathlib.Omega.{arith}
-use lib.ListN.{get_or}
-use lib.Dec.{eqb, ltb}
-use borrow.Author.Tests.{eqb-true, eqb-false, eq-eqb, leb-true, le-leb, ltb-true, lt-ltb}
+use Rattle.std.proofs.Common.{◌≡◌, refl, sym, ap, ap₂, ◌∙◌, ⊎_elim, ℕ, ◌+◌, ◌^◌, ◌<◌, ◌≤◌, arith, Bool, true, false, cond, not, ◌||◌, if◌then◌else◌, eqb, ltb, List, length, get_or, eqb-true, eq-eqb, leb-true, le-leb, ltb-true, lt-ltb}
+use borrow.Author.Tests.{eqb-false}
 use Rattle.words.specs.Word.{word_at, put_word}
 use Rattle.words.specs.Bits.{b2n}
-use Rattle.words.specs.Array.{array}
+use Rattle.words.specs.Array.{array, replaced}
 use Rattle.words.specs.Runs.{total, put_run, put_runs}
 use Rattle.words.proofs.Truth.{which}
 use Rattle.words.proofs.BitLaws.{b2n-le}
@@ -23,6 +16,7 @@ use Rattle.views.specs.Adoption.{adoptable, adopted_from}
 use Rattle.views.specs.Views.{views_after, ShapedViews}
 use Rattle.views.specs.Section.{views_count, view_ok, view_tests, views_in, view_runs}
 use Rattle.views.specs.declared.Views.{Views}
+use Rattle.views.proofs.ViewWordLaws.{replaced-same}
 use Rattle.views.proofs.ViewsLaws.{ViewsSmall, ViewsFit, none-fits, none_is, after-by}
 
 -- how many words there are
@@ -224,19 +218,21 @@ views-written {a = a} {b = b} {c = c} {d = d} o at n latest v k ea eb ec ed l ee
     put_one d (at + n + 3) (b2n v.out) (ee ∙ ap (put_word d (at + n + 3)) l) ∙ ap₂ (λ (x : List ℕ) (p : ℕ). put_run x p 1 (λ _. b2n v.out)) fd k₃
 
 -- from the words of one saved state to those of the next
-pub agreed-by : {a this voted e : List ℕ} {decided : Bool} {view was last adopted : ℕ} (o s read : List ℕ) (n at split controller local latest to : ℕ)
-    → a ≡ array n (λ j. word_at s (at + j)) → this ≡ views_read n read controller
-    → voted ≡ array n (λ j. cond (ltb j split) (get_or a j 0) (get_or this j 0)) → decided ≡ adoptable n voted → view ≡ adopted_from n voted
-    → was ≡ word_at s (at + n + 2) → last ≡ word_at s (at + n + 3) → adopted ≡ cond (eqb last 1 || not decided) was view
-    → e ≡ put_runs o to (view_runs true n latest (record { words = this; earlier = local; adopted = adopted; out = eqb last 1 || not decided }))
+pub agreed-by : {a this e : List ℕ} {out : Bool} {view was : ℕ} {last : Bool} (voted o s read : List ℕ) (n at split controller local latest to : ℕ)
+    → n ≤ 16 → length a ≡ 16 → a ≡ array n (λ j. word_at s (at + j)) → this ≡ views_read n read controller
+    → voted ≡ replaced n (λ j. cond (ltb j split) (get_or a j 0) (get_or this j 0)) a → was ≡ word_at s (at + n + 2)
+    → last ≡ eqb (word_at s (at + n + 3)) 1 → out ≡ last || not (adoptable n voted)
+    → view ≡ (if last || not (adoptable n voted) then was else adopted_from n voted)
+    → e ≡ put_runs o to (view_runs true n latest (record { words = this; earlier = local; adopted = view; out = out }))
     → e ≡ put_runs o to (view_runs true n latest (views_after n (views_in true s n at)
     (array n (λ j. cond (ltb j split) (get_or (views_in true s n at).words j 0) (get_or (views_read n read controller) j 0))) (views_read n read controller) local))
 unfolding views_in
-agreed-by {decided = decided} {view = view} {adopted = adopted} o s read n at split controller local latest to ea et ev d w ew el x h =
+agreed-by {a = a} {this = this} {out = out} {view = view} voted o s read n at split controller local latest to small long ea et ev w l x y h =
+    let f : ℕ → ℕ = λ j. cond (ltb j split) (get_or a j 0) (get_or this j 0) in
     let v = views_in true s n at in
-    let same = ev ∙ (λ i. array n (λ j. cond (ltb j split) (get_or (ea i) j 0) (get_or (et i) j 0))) in
-    let y = x ∙ (λ i. cond (eqb (el i) 1 || not decided) (ew i) view) in
-    let z = after-by n v (views_read n read controller) local same d w y in
+    let z = after-by n v voted (array n f) this local (replaced-same n f a small long ev) (x ∙ (λ i. l i || not (adoptable n voted)))
+    (y ∙ (λ i. if l i || not (adoptable n voted) then w i else adopted_from n voted))
+    in
     h
     ∙ ap (λ (r : Views). put_runs o to (view_runs true n latest r))
-    ((λ i. record { words = et i; earlier = local; adopted = adopted; out = eqb (el i) 1 || not decided }) ∙ z)
+    (z ∙ (λ i. views_after n v (array n (λ j. cond (ltb j split) (get_or (ea i) j 0) (get_or (et i) j 0))) (et i) local))

@@ -1,4 +1,5 @@
 -- What a module holds of views, field by field: it has room in its words, and opening and step keep it as the tests of a saved state ask.
+use Rattle.std.proofs.Common.{if◌then◌else◌}
 use mathlib.Core.Path.{◌≡◌, refl, sym, ap, ◌∙◌}
 use mathlib.Core.Bool.{Bool, true, false, cond, not, ◌&&◌, ◌||◌}
 use mathlib.Core.Logic.{⊎_elim}
@@ -21,7 +22,7 @@ use Rattle.views.specs.Views.{full_views, no_views, fresh_views, views_after, Sh
 use Rattle.views.specs.Section.{view_ok, views_in, views_roomy}
 use Rattle.views.specs.declared.Views.{Views}
 use Rattle.views.proofs.ViewWordLaws.{view-heard, heard-view, views-at, views-clear, views-length}
-use Rattle.views.proofs.MajorityLaws.{adopted-lt}
+use Rattle.views.proofs.MajorityLaws.{adopted-lt, adoptable-ext, adopted-ext}
 
 -- no view is held
 abbrev pub Viewless : Views → Type 0
@@ -223,15 +224,17 @@ full_by {words = words} n e q a =
     let k : words ≡ array n (λ j. view_word (full n)) = a ∙ ap (λ (x : ℕ). array n (λ j. x)) (q ∙ ap view_word e) in
     λ i. record { words = k i; earlier = e i; adopted = e i; out = false }
 
-pub after-by : {decided : Bool} {view adopted : ℕ} {voted voted' : List ℕ} (n : ℕ) (v : Views) (this : List ℕ) (local : ℕ) → voted ≡ voted'
-    → decided ≡ adoptable n voted → view ≡ adopted_from n voted → adopted ≡ cond (v.out || not decided) v.adopted view
-    → ◌≡◌ {A = Views} (record { words = this; earlier = local; adopted = adopted; out = v.out || not decided }) (views_after n v voted' this local)
+-- what is adopted from view words whose first n entries are those that are voted on
+pub after-by : {view : ℕ} {out : Bool} (n : ℕ) (v : Views) (voted others this : List ℕ) (local : ℕ)
+    → ((l : ℕ) → l < n → get_or voted l 0 ≡ get_or others l 0) → out ≡ v.out || not (adoptable n voted)
+    → view ≡ (if v.out || not (adoptable n voted) then v.adopted else adopted_from n voted)
+    → ◌≡◌ {A = Views} (record { words = this; earlier = local; adopted = view; out = out }) (views_after n v others this local)
 unfolding views_after
-after-by n v this local e d w a =
-    let x = d ∙ ap (adoptable n) e in
-    let y = w ∙ ap (adopted_from n) e in
-    let z = a ∙ (λ i. cond (v.out || not (x i)) v.adopted (y i)) in
-    λ i. record { words = this; earlier = local; adopted = z i; out = v.out || not (x i) }
+after-by n v voted others this local same o e =
+    let d = adoptable-ext n voted others same in
+    let x = adopted-ext n voted others same in
+    (λ i. record { words = this; earlier = local; adopted = e i; out = o i })
+    ∙ (λ i. record { words = this; earlier = local; adopted = cond (v.out || not (d i)) v.adopted (x i); out = v.out || not (d i) })
 
 pub some-room : {b good : Bool} (n : ℕ) (v : Views) → b ≡ true → good ≡ bounded n (2 ^ 32 - 1) v.words
     → good && (ltb v.earlier (2 ^ 16) && ltb v.adopted (2 ^ 16)) ≡ views_roomy b n v
@@ -244,8 +247,8 @@ unfolding views_roomy
 none-room n v t g = rw (t, g)
 
 -- the views that are read
-pub read_by : {words : List ℕ} {earlier adopted last : ℕ} (s : List ℕ) (n at : ℕ) → words ≡ array n (λ j. word_at s (at + j)) → earlier ≡ word_at s (at + n + 1)
-    → adopted ≡ word_at s (at + n + 2) → last ≡ word_at s (at + n + 3)
-    → ◌≡◌ {A = Views} (record { words = words; earlier = earlier; adopted = adopted; out = eqb last 1 }) (views_in true s n at)
+pub read_by : {words : List ℕ} {earlier adopted : ℕ} {out : Bool} (s : List ℕ) (n at : ℕ) → words ≡ array n (λ j. word_at s (at + j))
+    → earlier ≡ word_at s (at + n + 1) → adopted ≡ word_at s (at + n + 2) → out ≡ eqb (word_at s (at + n + 3)) 1
+    → ◌≡◌ {A = Views} (record { words = words; earlier = earlier; adopted = adopted; out = out }) (views_in true s n at)
 unfolding views_in
-read_by s n at w e a l = λ i. record { words = w i; earlier = e i; adopted = a i; out = eqb (l i) 1 }
+read_by s n at w e a o = λ i. record { words = w i; earlier = e i; adopted = a i; out = o i }

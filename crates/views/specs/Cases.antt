@@ -4,7 +4,7 @@ use Rattle.std.specs.Prelude.{ℕ, ◌+◌, ◌*◌, ◌≡◌, Bool, true, fals
 use Rattle.words.specs.Word.{kind_unit, bytes_of}
 use Rattle.words.specs.Bits.{b2n}
 use Rattle.words.specs.Verdict.{first_refusal}
-use Rattle.words.specs.declared.Verdict.{Verdict}
+use Rattle.words.specs.Verdict.{Verdict}
 use Rattle.views.specs.ViewWord.{view_word, view_entry, read_words, views_read, aligned_views}
 use Rattle.views.specs.Adoption.{adoptable, adopted_from}
 use Rattle.views.specs.Views.{full_views, no_views, views_after}

@@ -1,21 +1,30 @@
 // The view that is adopted from the view words of one round.
-ghost use Rattle.std.specs.Prelude.{◌≡◌, true, ◌*◌, ◌≤◌, ◌<◌, get_or, eqb};
+ghost use Rattle.std.specs.Prelude.{◌≡◌, ℕ, Bool, true, not, ◌||◌, if◌then◌else◌, Option, Some, None, ◌*◌, ◌≤◌, ◌<◌, get_or, eqb};
 ghost use Rattle.words.specs.Count.{count};
 ghost use Rattle.views.specs.Adoption.{is_there, carriers, adoptable, adopted_from};
 
-use crate::Adoption;
+use crate::Adopted;
 use words::bits::{bit_at, flag, pick, power, with_bit};
 
-// How many of the n view words are there.
+// How many of the n view words pass a test.
+fn senders<F: Fn(u32) -> bool>(n: usize, views: &[u32; 16], passes: F) -> u32
+    requires small { n ≤ 16 }
+    requires callable { (l : ℕ) → l < n → F.pre passes (get_or views.now l 0) }
+    ensures { (result ≤ n) × ((p : ℕ → Bool) → ((l : ℕ) (b : Bool) → l < n → F.post passes (get_or views.now l 0) b → b ≡ p l) → result ≡ count n p) }
+{
+    let mut many: u32 = 0;
+    for l in 0..n {
+        many = many + flag(passes(views[l]));
+    }
+    many
+}
+
+// How many are there.
 fn present(n: usize, views: &[u32; 16]) -> u32
     requires { n ≤ 16 }
     ensures { (result ≡ count n (λ l. is_there (get_or views.now l 0))) × (result ≤ n) }
 {
-    let mut there: u32 = 0;
-    for l in 0..n {
-        there = there + flag(views[l] != 0);
-    }
-    there
+    senders(n, views, |w| w != 0)
 }
 
 // How many carry 1 for module j + 1. A missing one is 0, so it carries none.
@@ -23,17 +32,13 @@ fn ones(n: usize, views: &[u32; 16], j: usize) -> u32
     requires { (n ≤ 16) × (j < 16) }
     ensures { (result ≡ carriers n views.now j true) × (result ≤ n) }
 {
-    let mut votes: u32 = 0;
-    for l in 0..n {
-        votes = votes + flag(bit_at(views[l], j));
-    }
-    votes
+    senders(n, views, |w| bit_at(w, j))
 }
 
 // What n view words decide, module by module. Those that are there and do not carry 1 carry 0.
-fn counted(n: usize, views: &[u32; 16]) -> Adoption
+fn counted(n: usize, views: &[u32; 16]) -> Option<u32>
     requires { n ≤ 16 }
-    ensures { (result.decided ≡ adoptable n views.now) × (result.view ≡ adopted_from n views.now) }
+    ensures { result ≡ (if adoptable n views.now then Some (adopted_from n views.now) else None) }
 {
     let all = n as u32;
     let there = present(n, views);
@@ -45,36 +50,46 @@ fn counted(n: usize, views: &[u32; 16]) -> Adoption
         decided = decided & ((all < 2 * one) | (all < 2 * zero));
         view = with_bit(view, j, all < 2 * one);
     }
-    Adoption { decided, view }
+    decided.then_some(view)
 }
 
-// The view word that more than half of all n are, where those that are there are all one; else 0, which says nothing.
-fn common_word(n: usize, views: &[u32; 16]) -> u32
+// The view word that more than half of all n are, where those that are there are all one.
+fn common_word(n: usize, views: &[u32; 16]) -> Option<u32>
     requires { n ≤ 16 }
-    ensures { (result ≡ 0 → ⊥) → n < 2 * count n (λ l. eqb (get_or views.now l 0) result) }
+    ensures { (w : ℕ) → result ≡ Some w → (w ≡ 0 → ⊥) × (n < 2 * count n (λ l. eqb (get_or views.now l 0) w)) }
 {
     let mut word: u32 = 0;
     for l in 0..n {
         word = word | views[l];
     }
-    let mut votes: u32 = 0;
-    for l in 0..n {
-        votes = votes + flag(views[l] == word);
-    }
-    pick((n as u32) < 2 * votes, word, 0)
+    let same = senders(n, views, |w| w == word);
+    ((word != 0) & ((n as u32) < 2 * same)).then_some(word)
 }
 
-// What n view words decide. Where more than half of all n are one word, nothing is counted module by module.
-pub(crate) fn adoption(n: usize, views: &[u32; 16]) -> Adoption
+// The view that n view words decide, if each module has a value that more than half of all n carry. Where more than half are one word, nothing is
+// counted module by module.
+fn adoption(n: usize, views: &[u32; 16]) -> Option<u32>
     requires { n ≤ 16 }
-    ensures { (result.decided ≡ adoptable n views.now) × (result.view ≡ adopted_from n views.now) }
+    ensures { result ≡ (if adoptable n views.now then Some (adopted_from n views.now) else None) }
 {
-    let word = common_word(n, views);
-    if word != 0 {
-        return Adoption {
-            decided: true,
-            view: word % power(n),
-        };
+    if let Some(word) = common_word(n, views) {
+        return Some(word % power(n));
     }
     counted(n, views)
+}
+
+impl Adopted {
+    // After a round that votes on these view words. Where they decide nothing the module takes itself out; out, it stays out, and its adopted view stays.
+    pub(crate) fn after(self, n: usize, voted: &[u32; 16]) -> Adopted
+        requires { n ≤ 16 }
+        ensures { (result.out ≡ self.out || not (adoptable n voted.now))
+            × (result.view ≡ (if self.out || not (adoptable n voted.now) then self.view else adopted_from n voted.now)) }
+    {
+        let found = adoption(n, voted);
+        let out = self.out | found.is_none();
+        Adopted {
+            view: pick(out, self.view, found.unwrap_or(0)),
+            out,
+        }
+    }
 }

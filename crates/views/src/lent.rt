@@ -1,5 +1,6 @@
-// Views on lent arrays, from the words of one saved state to those of the next, as a step from C goes.
-ghost use Rattle.std.specs.Prelude.{◌≡◌, true, cond, ◌+◌, ◌*◌, ◌^◌, ◌≤◌, ◌<◌, length, get_or, ltb};
+// Views on lent arrays, from the words of one saved state to those of the next, as a step from C goes. The array and the numbers are handed on apart:
+// with the struct `Views` in their place, lent, a step took 7 to 9 instructions more.
+ghost use Rattle.std.specs.Prelude.{◌≡◌, true, cond, ◌+◌, ◌*◌, ◌^◌, ◌≤◌, ◌<◌, length, get_or, eqb, ltb};
 ghost use Rattle.words.specs.Word.{word_at};
 ghost use Rattle.words.specs.Bits.{full as full_of};
 ghost use Rattle.words.specs.Array.{array};
@@ -8,11 +9,11 @@ ghost use Rattle.views.specs.ViewWord.{views_read};
 ghost use Rattle.views.specs.Views.{full_views, views_after};
 ghost use Rattle.views.specs.Section.{views_in, view_runs};
 
-use crate::adopt::adoption;
+use crate::Adopted;
 use crate::read::{align_views, read_views};
 use crate::word::view_word;
 use words::array::filled;
-use words::bits::{flag, pick};
+use words::bits::flag;
 use words::word::{put_word, word_at};
 
 // The view words of a saved state, in an array that is lent as zeros.
@@ -25,20 +26,30 @@ pub(crate) fn load_view_words(s: &[u8], n: usize, at: usize, words: &mut [u32; 1
     }
 }
 
+// The adopted view of a saved state, and whether the module is out.
+pub(crate) fn adopted_at(s: &[u8], n: usize, at: usize) -> Adopted
+    requires { (n ≤ 16) × (at < 2 ^ 16) × ((at + n + 4) * 4 ≤ length s.now) }
+    ensures { (result.view ≡ word_at s.now (at + n + 2)) × (result.out ≡ eqb (word_at s.now (at + n + 3)) 1) }
+{
+    Adopted {
+        view: word_at(s, at + n + 2),
+        out: word_at(s, at + n + 3) == 1,
+    }
+}
+
 // Writes the words of the views.
 pub(crate) fn save_view_words(
     n: usize,
     words: &[u32; 16],
     latest: u32,
     earlier: u32,
-    adopted: u32,
-    outside: bool,
+    adopted: Adopted,
     out: &mut [u8],
     at: usize,
 )
     requires { (n ≤ 16) × (at < 2 ^ 16) × ((at + n + 4) * 4 ≤ length out.old) }
     ensures { out.new
-        ≡ put_runs out.old at (view_runs true n latest (record { words = words.entry.now; earlier = earlier; adopted = adopted; out = outside })) }
+        ≡ put_runs out.old at (view_runs true n latest (record { words = words.entry.now; earlier = earlier; adopted = adopted.view; out = adopted.out })) }
 {
     for j in 0..n {
         let w = words[j];
@@ -46,8 +57,8 @@ pub(crate) fn save_view_words(
     }
     put_word(out, at + n, latest);
     put_word(out, at + n + 1, earlier);
-    put_word(out, at + n + 2, adopted);
-    put_word(out, at + n + 3, flag(outside));
+    put_word(out, at + n + 2, adopted.view);
+    put_word(out, at + n + 3, flag(adopted.out));
 }
 
 // Writes the words of full views, as at opening; `full` is the full view.
@@ -56,7 +67,11 @@ pub fn save_full(n: usize, full: u32, out: &mut [u8], at: usize)
     ensures { out.new ≡ put_runs out.old at (view_runs true n full (full_views n)) }
 {
     let words = filled(n, view_word(full));
-    save_view_words(n, &words, full, full, full, false, out, at);
+    let adopted = Adopted {
+        view: full,
+        out: false,
+    };
+    save_view_words(n, &words, full, full, adopted, out, at);
 }
 
 // The views of a saved state, whose words stand from `at` on in s, after a step with this read, written from `to` on in `out`. `local` is the local view
@@ -85,10 +100,6 @@ pub fn agree(
     load_view_words(s, n, at, &mut views);
     read_views(n, read, controller, &mut this);
     align_views(n, split, &mut views, &this);
-    let found = adoption(n, &views);
-    let was = word_at(s, at + n + 2);
-    let last = word_at(s, at + n + 3);
-    let outside = (last == 1) | !found.decided;
-    let adopted = pick(outside, was, found.view);
-    save_view_words(n, &this, latest, local, adopted, outside, out, to);
+    let adopted = adopted_at(s, n, at).after(n, &views);
+    save_view_words(n, &this, latest, local, adopted, out, to);
 }

@@ -12,7 +12,7 @@ pub mod section;
 pub mod word;
 
 // The view words of the last read, kind and all, 0 where one is missing; the local view before the latest; the adopted view; and whether the module
-// has taken itself out. All 0 where the setup is not partitionable.
+// has taken itself out. All 0 where the setup is not partitionable: no Option, since the definitions of a state have these fields.
 #[derive(Clone, Copy)]
 pub struct Views {
     pub words: [u32; 16],
@@ -21,9 +21,9 @@ pub struct Views {
     pub out: bool,
 }
 
-// What view words decide: whether every module has a value that more than half of all n carry, and the view of these values.
+// The adopted view, and whether the module has taken itself out.
 #[derive(Clone, Copy)]
-pub struct Adoption {
-    pub decided: bool,
-    pub view: u32,
+pub(crate) struct Adopted {
+    view: u32,
+    out: bool,
 }

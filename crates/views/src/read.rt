@@ -1,6 +1,6 @@
 // The view words of a read, and their alignment.
 ghost use Rattle.std.specs.Prelude.{◌≡◌, cond, ◌+◌, ◌*◌, ◌≤◌, length, get_or, ltb};
-ghost use Rattle.words.specs.Array.{array, Filled};
+ghost use Rattle.words.specs.Array.{array, replaced};
 ghost use Rattle.views.specs.ViewWord.{read_words, views_read, views_seen};
 
 use crate::word::view_heard;
@@ -43,10 +43,10 @@ pub fn views_seen(partitionable: bool, n: usize, read: &[u8], controller: u32) -
 }
 
 // The view words of the round that is voted on, in `views`, which holds those of the previous read: below `split` they stay, the others are of this
-// read.
+// read. In their place, so that a step from C needs no third array, as the rows have one (`rules::align::aligned_entries`).
 pub(crate) fn align_views(n: usize, split: u32, views: &mut [u32; 16], this: &[u32; 16])
-    requires { (n ≤ 16) × Filled n views.old }
-    ensures { views.new ≡ array n (λ j. cond (ltb j split) (get_or views.old j 0) (get_or this.now j 0)) }
+    requires { n ≤ 16 }
+    ensures { views.new ≡ replaced n (λ j. cond (ltb j split) (get_or views.old j 0) (get_or this.now j 0)) views.old }
 {
     for j in 0..n {
         views[j] = pick((j as u32) < split, views[j], this[j]);

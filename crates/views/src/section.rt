@@ -1,19 +1,19 @@
 // The words of the views at the end of a saved state: tested, read and written. They stand from `at` on.
-ghost use Rattle.std.specs.Prelude.{◌≡◌, true, not, ◌+◌, ◌*◌, ◌^◌, ◌≤◌, ◌<◌, length};
+ghost use Rattle.std.specs.Prelude.{◌≡◌, true, ◌+◌, ◌*◌, ◌^◌, ◌≤◌, ◌<◌, length};
 ghost use Rattle.words.specs.Word.{word_at};
-ghost use Rattle.words.specs.Count.{lowest};
-ghost use Rattle.words.specs.Verdict.{first_refusal, all_right};
+ghost use Rattle.words.specs.Verdict.{each, outcome, first_refusal, all_right};
+ghost use Rattle.words.specs.Refusal.{told};
 ghost use Rattle.words.specs.Runs.{put_runs};
 ghost use Rattle.views.specs.Section.{views_count, view_ok, view_tests, views_in, view_runs, views_roomy};
 
-use crate::Views;
-use crate::lent::{load_view_words, save_view_words};
+use crate::lent::{adopted_at, load_view_words, save_view_words};
 use crate::word::view_heard;
-use words::Verdict;
+use crate::{Adopted, Views};
 use words::array::bounded;
 use words::bits::power;
-use words::check::{accept, refusal};
+use words::check::{each, single};
 use words::word::word_at;
+use words::{Number, Refusal};
 
 // The most that a word holds, and one more than a vector does.
 const MOST_WORD: u32 = 4294967295;
@@ -41,46 +41,25 @@ fn view_ok(n: usize, w: u32) -> bool
     (w == 0) | view_heard(n, w)
 }
 
-// One more than the first view word that is wrong, or 0.
-fn wrong_view(s: &[u8], n: usize, at: usize) -> usize
+// Number 8 at the first view word that is wrong.
+fn check_view_words(s: &[u8], n: usize, at: usize) -> Result<(), Refusal>
     requires { (n ≤ 16) × (at < 2 ^ 16) × ((at + n) * 4 ≤ length s.now) }
-    ensures { (result ≡ lowest n (λ j. not (view_ok n (word_at s.now (at + j))))) × (result ≤ n) }
+    ensures { told result ≡ outcome (each n (λ j. view_ok n (word_at s.now (at + j))) 8 at) }
 {
-    let mut j: usize = 0;
-    loop {
-        if n <= j {
-            break 0;
-        }
-        if !view_ok(n, word_at(s, at + j)) {
-            break j + 1;
-        }
-        j += 1;
-    }
+    each(n, |j| view_ok(n, word_at(s, at + j)), Number::Image, at)
 }
 
 // Number 8; `view` is that of the kind 10 word.
-pub fn check_views(s: &[u8], n: usize, view: u32, at: usize) -> Verdict
+pub fn check_views(s: &[u8], n: usize, view: u32, at: usize) -> Result<(), Refusal>
     requires { (n ≤ 16) × (at < 2 ^ 16) × ((at + n + 4) * 4 ≤ length s.now) }
-    ensures { result ≡ first_refusal (view_tests true (word_at s.now) n view at) }
+    ensures { told result ≡ first_refusal (view_tests true (word_at s.now) n view at) }
 {
-    let found = wrong_view(s, n, at);
-    if found != 0 {
-        return refusal(8, (at + found - 1) as u32);
-    }
     let size = power(n);
-    if word_at(s, at + n) != view {
-        return refusal(8, (at + n) as u32);
-    }
-    if size <= word_at(s, at + n + 1) {
-        return refusal(8, (at + n + 1) as u32);
-    }
-    if size <= word_at(s, at + n + 2) {
-        return refusal(8, (at + n + 2) as u32);
-    }
-    if 1 < word_at(s, at + n + 3) {
-        return refusal(8, (at + n + 3) as u32);
-    }
-    accept()
+    check_view_words(s, n, at)?;
+    single(word_at(s, at + n) == view, Number::Image, at + n)?;
+    single(word_at(s, at + n + 1) < size, Number::Image, at + n + 1)?;
+    single(word_at(s, at + n + 2) < size, Number::Image, at + n + 2)?;
+    single(word_at(s, at + n + 3) <= 1, Number::Image, at + n + 3)
 }
 
 // Whether every word is right, in one pass.
@@ -109,35 +88,27 @@ pub fn load_views(s: &[u8], n: usize, at: usize) -> Views
 {
     let mut words = [0u32; 16];
     load_view_words(s, n, at, &mut words);
-    let earlier = word_at(s, at + n + 1);
-    let adopted = word_at(s, at + n + 2);
-    let last = word_at(s, at + n + 3);
+    let adopted = adopted_at(s, n, at);
     Views {
         words,
-        earlier,
-        adopted,
-        out: last == 1,
+        earlier: word_at(s, at + n + 1),
+        adopted: adopted.view,
+        out: adopted.out,
     }
 }
 
 // ---- written
 
 // Writes the views; `latest` is the local view.
-pub fn save_views(n: usize, latest: u32, views: Views, out: &mut [u8], at: usize)
+pub fn save_views(n: usize, latest: u32, views: &Views, out: &mut [u8], at: usize)
     requires { (n ≤ 16) × (at < 2 ^ 16) × ((at + n + 4) * 4 ≤ length out.old) }
-    ensures { out.new ≡ put_runs out.old at (view_runs true n latest views) }
+    ensures { out.new ≡ put_runs out.old at (view_runs true n latest views.now) }
 {
-    let words = views.words;
-    save_view_words(
-        n,
-        &words,
-        latest,
-        views.earlier,
-        views.adopted,
-        views.out,
-        out,
-        at,
-    );
+    let adopted = Adopted {
+        view: views.adopted,
+        out: views.out,
+    };
+    save_view_words(n, &views.words, latest, views.earlier, adopted, out, at);
 }
 
 // Whether the views have room in their words, and nothing stands in what no word shows.

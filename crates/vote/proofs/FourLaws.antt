@@ -1,7 +1,7 @@
 -- Votes taken four at a time: counts, voters and own syndrome from the next four on are those shifted down.
 use Prim.Native.Nat.{ℕ, zero, suc, ◌+◌, ◌-◌, ◌*◌, ◌/◌, ◌%◌, ◌^◌, ◌≤◌, ◌<◌}
 use mathlib.Core.Path.{◌≡◌, refl, sym, ap, ap₂, ◌∙◌}
-use mathlib.Core.Bool.{Bool, true, false, not, ◌&&◌}
+use mathlib.Core.Bool.{true, false, not, ◌&&◌}
 use mathlib.Core.List.{List, [], ◌∷◌}
 use mathlib.Core.Logic.{⊎_elim}
 use native.Mathlib.Omega.{arith}
@@ -10,13 +10,12 @@ use lib.ListN.{get_or}
 use lib.Dec.{eqb, ltb}
 use lib.Pow.{shr-shr}
 use borrow.Author.Tests.{ltb-true, ltb-false}
-use Rattle.words.specs.Bits.{bit, b2n, pack}
+use Rattle.words.specs.Bits.{bit, pack}
 use Rattle.words.proofs.Truth.{which, and_r}
-use Rattle.words.proofs.BitLaws.{pack-low, pack-step, bit_high}
+use Rattle.words.proofs.BitLaws.{pack-low, bit_high}
 use Rattle.words.proofs.CountLaws.{count-le, count-mono}
 use Rattle.vote.specs.Vote.{health_of}
-use Rattle.vote.specs.VoteTable.{vote_table}
-use Rattle.vote.specs.Lanes.{column_of, votes_but, decided_by, Countable, tally_of}
+use Rattle.vote.specs.Lanes.{column_of, decided_by, Countable, tally_of}
 use Rattle.vote.specs.declared.lanes.Tally.{Tally}
 use Rattle.vote.proofs.LaneLaws.{ones-fit, votes-fit, own-counted, health-by, ones-le, ones-by, present-by}
 
@@ -62,23 +61,6 @@ module _ (lanes : List ℕ) (voters at j : ℕ) (e : at % 4 ≡ 0) (h : j < 4) w
 
   pub countable-shifted : (present : ℕ) → Countable present lanes voters (at + j) → Countable present (shifted lanes at) (voters / 2 ^ at) j
   countable-shifted present c = rw (bit-shift voters at j, column-shifted) c
-
--- ---- the first four
-
--- what a vote on one of them asks
-pub asked : {table : List ℕ} {ones : ℕ} (present : ℕ) (lanes : List ℕ) (voters j : ℕ) → table ≡ vote_table → j < 4
-    → ((i : ℕ) → i < 4 → Countable present lanes voters i) → ones ≡ column_of lanes j
-    → (table ≡ vote_table) × (j < 32) × (votes_but present voters j ≤ 15) × (ones ≤ votes_but present voters j) × (b2n (bit voters j) ≤ present)
-asked present lanes voters j t h k e = (t, omega arith, (k j h).1, rw e (k j h).2, (k j h).0)
-
-pub at_most_one : (b : Bool) → b2n b ≤ 1
-at_most_one true = omega arith
-at_most_one false = omega arith
-
-pub four-packed : {a b c d : Bool} {w x y z : ℕ} (f : ℕ → Bool) → a ≡ f 0 → b ≡ f 1 → c ≡ f 2 → d ≡ f 3
-    → w ≡ 0 + b2n a * 2 ^ 0 → x ≡ w + b2n b * 2 ^ 1 → y ≡ x + b2n c * 2 ^ 2 → z ≡ y + b2n d * 2 ^ 3 → z ≡ pack 4 f
-unfolding pack
-four-packed f ea eb ec ed ew ex ey ez = pack-step 3 f (pack-step 2 f (pack-step 1 f (pack-step 0 f refl ea ew) eb ex) ec ey) ed ez
 
 -- ---- the counts of n rows, for sixteen modules
 

@@ -1,38 +1,32 @@
 // The votes on four modules at a time.
 ghost use Rattle.std.specs.Prelude.{◌≡◌, ℕ, ◌+◌, ◌*◌, ◌%◌, ◌^◌, ◌≤◌, ◌<◌};
-ghost use Rattle.words.specs.Bits.{bit, b2n, pack};
-ghost use Rattle.vote.specs.Vote.{decision};
+ghost use Rattle.words.specs.Bits.{pack};
 ghost use Rattle.vote.specs.VoteTable.{vote_table};
-ghost use Rattle.vote.specs.Lanes.{votes_but, decided_by, Countable};
+ghost use Rattle.vote.specs.Lanes.{decided_by, Countable};
 
 use crate::lanes::column;
 use crate::vote_table::decide;
-use words::bits::{bit_at, flag, with_bit};
+use words::bits::{bit_at, flag, from_fn};
 
-// The vote on module j by the rows present and the ones among them. The row of j is not counted.
-fn vote_on(table: &[u8], present: u32, ones: u32, voters: u32, own: u32, j: usize) -> bool
-    requires { (table.now ≡ vote_table) × (j < 32) × (votes_but present voters j ≤ 15)
-        × (ones ≤ votes_but present voters j) × (b2n (bit voters j) ≤ present) }
-    ensures { result ≡ decision (votes_but present voters j) ones (bit own j) }
+// The vote on module j, one of the first four that the lanes count. The row of j is not counted.
+fn vote_on(table: &[u8], present: u32, lanes: &[u32; 4], voters: u32, own: u32, j: usize) -> bool
+    requires { (table.now ≡ vote_table) × (j < 4) × Countable present lanes.now voters j }
+    ensures { result ≡ decided_by present lanes.now voters own j }
 {
     decide(
         table,
         present - flag(bit_at(voters, j)),
-        ones,
+        column(lanes[j], j),
         bit_at(own, j),
     )
 }
 
-// The votes on the first four modules that the lanes count.
+// The votes on these four modules.
 fn four_votes(table: &[u8], present: u32, lanes: [u32; 4], voters: u32, own: u32) -> u32
     requires { (table.now ≡ vote_table) × ((j : ℕ) → j < 4 → Countable present lanes voters j) }
     ensures { result ≡ pack 4 (decided_by present lanes voters own) }
 {
-    let a = vote_on(table, present, column(lanes[0], 0), voters, own, 0);
-    let b = vote_on(table, present, column(lanes[1], 1), voters, own, 1);
-    let c = vote_on(table, present, column(lanes[2], 2), voters, own, 2);
-    let d = vote_on(table, present, column(lanes[3], 3), voters, own, 3);
-    with_bit(with_bit(with_bit(with_bit(0, 0, a), 1, b), 2, c), 3, d)
+    from_fn(4, |j| vote_on(table, present, &lanes, voters, own, j))
 }
 
 // The votes on the four modules from j = at on.

@@ -29,7 +29,8 @@ fn lane(row: u32, k: u32) -> u32
     (row >> k) & 4369
 }
 
-// Counts the votes on all modules.
+// Counts the votes on all modules. The four lanes are four numbers, and not an array that an inner loop goes through: the loop would be no shorter for
+// who reads it, and each number stays in its register.
 pub fn counted(n: usize, voters: u32, rows: &[u32; 16]) -> Tally
     requires { n ≤ 16 }
     ensures { result ≡ tally_of n voters rows.now }

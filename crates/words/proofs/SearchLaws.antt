@@ -2,8 +2,7 @@
 use Rattle.std.proofs.Common.{◌≡◌, ℕ, ◌+◌, ◌-◌, ◌<◌, Bool, true, false, not, List, [], ◌∷◌, ◌++◌, sym, refl, ap, ◌∙◌, ap₂, arith, eq-eqb, ne_eqb}
 use borrow.Author.Tests.{not-true, not-false}
 use Rattle.words.specs.Count.{lowest}
-use Rattle.words.specs.Verdict.{verdict, accepted, Test, single, and_then, outcome, then_tests, first_refusal}
-use Rattle.words.specs.declared.Verdict.{Verdict}
+use Rattle.words.specs.Verdict.{Verdict, verdict, accepted, Test, single, and_then, outcome, then_tests, first_refusal}
 use Rattle.words.proofs.Truth.{cond-true, cond-false}
 use Rattle.words.proofs.VerdictLaws.{and-then-next, and-then-stays, then-join}
 
@@ -29,7 +28,7 @@ module _ (v : Verdict) (t : Test) where
 
 -- ---- a list of tests that begins with one word
 
-refused-stays : (v : Verdict) (ts : List Test) → (v.number ≡ 0 → ⊥) → then_tests v ts ≡ v
+pub refused-stays : (v : Verdict) (ts : List Test) → (v.number ≡ 0 → ⊥) → then_tests v ts ≡ v
 unfolding then_tests
 refused-stays v [] f = refl
 refused-stays v (t ∷ ts) f = ap (λ (x : Verdict). then_tests x ts) (and-then-stays v (outcome t) f) ∙ refused-stays v ts f

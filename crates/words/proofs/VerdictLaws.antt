@@ -2,11 +2,10 @@
 use Rattle.std.proofs.Common.{◌≡◌, ℕ, ◌+◌, ◌-◌, ◌<◌, ◌≤◌, Bool, true, false, cond, not, ◌&&◌, eqb, leb, List, [], ◌∷◌, ◌++◌, sym, refl, ap, ◌∙◌, arith, eq-eqb, ne_eqb, eqb-true, le-leb, leb-true}
 use borrow.Author.Tests.{not-false}
 use Rattle.words.specs.Count.{lowest, all}
-use Rattle.words.specs.Verdict.{verdict, accepted, is_accepted, between, Test, single, and_then, outcome, then_tests, first_refusal, all_right}
-use Rattle.words.specs.declared.Verdict.{Verdict}
+use Rattle.words.specs.Verdict.{Verdict, verdict, accepted, is_accepted, between, Test, single, each, and_then, outcome, then_tests, first_refusal, all_right}
 use Rattle.words.proofs.Truth.{cond-true, cond-false, iff-eq, and_l, and_r, and-true, not-both}
 use Rattle.words.proofs.CountLaws.{all-at, all-intro}
-use Rattle.words.proofs.LowestLaws.{lowest-zero, lowest-empty}
+use Rattle.words.proofs.LowestLaws.{lowest-zero, lowest-empty, lowest-found}
 
 -- every word is right, word by word
 unfoldable pub Passed : List Test → Type 0
@@ -113,6 +112,20 @@ single-refused ok number place f =
     let k : place + 1 - 1 ≡ place = omega arith in
     rw (f, k)
 
+-- a word for each of n
+pub each-right : (n : ℕ) (ok : ℕ → Bool) (number place : ℕ) → ((j : ℕ) → j < n → ok j ≡ true) → outcome (each n ok number place) ≡ accepted
+unfolding outcome
+each-right n ok number place h = cond-true _ _ (eq-eqb _ 0 (lowest-empty (λ j. not (ok j)) n (λ j l. ap not (h j l))))
+
+pub each-wrong : (n : ℕ) (ok : ℕ → Bool) (number place j : ℕ) → j < n → ((k : ℕ) → k < j → ok k ≡ true) → ok j ≡ false
+    → outcome (each n ok number place) ≡ verdict number (place + j)
+unfolding outcome
+each-wrong n ok number place j l h f =
+    let e : j + 1 ≡ lowest n (λ k. not (ok k)) = lowest-found (λ k. not (ok k)) j n (lowest-empty (λ k. not (ok k)) j (λ k m. ap not (h k m))) (ap not f) l in
+    cond-false _ _ (ne_eqb _ 0 (λ (z : lowest n (λ k. not (ok k)) ≡ 0). omega (arith, e)))
+    ∙ ap (λ (x : ℕ). verdict number (place + x - 1)) (sym e)
+    ∙ ap (verdict number) (omega arith)
+
 -- tests accept where all words are right
 pub tests-accept : (ts : List Test) → numbered ts ≡ true → is_accepted (first_refusal ts) ≡ all_right ts
 tests-accept ts h = then-accepts accepted ts h
@@ -142,7 +155,7 @@ tests-ok (t ∷ ts) (p, q) =
 
 -- ---- tests after an answer, and after tests
 
-accepted-then : (v : Verdict) → and_then accepted v ≡ v
+pub accepted-then : (v : Verdict) → and_then accepted v ≡ v
 unfolding and_then
 accepted-then v = refl
 

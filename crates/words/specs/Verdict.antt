@@ -2,7 +2,11 @@
 -- (document 01, "Answers and their order")
 use Rattle.std.specs.Prelude.{ℕ, ◌+◌, ◌-◌, Bool, true, cond, not, ◌&&◌, List, [], ◌∷◌, ◌==◌, nat_le}
 use Rattle.words.specs.Count.{lowest, all}
-use Rattle.words.specs.declared.Verdict.{Verdict}
+
+-- the number of a refusal and the index of its word; 0 and 0 where nothing is refused
+pub record Verdict : Type 0 where
+  pub number : ℕ
+  pub index : ℕ
 
 -- a number and an index
 abbrev pub verdict : ℕ → ℕ → Verdict

@@ -9,11 +9,11 @@ use Rattle.accounts.proofs.round.counters.Given as goal
 
 abbrev pub invariant-loop-j : goal.invariant-loop-j
 invariant-loop-j l =
-    (l.n ≡ l.setup.n) × (l.limits ≡ l.setup.limits) × (l.j ≤ l.n) × (l.view ≡ pack l.j (λ k. (accounted_at l.setup l.health l.c k).present))
+    (l.j ≤ l.setup.n) × (l.view ≡ pack l.j (λ k. (accounted_at l.setup l.health l.c k).present))
     × (l.penalty ≡ array l.j (λ k. (accounted_at l.setup l.health l.c k).penalty))
     × (l.reward ≡ array l.j (λ k. (accounted_at l.setup l.health l.c k).reward))
     × (l.score ≡ doubles l.j (λ k. (accounted_at l.setup l.health l.c k).score))
     × (l.returns ≡ array l.j (λ k. (accounted_at l.setup l.health l.c k).returns))
 
 abbrev pub decreases-loop-j : goal.decreases-loop-j
-decreases-loop-j l = l.n - l.j
+decreases-loop-j l = l.setup.n - l.j

@@ -1,8 +1,13 @@
 -- Rule 1 says which of the two views is meant.
-use Rattle.backplane.proofs.PlayLaws.{counting-made}
+use Rattle.std.proofs.Common.{sym, ◌∙◌}
+use Rattle.words.proofs.Truth.{cond-true, cond-false}
+use Rattle.backplane.specs.Play.{counting_view}
 use Rattle.backplane.proofs.Backplane.counting.Goals as goal
 
-pub returns : goal.returns
-returns c =
-    counting-made _ _ c.pick.ensures c.is_skewed-skew.ensures c.followers_view.ensures
-    c.followers_view-2.ensures
+pub returns-then-is_skewed : goal.returns-then-is_skewed
+unfolding counting_view
+returns-then-is_skewed c = c.followers_view.ensures ∙ sym (cond-true _ _ (sym c.is_skewed.ensures ∙ c.if-is_skewed.true))
+
+pub returns-else-is_skewed : goal.returns-else-is_skewed
+unfolding counting_view
+returns-else-is_skewed c = c.followers_view-else-is_skewed.ensures ∙ sym (cond-false _ _ (sym c.is_skewed.ensures ∙ c.if-is_skewed.false))

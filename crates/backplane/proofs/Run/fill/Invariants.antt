@@ -1,13 +1,13 @@
--- After m turns the lines of the next m rounds are written.
-use Prim.Native.Nat.{◌-◌, ◌*◌, ◌≤◌}
+-- After m turns the lines of the next m rounds are added.
+use Prim.Native.Nat.{◌+◌, ◌*◌, ◌≤◌}
 use mathlib.Core.Path.{◌≡◌}
-use Rattle.text.specs.Wrote.{Wrote}
+use mathlib.Core.List.{◌++◌}
+use lib.ListN.{length}
 use Rattle.backplane.specs.Run.{later}
 use Rattle.backplane.specs.Output.{next_lines}
 use Rattle.backplane.proofs.Run.fill.Given as goal
 
 abbrev pub invariant-loop : goal.invariant-loop
-invariant-loop l = (l.run ≡ later l.s l.initial.run l.counter) × (l.counter ≤ 64) × (l.at ≤ l.counter * 832) × Wrote l.initial.out 0 (next_lines l.s l.initial.run l.counter) l.out l.at
-
-abbrev pub decreases-loop : goal.decreases-loop
-decreases-loop l = 64 - l.counter
+invariant-loop g l =
+    (l.run ≡ later l.s l.initial.run l.counter) × (l.counter ≤ 64) × (l.out.items ≡ l.initial.out.items ++ next_lines l.s l.initial.run l.counter)
+    × (length l.out.items ≤ length l.initial.out.items + l.counter * 832)

@@ -1,23 +1,21 @@
-use mathlib.Core.Path.{◌≡◌, ap}
-use native.Mathlib.Omega.{arith}
-use lib.ListN.{replicate}
+use Rattle.std.proofs.Common.{◌≡◌, ap, ◌∙◌, arith, replicate}
 use Rattle.words.specs.Table.{updated}
 use Rattle.words.proofs.TableLaws.{updated-step}
-use Rattle.presence.specs.declared.Opened.{Opened}
+use Rattle.presence.specs.declared.State.{State}
 use Rattle.backplane.specs.Play.{opened_states}
+use Rattle.backplane.proofs.PlayLaws.{opened-or}
 use Rattle.backplane.proofs.play.opened_states.Goals as goal
 
 pub loop-i-init : goal.loop-i-init
 unfolding updated
-loop-i-init c = (omega arith, ap (λ (o : Opened). replicate 16 o.state) c.open-first.ensures)
+loop-i-init c = ap (λ (s : State). replicate 16 s) (opened-or c.open.result c.unwrap_or-states.ensures c.blank.ensures c.open.ensures)
 
 pub loop-i-preserved : goal.loop-i-preserved
 loop-i-preserved c =
-    let l = c.loop-i in
-    (omega arith, updated-step _ _ _ l.invariant.1 (ap (λ (o : Opened). o.state) c.open-one.ensures))
+    updated-step _ _ _ c.loop-i.invariant (opened-or c.open-in-loop-i.result c.unwrap_or.ensures c.blank-in-loop-i.ensures c.open-in-loop-i.ensures)
 
 pub returns : goal.returns
 unfolding opened_states
 returns c =
     let e : c.loop-i.i ≡ c.args.setup.n = omega arith in
-    rw e at c.loop-i.invariant.1
+    rw e at c.loop-i.invariant

@@ -1,30 +1,19 @@
-use Prim.Native.Nat.{◌%◌, ◌^◌, ◌<◌, ℕ}
-use mathlib.Core.Path.{◌≡◌, refl, ap, ◌∙◌}
-use native.Mathlib.Omega.{arith}
-use lib.ListN.{length}
-use Rattle.words.specs.Array.{array}
-use Rattle.words.proofs.ArrayLaws.{array-step, array-end}
+-- Entry j is made of the state of module j + 1, which is there.
+use Rattle.std.proofs.Common.{◌≡◌, ℕ, ◌%◌, ◌^◌, ap, arith, rules, tests}
+use lib.ListN.{get_or}
 use Rattle.words.proofs.TableLaws.{get_or-there}
 use Rattle.rules.specs.Hearing.{bus_word}
 use Rattle.presence.specs.Opening.{blank}
 use Rattle.presence.specs.declared.State.{State}
-use Rattle.backplane.specs.Play.{sent_words}
+use Rattle.backplane.specs.Play.{state_at, sent_words}
 use Rattle.backplane.proofs.play.sent_words.Goals as goal
-
-pub loop-j-init : goal.loop-j-init
-unfolding array
-loop-j-init c = (omega arith, refl)
-
-pub loop-j-preserved : goal.loop-j-preserved
-loop-j-preserved c =
-    let l = c.loop-j in
-    let a = c.args in
-    let h : l.j < length a.states = omega arith in
-    let e = ap (λ (s : State). s.latest) (get_or-there a.states l.j _ blank h) in
-    (omega arith, array-step _ _ l.invariant.1 (c.bus_word.ensures ∙ ap (λ (x : ℕ). bus_word (x % 2 ^ 28)) (c.latest.ensures ∙ e)))
 
 pub returns : goal.returns
 unfolding sent_words
 returns c =
-    let e : c.loop-j.j ≡ c.args.n = omega arith in
-    array-end _ e c.loop-j.invariant.1
+    let states = c.args.states.now in
+    c.from_fn.ensures (λ j. bus_word ((state_at states j).latest % 2 ^ 28))
+    (λ j w l p.
+    let there : (d : State) → (get_or states j d).latest ≡ (get_or states j blank).latest =
+    λ d. ap (λ (s : State). s.latest) (get_or-there states j d blank (omega arith)) in
+    search (rules, tests, there))

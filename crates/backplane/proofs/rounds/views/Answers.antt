@@ -1,27 +1,18 @@
-use Prim.Native.Nat.{◌<◌}
-use mathlib.Core.Path.{◌≡◌, refl, ap, ◌∙◌}
-use native.Mathlib.Omega.{arith}
-use lib.ListN.{length}
-use Rattle.words.specs.Array.{array}
-use Rattle.words.proofs.ArrayLaws.{array-step, array-end}
+-- Entry i is made of the state of module i + 1, which is there.
+use Rattle.std.proofs.Common.{◌≡◌, ℕ, ap, arith, rules, tests}
+use lib.ListN.{get_or}
 use Rattle.words.proofs.TableLaws.{get_or-there}
 use Rattle.presence.specs.Opening.{blank}
 use Rattle.presence.specs.Shown.{shown_view}
+use Rattle.presence.specs.declared.State.{State}
+use Rattle.backplane.specs.Play.{state_at}
 use Rattle.backplane.proofs.rounds.views.Goals as goal
-
-pub loop-i-init : goal.loop-i-init
-unfolding array
-loop-i-init c = (omega arith, refl)
-
-pub loop-i-preserved : goal.loop-i-preserved
-loop-i-preserved c =
-    let l = c.loop-i in
-    let a = c.args in
-    let h : l.i < length a.states = omega arith in
-    let e = ap shown_view (get_or-there a.states l.i _ blank h) in
-    (omega arith, array-step _ _ l.invariant.1 (c.shown.ensures ∙ e))
 
 pub returns : goal.returns
 returns c =
-    let e : c.loop-i.i ≡ c.args.n = omega arith in
-    array-end _ e c.loop-i.invariant.1
+    let states = c.args.states.now in
+    c.from_fn.ensures (λ i. shown_view (state_at states i))
+    (λ i w l p.
+    let there : (d : State) → shown_view (get_or states i d) ≡ shown_view (get_or states i blank) =
+    λ d. ap shown_view (get_or-there states i d blank (omega arith)) in
+    search (rules, tests, there))

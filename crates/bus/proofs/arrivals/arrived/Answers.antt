@@ -4,4 +4,4 @@ use Rattle.bus.proofs.arrivals.arrived.Goals as goal
 
 pub returns : goal.returns
 returns c =
-    arrived-by _ _ _ _ c.arrived_bits-bits.ensures c.arrived_words-words.ensures c.arrived_words-views.ensures
+    arrived-by _ _ _ _ c.arrived_bits.ensures c.arrived_words.ensures c.arrived_words-2.ensures

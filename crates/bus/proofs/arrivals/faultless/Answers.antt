@@ -13,5 +13,4 @@ view_word-requires c =
 
 pub returns : goal.returns
 returns c =
-    faultless-by _ c.full_of-ones.ensures c.filled-bits.ensures c.bus_word.ensures c.repeated-words.ensures
-    c.view_word.ensures c.repeated-views.ensures
+    faultless-by _ c.full_of-ones.ensures c.filled.ensures c.bus_word.ensures c.view_word.ensures

@@ -1,23 +1,19 @@
-use mathlib.Core.Path.{refl, sym, ap, ◌∙◌}
-use mathlib.Core.Bool.{not}
-use native.Mathlib.Omega.{arith}
-use Rattle.words.specs.Count.{lowest}
-use Rattle.words.proofs.LowestLaws.{lowest-none, lowest-found, lowest-ends}
+-- The first number that is none of the cast.
+use Rattle.std.proofs.Common.{◌≡◌, ℕ, ◌-◌, Option, Some, None, unwrap_or, Bool, true, false, sym, ap, ◌∙◌, arith, rules, tests}
+use Rattle.std.proofs.lemmas.Iterator.{first_from_Range}
+use Rattle.words.specs.Count.{lowest, found_of}
+use Rattle.words.proofs.LowestLaws.{found-lowest}
+use Rattle.agreement.specs.Fault.{follows_in, first_follower}
 use Rattle.bus.proofs.half_heard.first_follower.Goals as goal
 
-pub loop-i-init : goal.loop-i-init
-unfolding lowest
-loop-i-init c = (omega arith, refl)
+first : (l : ℕ) (r : Option ℕ) → found_of r ≡ l → unwrap_or r 0 ≡ l - 1
+first l None e = omega arith
+first l (Some i) e = omega arith
 
-pub loop-i-preserved : goal.loop-i-preserved
-loop-i-preserved c = (omega arith, lowest-none _ _ c.loop-i.invariant.1 (sym (ap not c.bit_at.ensures) ∙ c.if-not-bit_at.false-raw))
-
-pub returns-then-n-i : goal.returns-then-n-i
-returns-then-n-i c =
-    let e = lowest-ends _ _ _ c.loop-i.invariant.1 c.loop-i.invariant.0 c.if-n-i.true in
-    omega (arith, e)
-
-pub returns-then-not-bit_at : goal.returns-then-not-bit_at
-returns-then-not-bit_at c =
-    let e = lowest-found _ _ _ c.loop-i.invariant.1 (sym (ap not c.bit_at.ensures) ∙ c.if-not-bit_at.true-raw) c.if-n-i.false in
-    omega (arith, e)
+pub returns : goal.returns
+returns c =
+    let p : ℕ → Bool = follows_in c.args.cast in
+    c.unwrap_or.ensures ∙ first _ c.find.result (found-lowest c.args.n p _
+    (first_from_Range _ _ _ _ (λ i. p i ≡ true) (λ i. p i ≡ false) c.find.ensures.ran
+    (λ x q k. search (rules, tests))
+    (λ x q k. (search rules, search (rules, tests)))))

@@ -2,6 +2,7 @@
 use mathlib.Core.Path.{ap, ◌∙◌}
 use mathlib.Core.Bool.{Bool, cond}
 use Rattle.rules.specs.Hearing.{is_heard, entry_of}
+use Rattle.rules.proofs.ReceptionLaws.{ok-heard}
 use Rattle.bus.specs.Heard.{heard_word}
 use Rattle.bus.proofs.half_heard.heard_word.Goals as goal
 
@@ -9,4 +10,4 @@ pub returns : goal.returns
 unfolding heard_word entry_of
 returns c =
     let a = c.args in
-    c.pick.ensures ∙ ap (λ (b : Bool). cond b a.w 0) (c.is_heard.ensures ∙ ap is_heard c.receive-r.ensures)
+    c.pick.ensures ∙ ap (λ (b : Bool). cond b a.w 0) (c.is_ok.ensures.value ∙ ok-heard _ ∙ ap is_heard c.receive.ensures)

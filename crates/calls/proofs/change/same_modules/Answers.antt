@@ -1,20 +1,16 @@
-use Prim.Native.Nat.{ℕ, ◌/◌}
-use mathlib.Core.Path.{refl, ap₂}
-use native.Mathlib.Omega.{arith}
-use lib.Dec.{eqb}
-use Rattle.words.specs.Count.{all}
-use Rattle.words.proofs.CountLaws.{all-step, all_end}
+-- The words of each module are compared.
+use Rattle.std.proofs.Common.{◌≡◌, ℕ, ◌+◌, ◌/◌, Bool, true, false, eqb, refl, arith, rules, tests}
+use Rattle.std.proofs.lemmas.Iterator.{YieldsList-from_range, cases_from_all}
+use Rattle.words.specs.Word.{word_at}
 use Rattle.setup.specs.Setup.{place_unit}
+use Rattle.calls.proofs.FrameWordLaws.{all-told}
 use Rattle.calls.proofs.change.same_modules.Goals as goal
 
-pub loop-j-init : goal.loop-j-init
-unfolding all
-loop-j-init c = (omega arith, refl)
-
-pub loop-j-preserved : goal.loop-j-preserved
-loop-j-preserved c =
-    let i = c.loop-j.invariant in
-    (omega arith, all-step _ _ i.1 (ap₂ (λ (a b : ℕ). eqb (a / place_unit) (b / place_unit)) c.word_at-a.ensures c.word_at-b.ensures))
-
 pub returns : goal.returns
-returns c = all_end _ (omega arith) c.loop-j.invariant.1
+returns c =
+    let a = c.args in
+    let p : ℕ → Bool = λ j. eqb (word_at a.image.now (3 + j) / place_unit) (word_at a.bytes.now (3 + j) / place_unit) in
+    all-told a.n p _
+    (cases_from_all _ _ _ (λ i. p i ≡ true) (λ i. p i ≡ false) c.all.ensures.ran (YieldsList-from_range 0 a.n a.n refl (omega arith))
+    (λ x q k. (search rules, search (rules, tests)))
+    (λ x q k. search (rules, tests)))

@@ -8,7 +8,7 @@ returns c =
     let criticality = c.args.new.criticality in
     λ i. record {
       left = c.args.lead;
-      p = c.penalty_limit-p.ensures i;
-      r = c.reward_limit-r.ensures i;
+      p = c.counting_limits-p.ensures.0 i;
+      r = c.counting_limits-p.ensures.1 i;
       criticality = criticality;
     }

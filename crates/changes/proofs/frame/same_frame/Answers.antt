@@ -6,4 +6,4 @@ pub returns : goal.returns
 returns c =
     let a = c.args in
     frame-by a.setup a.new c.fades.ensures
-    c.fades-2.ensures c.same_places.ensures
+    c.fades-2.ensures c.same_places-places.ensures

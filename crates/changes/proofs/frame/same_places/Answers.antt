@@ -1,17 +1,9 @@
-use mathlib.Core.Path.{refl}
-use native.Mathlib.Omega.{arith}
-use Rattle.words.specs.Count.{all}
-use Rattle.words.proofs.CountLaws.{all-step, all_end}
+-- The first n entries, as lists.
+use Rattle.std.proofs.Common.{arith}
+use Rattle.changes.proofs.PendingLaws.{same-entries}
 use Rattle.changes.proofs.frame.same_places.Goals as goal
 
-pub loop-j-init : goal.loop-j-init
-unfolding all
-loop-j-init c = (omega arith, refl)
-
-pub loop-j-preserved : goal.loop-j-preserved
-loop-j-preserved c =
-    let i = c.loop-j.invariant in
-    (omega arith, all-step _ _ i.1 refl)
-
 pub returns : goal.returns
-returns c = all_end _ (omega arith) c.loop-j.invariant.1
+returns c =
+    let a = c.args in
+    same-entries a.n a.a.now a.b.now (omega (arith, c.told-a)) (omega (arith, c.told-b)) c.eq.ensures

@@ -1,6 +1,6 @@
 -- The criticalities are read, then the counters adjusted to them.
 use native.Mathlib.Omega.{arith}
-use Rattle.changes.proofs.AdjustedArrays.{read_small, turned-lent}
+use Rattle.changes.proofs.AdjustedArrays.{read_small}
 use Rattle.changes.proofs.lent.turn.Goals as goal
 
 pub adjust-requires : goal.adjust-requires
@@ -11,10 +11,3 @@ adjust-requires c = (
   c.requires.4,
   c.requires.5,
 )
-
-pub returns : goal.returns
-returns c =
-    let a = c.args in
-    turned-lent a.s.now a.n a.at a.view a.penalty.now a.reward.now
-    c.word_at-p.ensures c.word_at-r.ensures
-    c.load_criticality.ensures c.adjust.ensures

@@ -1,34 +1,28 @@
 -- The rounds left, then the new words, of which there are none where nothing is left.
-use borrow.Author.Tests.{not-true, not-false}
+use Rattle.std.proofs.Common.{rules, arith, ◌≡◌, Err, ap, ◌∙◌, ℕ, ◌+◌}
 use Rattle.words.specs.Word.{word_at}
-use Rattle.changes.proofs.SectionTests.{left-wrong, none-new, new-found, new_none, room-new}
+use Rattle.words.specs.Verdict.{outcome, each}
+use Rattle.words.specs.Refusal.{told}
+use Rattle.words.proofs.RefusalLaws.{first-stops, first-goes, first-last, single-by}
+use Rattle.changes.specs.Words.{new_count, left_ok, new_test}
+use Rattle.changes.proofs.SectionTests.{new-most}
 use Rattle.changes.proofs.section.check_change.Goals as goal
 
--- src/section.rt:91:9
-pub returns-then-not-left_ok : goal.returns-then-not-left_ok
-returns-then-not-left_ok c =
+pub returns-in_err-single : goal.returns-in_err-single
+returns-in_err-single c =
     let a = c.args in
-    left-wrong a.fades (word_at a.s.now) a.n a.at c.word_at-left.ensures c.left_ok.ensures (not-true _ c.if-not-left_ok.true-raw) c.refusal.ensures
+    let q : c.from_residual.result ≡ Err c.in_err-single.field-0.0 = search rules in
+    ap told q ∙ first-stops _ _ (single-by 8 a.at (c.left_ok.ensures ∙ ap (left_ok a.fades) c.word_at-left.ensures) c.single.ensures) c.in_err-single.was
 
--- src/section.rt:94:9
-pub returns-then-left-eq0 : goal.returns-then-left-eq0
-returns-then-left-eq0 c =
-    let a = c.args in
-    none-new a.fades (word_at a.s.now) a.n a.at c.word_at-left.ensures c.left_ok.ensures (not-false _ c.if-not-left_ok.false-raw) c.if-left-eq0.true c.accept.ensures
+pub check_new-requires : goal.check_new-requires
+check_new-requires c =
+    let e = c.new_count.ensures ∙ ap (new_count c.args.n) c.word_at-left.ensures in
+    (omega (arith, c.requires.0, e, new-most c.args.n (word_at c.args.s.now c.args.at)), c.requires.1, omega (arith, c.requires.2, e))
 
--- src/section.rt:96:9
-pub wrong_new-found-requires : goal.wrong_new-found-requires
-wrong_new-found-requires c =
-    (c.requires.0, c.requires.1, room-new (word_at c.args.s.now) c.args.at c.args.n c.word_at-left.ensures c.if-left-eq0.false c.requires.2)
-
--- src/section.rt:98:9
-pub returns-then-found-eq0 : goal.returns-then-found-eq0
-returns-then-found-eq0 c =
-    let a = c.args in
-    new_none a.fades (word_at a.s.now) a.n a.at c.word_at-left.ensures c.left_ok.ensures (not-false _ c.if-not-left_ok.false-raw) c.if-left-eq0.false c.wrong_new-found.ensures.0 c.if-found-eq0.true c.accept-then-found-eq0.ensures
-
--- src/section.rt:85:1
 pub returns : goal.returns
 returns c =
     let a = c.args in
-    new-found a.fades (word_at a.s.now) a.n a.at c.word_at-left.ensures c.left_ok.ensures (not-false _ c.if-not-left_ok.false-raw) c.if-left-eq0.false c.wrong_new-found.ensures.0 c.if-found-eq0.false c.refusal-2.ensures
+    let w = word_at a.s.now in
+    let e = c.new_count.ensures ∙ ap (new_count a.n) c.word_at-left.ensures in
+    first-goes _ _ (single-by 8 a.at (c.left_ok.ensures ∙ ap (left_ok a.fades) c.word_at-left.ensures) c.single.ensures) c.in_ok-single.was
+    (first-last _ (c.check_new.ensures ∙ ap (λ (m : ℕ). outcome (each m (new_test w a.at) 8 (a.at + 1))) e))

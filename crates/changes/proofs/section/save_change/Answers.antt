@@ -1,4 +1,4 @@
-use mathlib.Core.Path.{refl, ◌∙◌}
+use mathlib.Core.Path.{refl}
 use native.Mathlib.Omega.{arith}
 use Rattle.words.specs.Runs.{put_run}
 use Rattle.words.proofs.RunLaws.{put_step}
@@ -13,7 +13,7 @@ put_word-requires c = omega (arith, c.requires.n_bound.3)
 
 pub loop-i-init : goal.loop-i-init
 unfolding put_run
-loop-i-init c = (omega arith, refl, refl)
+loop-i-init c = refl
 
 pub new_word-w-requires : goal.new_word-w-requires
 new_word-w-requires c =
@@ -29,7 +29,7 @@ put_word-requires-in-loop-i c =
       c.requires.n_bound.3,
       c.new_count-many.ensures,
       c.put_word.auto.s,
-      l.invariant.1,
+      l.auto.out,
       c.loop-i-test.true,
     )
 
@@ -37,13 +37,10 @@ pub loop-i-preserved : goal.loop-i-preserved
 loop-i-preserved c =
     let l = c.loop-i in
     let put = c.put_word-in-loop-i in
-    (omega arith, put.auto.s ∙ l.invariant.1, put_step _ _ l.i _ l.invariant.2 put.ensures c.new_word-w.ensures)
-
-pub shape_of-out : goal.shape_of-out
-shape_of-out c = c.loop-i.invariant.1 ∙ c.put_word.auto.s
+    put_step _ _ l.i _ l.invariant put.ensures c.new_word-w.ensures
 
 pub returns : goal.returns
 returns c =
     let a = c.args in
     change-written a.setup a.pending a.out.now a.at c.new_count-many.ensures (omega arith)
-    c.put_word.ensures c.loop-i.invariant.2
+    c.put_word.ensures c.loop-i.invariant

@@ -4,9 +4,9 @@ use Rattle.changes.proofs.turn.turned.Goals as goal
 
 pub returns-then-pending-eq1 : goal.returns-then-pending-eq1
 returns-then-pending-eq1 c =
-    turned-due c.args.books c.if-pending-eq1.true c.renewed-new.ensures
-    c.adjusted_counters-adjusted.ensures c.nothing-none.ensures
+    turned-due c.args.books c.if-pending-eq1.true c.renewed.ensures
+    c.adjusted_counters.ensures c.nothing.ensures
 
 pub returns : goal.returns
 returns c =
-    turned-not c.args.books c.if-pending-eq1.false c.counted_down-next.ensures
+    turned-not c.args.books c.if-pending-eq1.false c.counted_down.ensures

@@ -1,6 +1,5 @@
 -- The parts give what the words hold and the tests of them; joined, the tests are those of the whole check.
 use Rattle.std.proofs.Common.{◌≡◌, ℕ, ◌+◌, ◌*◌, ◌≤◌, Bool, List, sym, refl, ap, ◌∙◌, true≢false, arith}
-use borrow.Author.Tests.{not-true, not-false}
 use Rattle.words.specs.Word.{word_at}
 use Rattle.words.proofs.Truth.{and_l, and_r}
 use Rattle.setup.specs.Layout.{front_words}
@@ -21,8 +20,8 @@ change-room : {front at k : ℕ} (b : Bool) (n : ℕ) (w : ℕ → ℕ) → fron
     → k ≡ image_length (front_words b) n (w (left_at (front_words b) n)) (partitionable_in (w 0)) → (at + 1 + new_count n (w at)) * 4 ≤ k
 change-room b n w e a h = rw (a, e) (omega (arith, h))
 
-pub check_change-change-requires : goal.check_change-change-requires
-check_change-change-requires c =
+pub check_change-requires : goal.check_change-requires
+check_change-requires c =
     let f = c.front_words-front.ensures in
     let e = c.left_at-at.ensures in
     (c.requires.n_bound.0, omega (arith, f.2, c.requires.n_bound.0), change-room c.args.fades c.args.n (word_at c.args.s.now) f.0 e c.requires.n_bound.1)
@@ -50,7 +49,7 @@ pub returns-then-not-limits_right : goal.returns-then-not-limits_right
 returns-then-not-limits_right c =
     let f = c.no_part.ensures in
     let a = c.requires.n_bound in
-    (f ∙ limits-wrong _ _ a.3 refl c.limits_right.ensures (not-true _ c.if-not-limits_right.true-raw), λ t. absurd (true≢false (sym t ∙ f)))
+    (f ∙ limits-wrong _ _ a.3 refl c.limits_right.ensures c.if-not-limits_right.true, λ t. absurd (true≢false (sym t ∙ f)))
 
 pub limits_at-limits-requires : goal.limits_at-limits-requires
 limits_at-limits-requires c =
@@ -61,7 +60,7 @@ load_accounts-right-requires c =
     let q = c.field-q.ensures ∙ ap return_limit_in c.word_at-head.ensures in
     let a = c.requires.n_bound in
     record {
-      n_bound = asked_by _ _ c.args.fades c.limits_at-limits.ensures c.front_words-front.ensures.0 a.0 (omega (arith, a.1)) (sym c.limits_right.ensures ∙ not-false _ c.if-not-limits_right.false-raw) q
+      n_bound = asked_by _ _ c.args.fades c.limits_at-limits.ensures c.front_words-front.ensures.0 a.0 (omega (arith, a.1)) (sym c.limits_right.ensures ∙ c.if-not-limits_right.false) q
           (omega (arith, q, a.4)) c.load_modules-modules.ensures.1 c.load_words-alone.ensures.2;
       first_value = (c.requires.criticality_value.2, c.requires.criticality_value.3, c.requires.criticality_value.4);
     }
@@ -73,7 +72,7 @@ returns c =
     let read = c.load_rows-read in
     let views = c.views_good-views in
     let bit = c.bit_at.ensures in
-    let change = c.check_change-change in
+    let change = c.check_change in
     let left = c.word_at-left.ensures in
     let at = c.left_at-at.ensures in
     let alone = c.load_words-alone in
@@ -84,8 +83,8 @@ returns c =
     let w = word_at c.args.s.now in
     let a = c.requires.n_bound in
     let x = given_by _ _ c.args.fades limits counted.ensures in (
-      limits-fine _ _ a.3 front.ensures.0 c.limits_right.ensures (not-false _ c.if-not-limits_right.false-raw) modules.ensures.0 alone.ensures.0 read.ensures.0 x.0
-          (change-good c.args.fades w _ c.args.n at change.ensures)
+      limits-fine _ _ a.3 front.ensures.0 c.limits_right.ensures c.if-not-limits_right.false modules.ensures.0 alone.ensures.0 read.ensures.0 x.0
+          (change-good _ c.args.fades w _ c.args.n at c.is_ok-change.ensures.value change.ensures)
           (views-good w _ c.args.n (bit ∙ ap partitionable_in head) alone.ensures.2 at left views.ensures),
       λ t.
           let others = and_r modules.result.good _ t in

@@ -9,12 +9,12 @@ use Rattle.lockcalls.proofs.load.axes_in.Goals as goal
 
 pub loop-i-init : goal.loop-i-init
 unfolding updated blank_locks
-loop-i-init c = (omega arith, ap (λ (x : Locks). x.axes) c.blank-none.ensures)
+loop-i-init c = (omega arith, ap (λ (x : Locks). x.axes) c.blank.ensures)
 
 pub loop-i-preserved : goal.loop-i-preserved
 loop-i-preserved c =
     let l = c.loop-i in
-    (omega arith, updated-step _ _ _ l.invariant.1 (c.axis_in-x.ensures ∙ ap axis_in c.word_at.ensures))
+    (omega arith, updated-step _ _ _ l.invariant.1 (c.axis_in.ensures ∙ ap axis_in c.word_at.ensures))
 
 pub returns : goal.returns
 unfolding axes_in

@@ -1,16 +1,9 @@
--- By the check.
-use mathlib.Core.Path.{sym, ap, ◌∙◌}
-use Rattle.words.specs.declared.Verdict.{Verdict}
-use Rattle.lockcalls.proofs.LockCheckLaws.{image-good}
+-- By the reading.
 use Rattle.lockcalls.proofs.LockCallLaws.{joystick-refused, joystick-done}
 use Rattle.lockcalls.proofs.lock_calls.scanlock_joystick.Goals as goal
 
-pub returns-then-v-ne0 : goal.returns-then-v-ne0
-returns-then-v-ne0 c = joystick-refused _ c.check_lock-v.ensures c.if-v-ne0.true c.plain.ensures
+pub returns-in-Ok : goal.returns-in-Ok
+returns-in-Ok c = joystick-done _ _ c.in-Ok.ensures c.answer_with.ensures
 
-pub locks_in-locks-requires : goal.locks_in-locks-requires
-locks_in-locks-requires c = (image-good _ (ap (λ (x : Verdict). x.number) (sym c.check_lock-v.ensures) ∙ c.if-v-ne0.false)).nine
-
-pub returns : goal.returns
-returns c =
-    joystick-done _ c.check_lock-v.ensures c.if-v-ne0.false c.locks_in-locks.ensures c.answer_with.ensures
+pub returns-in-Err : goal.returns-in-Err
+returns-in-Err c = joystick-refused _ _ c.in-Err.ensures c.into.ensures

@@ -1,11 +1,13 @@
 -- By the answer to the opening.
+use Rattle.std.proofs.Common.{ap, ◌∙◌}
+use Rattle.words.specs.Refusal.{refusal_told}
+use Rattle.lockcalls.specs.LockCalls.{answer_by}
 use Rattle.lockcalls.proofs.LockCallLaws.{lock-open-refused, lock-open-done}
 use Rattle.lockcalls.proofs.lock_calls.scanlock_open.Goals as goal
 
-pub returns-then-o-ne0 : goal.returns-then-o-ne0
-returns-then-o-ne0 c =
-    lock-open-refused _ _ c.open-o.ensures c.if-o-ne0.true c.plain.ensures
+pub returns-in-Ok : goal.returns-in-Ok
+returns-in-Ok c = lock-open-done _ _ _ c.in-Ok.ensures c.save_locks.ensures
 
-pub returns : goal.returns
-returns c =
-    lock-open-done _ _ c.open-o.ensures c.if-o-ne0.false c.save_locks.ensures
+pub returns-in-Err : goal.returns-in-Err
+returns-in-Err c =
+    lock-open-refused _ _ _ _ c.in-Err.ensures (c.into.ensures ∙ ap (λ e. answer_by (refusal_told e)) c.at.ensures)

@@ -5,4 +5,4 @@ use Rattle.presence.proofs.State.blank.Goals as goal
 pub returns : goal.returns
 unfolding blank
 returns c =
-    rw (c.blank-setup.ensures, c.zero_counters-counters.ensures, c.nothing-pending.ensures, c.no_views-views.ensures)
+    rw (c.blank.ensures, c.zero_counters.ensures, c.nothing.ensures, c.no_views.ensures)

@@ -1,18 +1,20 @@
 -- The state, then the change.
-use mathlib.Core.Path.{sym, ◌∙◌, ap}
-use Rattle.words.specs.declared.Verdict.{Verdict}
-use Rattle.words.proofs.VerdictLaws.{and-then-stops, and-then-goes}
+use Rattle.std.proofs.Common.{◌≡◌, Err, ap, ◌∙◌, rules}
+use Rattle.words.specs.Refusal.{told}
+use Rattle.words.proofs.RefusalLaws.{told-none, then-stops, then-goes}
 use Rattle.presence.specs.Change.{change_verdict}
+use Rattle.presence.proofs.StateAnswers.{verdict-valid}
 use Rattle.presence.proofs.State.change_verdict.Goals as goal
 
-pub returns-then-v-ne0 : goal.returns-then-v-ne0
+pub returns-in_err-verdict : goal.returns-in_err-verdict
 unfolding change_verdict
-returns-then-v-ne0 c = and-then-stops _ c.verdict-v.ensures c.if-v-ne0.true
+returns-in_err-verdict c =
+    let q : c.from_residual.result ≡ Err c.in_err-verdict.field-0.0 = search rules in
+    ap told q ∙ then-stops _ c.verdict.ensures c.in_err-verdict.was
 
 pub new_verdict-requires : goal.new_verdict-requires
-new_verdict-requires c = ap (λ (v : Verdict). v.number) (sym c.verdict-v.ensures) ∙ c.if-v-ne0.false
+new_verdict-requires c = verdict-valid _ c.verdict.ensures (told-none c.in_ok-verdict.was)
 
 pub returns : goal.returns
 unfolding change_verdict
-returns c =
-    and-then-goes _ c.verdict-v.ensures c.if-v-ne0.false c.new_verdict.ensures
+returns c = then-goes _ c.verdict.ensures c.in_ok-verdict.was c.new_verdict.ensures

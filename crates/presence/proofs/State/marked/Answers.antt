@@ -4,8 +4,8 @@ use Rattle.presence.specs.Step.{mark_of}
 use Rattle.presence.proofs.ValidLaws.{valid-fits}
 use Rattle.presence.proofs.State.marked.Goals as goal
 
-pub overflow_sub-i : goal.overflow_sub-i
-overflow_sub-i c = let f = valid-fits _ c.requires in omega arith
+pub overflow_sub-self : goal.overflow_sub-self
+overflow_sub-self c = let f = valid-fits _ c.requires in omega arith
 
 pub bit_at-requires : goal.bit_at-requires
 bit_at-requires c =

@@ -1,21 +1,28 @@
 -- The setup is tested, then the own number; what passes is a fresh module.
+use Rattle.std.proofs.Common.{◌≡◌, Err, ap, sym, ◌∙◌, rules}
+use Rattle.words.proofs.RefusalLaws.{told-ok, told-on, told-none, then-stops, then-goes}
 use Rattle.setup.proofs.SetupAnswerLaws.{struct-fits}
-use Rattle.presence.proofs.StateRoundLaws.{open-refused, open-other, open_done, not-between, is-between}
+use Rattle.presence.specs.Opening.{check_opening, opened_told}
+use Rattle.presence.proofs.StateRoundLaws.{open-refused, open-done}
 use Rattle.presence.proofs.State.open.Goals as goal
 
-pub returns-then-v-ne0 : goal.returns-then-v-ne0
-returns-then-v-ne0 c = open-refused _ _ c.verdict-v.ensures c.blank-state.ensures c.if-v-ne0.true
+pub returns-in_err-verdict : goal.returns-in_err-verdict
+unfolding check_opening
+returns-in_err-verdict c =
+    let q : c.from_residual.result ≡ Err c.in_err-verdict.field-0.0 = search rules in
+    ap opened_told q ∙ open-refused _ _ _ (then-stops _ c.verdict.ensures c.in_err-verdict.was)
 
-pub returns-then-own-setup : goal.returns-then-own-setup
-returns-then-own-setup c =
-    let a = c.args in
-    open-other _ _ c.verdict-v.ensures c.blank-state-then-own-setup.ensures c.if-v-ne0.false (not-between 1 a.setup.n a.own c.if-own-setup.true)
+pub returns-in_err-single : goal.returns-in_err-single
+unfolding check_opening
+returns-in_err-single c =
+    let q : c.from_residual-in_err-single.result ≡ Err c.in_err-single.field-0.0 = search rules in
+    ap opened_told q
+    ∙ open-refused _ _ _ (then-goes _ c.verdict.ensures c.in_ok-verdict.was (told-on c.in_err-single.was ∙ c.single.ensures))
 
-pub fresh-state-requires : goal.fresh-state-requires
-fresh-state-requires c = (struct-fits _ c.verdict-v.ensures c.if-v-ne0.false).most
+pub fresh-requires : goal.fresh-requires
+fresh-requires c = (struct-fits _ c.verdict.ensures (told-none c.in_ok-verdict.was)).most
 
 pub returns : goal.returns
+unfolding check_opening
 returns c =
-    let a = c.args in
-    let (h, l) = is-between 1 a.setup.n a.own c.if-own-setup.false in
-    open_done _ _ c.verdict-v.ensures c.fresh-state.ensures c.if-v-ne0.false h l
+    open-done _ _ (then-goes _ c.verdict.ensures c.in_ok-verdict.was (sym (told-ok c.in_ok-single.was) ∙ c.single.ensures)) c.fresh.ensures

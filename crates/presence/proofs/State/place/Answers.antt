@@ -5,17 +5,17 @@ use Rattle.presence.specs.Step.{place_of}
 use Rattle.presence.proofs.ValidLaws.{valid-fits}
 use Rattle.presence.proofs.State.place.Goals as goal
 
-pub overflow_sub-i : goal.overflow_sub-i
-overflow_sub-i c = let f = valid-fits _ c.requires in omega arith
+pub overflow_sub-result : goal.overflow_sub-result
+overflow_sub-result c = let f = valid-fits _ c.requires in omega arith
 
-pub offset_bounds-setup-i : goal.offset_bounds-setup-i
-offset_bounds-setup-i c =
+pub offset_bounds-self-self : goal.offset_bounds-self-self
+offset_bounds-self-self c =
     let f = valid-fits _ c.requires in
     let s = f.setup in
     omega arith
 
-pub bounds-setup-i : goal.bounds-setup-i
-bounds-setup-i c =
+pub bounds-self-self : goal.bounds-self-self
+bounds-self-self c =
     let f = valid-fits _ c.requires in
     let s = f.setup in
     omega arith

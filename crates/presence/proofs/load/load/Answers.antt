@@ -1,8 +1,8 @@
 -- The parts give the state and the tests of their words; joined, the tests are those of the whole check.
 use native.Mathlib.Omega.{arith}
 use mathlib.Core.List.{List}
-use mathlib.Core.Path.{◌≡◌, refl, ap, ◌∙◌, sym}
-use mathlib.Core.Bool.{Bool, true≢false}
+use mathlib.Core.Path.{◌≡◌, refl, ap, ◌∙◌}
+use mathlib.Core.Bool.{Bool}
 use Prim.Native.Nat.{ℕ, ◌+◌, ◌*◌, ◌≤◌}
 use borrow.Author.Tests.{not-true, not-false}
 use Rattle.words.proofs.Truth.{and_l, and_r}
@@ -14,7 +14,7 @@ use Rattle.words.specs.Word.{word_at}
 use Rattle.changes.specs.Words.{new_count, pending_in}
 use Rattle.image.proofs.ReadLaws.{change-good}
 use Rattle.image.proofs.LentLaws.{given_by, lent-read}
-use Rattle.presence.proofs.LoadLaws.{state-by, setup-wrong, setup-right, reading-read, limits_of, accounts-asked, views-asked, views-agree, views-read}
+use Rattle.presence.proofs.LoadLaws.{state-by, setup-wrong, setup-right, reading-read, limits_of, accounts-asked, views-asked, views-agree, views-read, loaded-by, none-loaded}
 use Rattle.presence.proofs.load.load.Goals as goal
 
 -- the length, by the number of words before those of the modules
@@ -30,7 +30,7 @@ pub returns-then-not-first : goal.returns-then-not-first
 returns-then-not-first c =
     let f = not-true _ c.if-not-first.true in
     let a = c.requires in
-    (setup-wrong _ _ a.3 refl c.load_setup-first.ensures.0 f, λ t. absurd (true≢false (sym t)))
+    none-loaded _ (setup-wrong _ _ a.3 refl c.load_setup-first.ensures.0 f)
 
 pub load_rows-read-requires : goal.load_rows-read-requires
 load_rows-read-requires c =
@@ -53,8 +53,8 @@ check_change-change-requires c =
     let e = c.left_at-at.ensures in
     (c.requires.0, omega (arith, f.2, c.requires.0, e), change-room c.args.fades c.args.n (word_at c.args.s.now) f.0 e c.requires.1)
 
-pub load_change-pending-requires : goal.load_change-pending-requires
-load_change-pending-requires c =
+pub load_change-requires : goal.load_change-requires
+load_change-requires c =
     let f = c.front_words-front.ensures in
     let e = c.left_at-at.ensures in
     (c.requires.0, omega (arith, f.2, c.requires.0, e), change-room c.args.fades c.args.n (word_at c.args.s.now) f.0 e c.requires.1)
@@ -71,8 +71,8 @@ views_good-agreed-requires c =
     let g = c.load_setup-first.ensures in
     (f.2, c.requires.0, views-asked _ g.1 _ c.args.n c.left_at-at.ensures c.word_at-left.ensures c.args.fades f.0 c.requires.1)
 
-pub views_of-views-requires : goal.views_of-views-requires
-views_of-views-requires c =
+pub views_of-requires : goal.views_of-requires
+views_of-requires c =
     let f = c.front_words-front.ensures in
     let g = c.load_setup-first.ensures in
     (f.2, c.requires.0, views-asked _ g.1 _ c.args.n c.left_at-at.ensures c.word_at-left.ensures c.args.fades f.0 c.requires.1)
@@ -85,15 +85,17 @@ returns c =
     let at : c.front_words-front.result ≡ front_words c.args.fades = c.front_words-front.ensures.0 in
     let g = c.load_setup-first.ensures in
     let a = c.requires in
-    let x = given_by _ _ _ (limits_of _ g.1 a.3 a.2) counted.ensures in (
-      setup-right _ _ a.3 at g.0 (not-false _ c.if-not-first.false) alone.ensures.0 read.ensures.0 x.0
-          (change-good c.args.fades (word_at c.args.s.now) _ c.args.n c.left_at-at.ensures c.check_change-change.ensures)
-          (views-agree _ g.1 _ c.args.n c.left_at-at.ensures c.word_at-left.ensures alone.ensures.2 c.views_good-agreed.ensures),
-      λ t.
-          let arrays = x.1 (and_l counted.result _ (and_r read.result.good _ (and_r alone.result.good _ t))) in
-          let counters = c.lent_counters-counters.ensures ∙ lent-read _ _ _ a.0 (rw at at alone.ensures.2) arrays.0 arrays.1 arrays.2 in
-          let previous = reading-read _ _ _ read.ensures.1 read.ensures.2 in
-          let pending = c.load_change-pending.ensures ∙ ap (pending_in c.args.s.now c.args.n) (c.left_at-at.ensures ∙ ap (λ (k : ℕ). left_at k c.args.n) at) in
-          state-by _ a.2 a.3 g.1 (rw at at alone.ensures.1) counters (rw at at previous) (rw at at alone.ensures.3) (rw at at alone.ensures.4) pending
-          (views-read _ g.1 _ c.args.n c.left_at-at.ensures c.word_at-left.ensures c.args.fades at c.views_of-views.ensures),
-    )
+    let x = given_by _ _ _ (limits_of _ g.1 a.3 a.2) counted.ensures in
+    let good = setup-right _ _ a.3 at g.0 (not-false _ c.if-not-first.false) alone.ensures.0 read.ensures.0 x.0
+    (change-good _ c.args.fades (word_at c.args.s.now) _ c.args.n c.left_at-at.ensures c.is_ok.ensures.value c.check_change-change.ensures)
+    (views-agree _ g.1 _ c.args.n c.left_at-at.ensures c.word_at-left.ensures alone.ensures.2 c.views_good-agreed.ensures)
+    in
+    loaded-by good
+    (λ t.
+    let arrays = x.1 (and_l counted.result _ (and_r read.result.good _ (and_r alone.result.good _ t))) in
+    let counters = c.lent_counters.ensures ∙ lent-read _ _ _ a.0 (rw at at alone.ensures.2) arrays.0 arrays.1 arrays.2 in
+    let previous = reading-read _ _ _ read.ensures.1 read.ensures.2 in
+    let pending = c.load_change.ensures ∙ ap (pending_in c.args.s.now c.args.n) (c.left_at-at.ensures ∙ ap (λ (k : ℕ). left_at k c.args.n) at) in
+    state-by _ a.2 a.3 g.1 (rw at at alone.ensures.1) counters (rw at at previous) (rw at at alone.ensures.3) (rw at at alone.ensures.4) pending
+    (views-read _ g.1 _ c.args.n c.left_at-at.ensures c.word_at-left.ensures c.args.fades at c.views_of.ensures))
+    c.then_some.ensures

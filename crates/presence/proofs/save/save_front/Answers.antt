@@ -37,8 +37,8 @@ setup_length-k-requires c =
     let m = (verdict-fits _ c.requires.0).most in
     (c.front_words-front.ensures.2, omega arith)
 
-pub left_at-at-requires : goal.left_at-at-requires
-left_at-at-requires c =
+pub left_at-requires : goal.left_at-requires
+left_at-requires c =
     (c.front_words-front.ensures.2, (verdict-fits _ c.requires.0).most)
 
 pub first_of-first-requires : goal.first_of-first-requires
@@ -97,7 +97,7 @@ save_change-requires c =
     whole c.write_words.new.out c.args.out.now c.setup_length-k.result _ c.write_words.auto.out (omega (arith, k, c.requires.2)) c.requires.2
     in
     let kept = c.save_accounts.auto.out ∙ c.save_sections.auto.out ∙ written in
-    let place = c.left_at-at.ensures in
+    let place = c.left_at.ensures in
     let front = c.front_words-front.ensures.0 in
     record { n_bound = (l.most, pending-roomy c.args.state.setup.n c.args.state.pending m.pending, omega (arith, place, l.most, c.front_words-front.ensures.2), omega (arith, kept, place, front)); by_index = place-small c.args.state.setup (fits-room c.args.state.setup l) }
 
@@ -110,7 +110,7 @@ returns c =
     let written = accounts-written c.fades-form.result st.setup.n st.own st.counters.view st.previous st.latest st.earlier
     c.first_of-first.result c.second_of-second.result st.counters.returns _ c.save_sections.ensures c.save_accounts.ensures
     in
-    let place = c.left_at-at.ensures ∙ ap (λ (x : ℕ). left_at x st.setup.n) c.front_words-front.ensures.0 in
+    let place = c.left_at.ensures ∙ ap (λ (x : ℕ). left_at x st.setup.n) c.front_words-front.ensures.0 in
     let changed = c.save_change.ensures ∙ ap₂ (λ (x : List ℕ) (i : ℕ). put_runs x i (change_runs st.setup st.pending)) written place in
     let front : List ℕ → ℕ → List ℕ =
     λ x i. put_runs (put_runs (x ++ drop i c.args.out.now) (own_at (front_of st.setup) st.setup.n) (section_runs (fades st.setup.limits) st.setup.n st.own st.counters st.previous st.latest st.earlier))

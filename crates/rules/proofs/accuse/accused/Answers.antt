@@ -1,7 +1,6 @@
 -- A clean row is not accused; of any other the number is searched.
-use mathlib.Core.Path.{◌∙◌, sym}
-use native.Mathlib.Omega.{arith}
-use Rattle.words.proofs.LowestLaws.{lowest-le}
+use Rattle.std.proofs.Common.{◌∙◌, sym, arith}
+use Rattle.words.proofs.LowestLaws.{found-le}
 use Rattle.rules.specs.Accusation.{differs_at}
 use Rattle.rules.proofs.AccusationLaws.{clean-unaccused, unclean-accused}
 use Rattle.rules.proofs.accuse.accused.Goals as goal
@@ -14,10 +13,19 @@ returns-then-clean c =
 pub overflow_cast-result : goal.overflow_cast-result
 overflow_cast-result c =
     let a = c.args in
-    omega (arith, c.accusation.ensures, lowest-le (differs_at a.row a.health a.j) a.n)
+    omega (arith, found-le a.n (differs_at a.row a.health a.j) c.in-Some.ensures)
 
-pub returns : goal.returns
-returns c =
+pub overflow_add-result : goal.overflow_add-result
+overflow_add-result c =
     let a = c.args in
-    c.accusation.ensures
-    ∙ sym (unclean-accused a.n a.voters a.row a.health a.j (sym c.clean.ensures ∙ c.if-clean.false))
+    omega (arith, found-le a.n (differs_at a.row a.health a.j) c.in-Some.ensures)
+
+pub returns-in-Some : goal.returns-in-Some
+returns-in-Some c =
+    let a = c.args in
+    c.in-Some.ensures ∙ sym (unclean-accused a.n a.voters a.row a.health a.j (sym c.clean.ensures ∙ c.if-clean.false))
+
+pub returns-in-None : goal.returns-in-None
+returns-in-None c =
+    let a = c.args in
+    c.in-None.ensures ∙ sym (unclean-accused a.n a.voters a.row a.health a.j (sym c.clean.ensures ∙ c.if-clean.false))

@@ -1,12 +1,10 @@
-use mathlib.Core.Path.{refl, ap, ap₂, ◌∙◌}
+use mathlib.Core.Path.{refl}
 use native.Mathlib.Omega.{arith}
 use Rattle.words.specs.Bits.{pack}
 use Rattle.words.specs.Array.{array}
 use Rattle.words.proofs.BitLaws.{pack-step, packed_lt}
 use Rattle.words.proofs.ArrayLaws.{array-step}
-use Rattle.rules.specs.declared.Entry.{Entry}
-use Rattle.rules.specs.Hearing.{entry_of}
-use Rattle.rules.proofs.ReceptionLaws.{reading-by}
+use Rattle.rules.proofs.ReceptionLaws.{reading-by, heard-of, row_of}
 use Rattle.rules.proofs.hearing.reading.Goals as goal
 
 pub loop-j-init : goal.loop-j-init
@@ -18,12 +16,10 @@ with_bit-heard-requires c = (packed_lt _ _ c.loop-j.invariant.1, omega arith)
 
 pub loop-j-preserved : goal.loop-j-preserved
 loop-j-preserved c =
-    let a = c.args in
-    let q = c.entry-e.ensures
-    ∙ ap₂ (λ b w. entry_of a.n b w) c.bit_at.ensures c.word_at.ensures in (
+    let i = c.loop-j.invariant in (
       omega arith,
-      pack-step _ _ c.loop-j.invariant.1 (ap (λ (x : Entry). x.heard) q) c.with_bit-heard.ensures,
-      array-step _ _ c.loop-j.invariant.2 (ap (λ (x : Entry). x.row) q),
+      pack-step _ _ i.1 (heard-of _ _ _ c.received-r.ensures c.is_ok.ensures.value) c.with_bit-heard.ensures,
+      array-step _ _ i.2 (row_of _ _ _ c.received-r.ensures c.unwrap_or.ensures),
     )
 
 pub returns : goal.returns

@@ -1,11 +1,10 @@
-use mathlib.Core.Path.{◌≡◌, refl, ap₂, ◌∙◌}
+use mathlib.Core.Path.{◌≡◌, refl}
 use native.Mathlib.Omega.{arith}
 use lib.Dec.{ltb}
 use Rattle.words.specs.Bits.{pack}
 use Rattle.words.specs.Array.{array, replaced}
 use Rattle.words.proofs.BitLaws.{pack-step, packed_lt}
 use Rattle.words.proofs.ArrayLaws.{array-step, replaced-step}
-use Rattle.rules.specs.Hearing.{reception_of}
 use Rattle.rules.proofs.ReceptionLaws.{heard-by, rows-by, rows-aligned, kept_row, heard-of, row_of}
 use Rattle.rules.proofs.splice.read_aligned.Goals as goal
 
@@ -20,10 +19,10 @@ pub loop-j-preserved : goal.loop-j-preserved
 loop-j-preserved c =
     let l = c.loop-j in
     let a = c.args in
-    let q = c.receive-r.ensures ∙ ap₂ (λ b w. reception_of a.n b w) c.bit_at.ensures c.word_at.ensures in
-    let row = row_of a.n _ _ q c.row-row.ensures in (
+    let q = c.received-r.ensures in
+    let row = row_of a.n _ _ q c.unwrap_or-row.ensures in (
       omega arith,
-      pack-step _ _ l.invariant.1 (heard-of a.n _ _ q c.is_heard.ensures) c.with_bit-heard.ensures,
+      pack-step _ _ l.invariant.1 (heard-of a.n _ _ q c.is_ok.ensures.value) c.with_bit-heard.ensures,
       array-step _ _ l.invariant.2 row,
       replaced-step _ _ _ l.invariant.3 (kept_row (ltb l.j a.split) a.rows.now l.j _ _ l.invariant.3 row c.pick.ensures),
     )

@@ -1,6 +1,8 @@
 -- Eight free axes.
-use Rattle.scanlock.proofs.LockEventLaws.{blank-locks-made}
+use mathlib.Core.Path.{refl}
+use Rattle.scanlock.specs.Locks.{blank_locks}
 use Rattle.scanlock.proofs.Locks.blank.Goals as goal
 
 pub returns : goal.returns
-returns c = blank-locks-made c.free-one.ensures
+unfolding blank_locks
+returns c = refl

@@ -1,24 +1,11 @@
 -- Nothing but 19 stands between the event and the axis that it names.
-use mathlib.Core.Path.{sym, ◌∙◌}
+use Rattle.std.proofs.Common.{rules}
 use Rattle.scanlock.specs.Axis.{ended_of}
-use Rattle.scanlock.specs.Locks.{end_of}
-use Rattle.scanlock.proofs.LockEventLaws.{yes, no, admitted, asked-axis}
+use Rattle.scanlock.specs.Locks.{axis_at, admits, end_of}
 use Rattle.scanlock.proofs.Locks.end.Goals as goal
-
-pub at-x-requires : goal.at-x-requires
-at-x-requires c = admitted _ _ _ (sym c.admits.ensures ∙ c.if-admits.true)
-
-pub settled-requires : goal.settled-requires
-settled-requires c = admitted _ _ _ (sym c.admits.ensures ∙ c.if-admits.true)
-
-pub returns-then-admits : goal.returns-then-admits
-unfolding end_of
-returns-then-admits c =
-    let a = c.args in
-    yes _ (sym c.admits.ensures ∙ c.if-admits.true)
-    (asked-axis a.self a.axis (λ x. ended_of x a.by) c.at-x.ensures c.ended.ensures
-    c.settled.ensures)
 
 pub returns : goal.returns
 unfolding end_of
-returns c = no _ (sym c.admits.ensures ∙ c.if-admits.false) c.refused.ensures
+returns c =
+    let a = c.args in
+    c.told.ensures (admits a.self a.by a.axis) a.axis (ended_of (axis_at a.self a.axis) a.by) c.index_for.ensures.is (λ r p. search rules)

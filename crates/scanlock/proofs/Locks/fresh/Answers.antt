@@ -3,4 +3,4 @@ use Rattle.scanlock.proofs.LockEventLaws.{fresh-locks-made}
 use Rattle.scanlock.proofs.Locks.fresh.Goals as goal
 
 pub returns : goal.returns
-returns c = fresh-locks-made _ c.free-one.ensures c.full_of.ensures
+returns c = fresh-locks-made _ c.full_of.ensures

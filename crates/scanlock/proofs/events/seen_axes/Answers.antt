@@ -14,7 +14,7 @@ loop-i-init c = (omega arith, c.well_formed.0.1.0.1, refl)
 pub loop-i-preserved : goal.loop-i-preserved
 loop-i-preserved c =
     let l = c.loop-i in
-    (omega arith, l.invariant.1, updated-step _ _ _ l.invariant.2 (c.seen-y.ensures ∙ ap (lost_of _) (not-yet-seen _ _ _ l.invariant.2)))
+    (omega arith, l.invariant.1, updated-step _ _ _ l.invariant.2 (c.seen.ensures ∙ ap (lost_of _) (not-yet-seen _ _ _ l.invariant.2)))
 
 pub returns : goal.returns
 unfolding seen_axes

@@ -4,4 +4,4 @@ use Rattle.script.proofs.check.cast_ok.Goals as goal
 
 pub returns : goal.returns
 unfolding cast_ok
-returns c = rw c.power.ensures
+returns c = rw (c.is.ensures, c.power.ensures)

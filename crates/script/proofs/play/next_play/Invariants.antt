@@ -7,6 +7,3 @@ use Rattle.script.proofs.play.next_play.Given as goal
 
 abbrev pub invariant-loop-at : goal.invariant-loop-at
 invariant-loop-at l = gather l.s (l.count - l.at) l.at l.due l.events ≡ gather l.s (l.count - l.from) l.from 0 none
-
-abbrev pub decreases-loop-at : goal.decreases-loop-at
-decreases-loop-at l = l.count - l.at

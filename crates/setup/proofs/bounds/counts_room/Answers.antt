@@ -1,15 +1,13 @@
 -- P, then R: the first that is too wide is refused.
-use Rattle.std.proofs.Common.{refl, ◌∙◌, arith}
-use Rattle.words.proofs.SearchLaws.{begins-refused, begins-well, ends-well}
+use Rattle.std.proofs.Common.{◌≡◌, Err, ap, ◌∙◌, rules}
+use Rattle.words.specs.Refusal.{told}
+use Rattle.words.proofs.RefusalLaws.{first-stops, first-goes, first-last}
 use Rattle.setup.proofs.bounds.counts_room.Goals as goal
 
-pub returns-then-not-p : goal.returns-then-not-p
-returns-then-not-p c = begins-refused 4 1 _ refl (omega arith) c.if-not-p.true-raw refl c.refusal.ensures
-
-pub returns-then-not-r : goal.returns-then-not-r
-returns-then-not-r c =
-    begins-refused 4 2 _ refl (omega arith) c.if-not-r.true-raw refl c.refusal-then-not-r.ensures ∙ begins-well 4 1 _ refl c.if-not-p.false-raw
+pub returns-in_err-single : goal.returns-in_err-single
+returns-in_err-single c =
+    let q : c.from_residual.result ≡ Err c.in_err-single.field-0.0 = search rules in
+    ap told q ∙ first-stops _ _ c.single.ensures c.in_err-single.was
 
 pub returns : goal.returns
-returns c =
-    ends-well c.accept.ensures ∙ begins-well 4 2 _ refl c.if-not-r.false-raw ∙ begins-well 4 1 _ refl c.if-not-p.false-raw
+returns c = first-goes _ _ c.single.ensures c.in_ok-single.was (first-last _ c.single-2.ensures)

@@ -1,18 +1,15 @@
 -- The factor, then the limit: the first that is no double is refused.
-use Rattle.std.proofs.Common.{refl, ◌∙◌, arith}
-use Rattle.words.proofs.SearchLaws.{begins-refused, begins-well, ends-well}
+use Rattle.std.proofs.Common.{◌≡◌, Err, ap, ◌∙◌, rules}
+use Rattle.words.specs.Refusal.{told}
+use Rattle.words.proofs.RefusalLaws.{first-stops, first-goes, first-last, single-by}
 use Rattle.setup.proofs.bounds.fading_room.Goals as goal
 
-pub returns-then-not-is_double : goal.returns-then-not-is_double
-returns-then-not-is_double c = begins-refused 22 2 _ c.is_double.ensures (omega arith) c.if-not-is_double.true-raw refl c.refusal.ensures
-
-pub returns-then-not-is_double-2 : goal.returns-then-not-is_double-2
-returns-then-not-is_double-2 c =
-    begins-refused 22 4 _ c.is_double-2.ensures (omega arith) c.if-not-is_double-2.true-raw refl c.refusal-then-not-is_double-2.ensures
-    ∙ begins-well 22 2 _ c.is_double.ensures c.if-not-is_double.false-raw
+pub returns-in_err-single : goal.returns-in_err-single
+returns-in_err-single c =
+    let q : c.from_residual.result ≡ Err c.in_err-single.field-0.0 = search rules in
+    ap told q ∙ first-stops _ _ (single-by 22 2 c.is_double.ensures c.single.ensures) c.in_err-single.was
 
 pub returns : goal.returns
 returns c =
-    ends-well c.accept.ensures
-    ∙ begins-well 22 4 _ c.is_double-2.ensures c.if-not-is_double-2.false-raw
-    ∙ begins-well 22 2 _ c.is_double.ensures c.if-not-is_double.false-raw
+    first-goes _ _ (single-by 22 2 c.is_double.ensures c.single.ensures) c.in_ok-single.was
+    (first-last _ (single-by 22 4 c.is_double-2.ensures c.single-2.ensures))

@@ -1,32 +1,38 @@
 -- Numbers 1 and 2, then the length, then the words: where one refuses, its answer is the whole answer.
-use Rattle.std.proofs.Common.{ap, ◌∙◌, arith, le-leb}
-use borrow.Author.Tests.{lt-leb}
+use Rattle.std.proofs.Common.{◌≡◌, ℕ, Err, ◌≤◌, leb, leb-true, length, ap, ◌∙◌, arith, rules}
+use Rattle.words.specs.Refusal.{told}
+use Rattle.words.proofs.RefusalLaws.{told-none, told-err, told-on, then-stops, then-goes, single-by, single-right}
 use Rattle.setup.specs.Check.{check_words, check_front}
-use Rattle.setup.proofs.SetupAnswerLaws.{head-fits, head-stays, head-short, head-goes, length-by}
+use Rattle.setup.proofs.SetupAnswerLaws.{head-fits, head-stays, head-length, length-by}
 use Rattle.setup.proofs.check.check_front.Goals as goal
 
-pub returns-then-head-ne0 : goal.returns-then-head-ne0
+pub returns-in_err-check_head : goal.returns-in_err-check_head
 unfolding check_front
-returns-then-head-ne0 c = head-stays _ c.check_head-head.ensures _ _ c.if-head-ne0.true
+returns-in_err-check_head c =
+    let q : c.from_residual.result ≡ Err c.in_err-check_head.field-0.0 = search rules in
+    ap told q ∙ told-on c.in_err-check_head.was ∙ head-stays _ c.check_head.ensures _ _ (told-err c.in_err-check_head.was)
 
 pub size_at-n-requires : goal.size_at-n-requires
-size_at-n-requires c = (head-fits _ c.check_head-head.ensures c.if-head-ne0.false).room
+size_at-n-requires c = (head-fits _ c.check_head.ensures (told-none c.in_ok-check_head.was)).room
 
 pub fades_at-fades-requires : goal.fades_at-fades-requires
-fades_at-fades-requires c = (head-fits _ c.check_head-head.ensures c.if-head-ne0.false).whole
+fades_at-fades-requires c = (head-fits _ c.check_head.ensures (told-none c.in_ok-check_head.was)).whole
 
-pub returns-then-s-setup_length : goal.returns-then-s-setup_length
+pub returns-in_err-single : goal.returns-in_err-single
 unfolding check_front
-returns-then-s-setup_length c =
+returns-in_err-single c =
     let l = length-by _ c.fades_at-fades.ensures c.front_words.ensures.0 c.size_at-n.ensures c.setup_length.ensures in
-    head-short _ c.check_head-head.ensures _ c.if-head-ne0.false (lt-leb _ _ (rw l at c.if-s-setup_length.true)) c.refusal.ensures
+    let q : c.from_residual-in_err-single.result ≡ Err c.in_err-single.field-0.0 = search rules in
+    ap told q
+    ∙ then-stops _ (head-length _ c.check_head.ensures _ (told-none c.in_ok-check_head.was) (single-by 3 0 (ap (λ (k : ℕ). leb k (length c.args.s.now)) l) c.single.ensures)) c.in_err-single.was
 
 pub check_words-requires : goal.check_words-requires
 check_words-requires c =
-    let h = head-fits _ c.check_head-head.ensures c.if-head-ne0.false in
+    let h = head-fits _ c.check_head.ensures (told-none c.in_ok-check_head.was) in
     let e = c.size_at-n.ensures in
     let w = c.front_words.ensures.0 in
     let l = c.setup_length.ensures in
+    let k : c.setup_length.result ≤ length c.args.s.now = leb-true _ _ (single-right 3 0 (omega arith) c.single.ensures c.in_ok-single.was) in
     (omega (arith, h.most), omega arith, c.fades_at-fades.ensures)
 
 pub returns : goal.returns
@@ -34,4 +40,5 @@ unfolding check_front
 returns c =
     let e = c.size_at-n.ensures in
     let l = length-by _ c.fades_at-fades.ensures c.front_words.ensures.0 e c.setup_length.ensures in
-    head-goes _ c.check_head-head.ensures _ c.if-head-ne0.false (le-leb _ _ (rw l at c.if-s-setup_length.false)) (c.check_words.ensures ∙ ap (check_words _) e)
+    then-goes _ (head-length _ c.check_head.ensures _ (told-none c.in_ok-check_head.was) (single-by 3 0 (ap (λ (k : ℕ). leb k (length c.args.s.now)) l) c.single.ensures)) c.in_ok-single.was
+    (c.check_words.ensures ∙ ap (check_words _) e)

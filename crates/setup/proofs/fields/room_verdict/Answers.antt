@@ -1,36 +1,33 @@
--- Each test in its turn; the last answer is reached where all held.
-use Rattle.std.proofs.Common.{sym, refl, ◌∙◌, arith}
-use borrow.Author.Tests.{not-false}
+-- Each test in its turn.
+use Rattle.std.proofs.Common.{◌≡◌, Err, ap, ◌∙◌, arith, rules}
+use Rattle.words.specs.Refusal.{told}
 use Rattle.words.proofs.VerdictLaws.{join-stops, join_goes}
-use Rattle.words.proofs.SearchLaws.{begins-refused, begins-well, ends-well}
+use Rattle.words.proofs.RefusalLaws.{told-none, told-err, told-on, first-stops, first-goes, first-last, single-by, single-right}
 use Rattle.setup.specs.Check.{limit_room, room_verdict}
 use Rattle.setup.proofs.WordFields.{head-is}
 use Rattle.setup.proofs.fields.room_verdict.Goals as goal
 
-pub returns-then-not-head_fits : goal.returns-then-not-head_fits
+pub returns-in_err-single : goal.returns-in_err-single
 unfolding room_verdict
-returns-then-not-head_fits c = begins-refused 2 0 _ c.head_fits.ensures (omega arith) c.if-not-head_fits.true-raw refl c.refusal.ensures
+returns-in_err-single c =
+    let q : c.from_residual.result ≡ Err c.in_err-single.field-0.0 = search rules in
+    ap told q ∙ first-stops _ _ (single-by 2 0 c.head_fits.ensures c.single.ensures) c.in_err-single.was
 
-pub returns-then-v-ne0 : goal.returns-then-v-ne0
+pub returns-in_err-limits_room : goal.returns-in_err-limits_room
 unfolding room_verdict
-returns-then-v-ne0 c =
-    join-stops (limit_room c.args.setup.limits) _ _ c.limits_room-v.ensures c.if-v-ne0.true
-    ∙ begins-well 2 0 _ c.head_fits.ensures c.if-not-head_fits.false-raw
+returns-in_err-limits_room c =
+    let q : c.from_residual-in_err-limits_room.result ≡ Err c.in_err-limits_room.field-0.0 = search rules in
+    ap told q
+    ∙ first-goes _ _ (single-by 2 0 c.head_fits.ensures c.single.ensures) c.in_ok-single.was
+    (told-on c.in_err-limits_room.was ∙ join-stops (limit_room c.args.setup.limits) _ _ c.limits_room.ensures (told-err c.in_err-limits_room.was))
 
 pub roomy-requires : goal.roomy-requires
 roomy-requires c =
-    (head-is _ _ (sym c.head_fits.ensures ∙ not-false _ c.if-not-head_fits.false-raw)).most
-
-pub returns-then-not-roomy : goal.returns-then-not-roomy
-unfolding room_verdict
-returns-then-not-roomy c =
-    join_goes (limit_room c.args.setup.limits) _ _ c.limits_room-v.ensures c.if-v-ne0.false
-    (begins-refused 5 0 _ c.roomy.ensures (omega arith) c.if-not-roomy.true-raw refl c.refusal-then-not-roomy.ensures)
-    ∙ begins-well 2 0 _ c.head_fits.ensures c.if-not-head_fits.false-raw
+    (head-is _ _ (single-right 2 0 (omega arith) (single-by 2 0 c.head_fits.ensures c.single.ensures) c.in_ok-single.was)).most
 
 pub returns : goal.returns
 unfolding room_verdict
 returns c =
-    join_goes (limit_room c.args.setup.limits) _ _ c.limits_room-v.ensures c.if-v-ne0.false
-    (ends-well c.accept.ensures ∙ begins-well 5 0 _ c.roomy.ensures c.if-not-roomy.false-raw)
-    ∙ begins-well 2 0 _ c.head_fits.ensures c.if-not-head_fits.false-raw
+    first-goes _ _ (single-by 2 0 c.head_fits.ensures c.single.ensures) c.in_ok-single.was
+    (join_goes (limit_room c.args.setup.limits) _ _ c.limits_room.ensures (told-none c.in_ok-limits_room.was)
+    (first-last _ (single-by 5 0 c.roomy.ensures c.single-2.ensures)))

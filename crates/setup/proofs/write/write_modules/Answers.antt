@@ -14,23 +14,23 @@ bit_at-requires c =
     let f = room-pass _ c.requires.0 in
     omega arith
 
-pub offset_bounds-places-j : goal.offset_bounds-places-j
-offset_bounds-places-j c =
+pub offset_bounds-setup-j : goal.offset_bounds-setup-j
+offset_bounds-setup-j c =
     let f = room-pass _ c.requires.0 in
     omega arith
 
-pub bounds-places-j : goal.bounds-places-j
-bounds-places-j c =
+pub bounds-setup-j : goal.bounds-setup-j
+bounds-setup-j c =
     let f = room-pass _ c.requires.0 in
     omega arith
 
-pub offset_bounds-criticality-j : goal.offset_bounds-criticality-j
-offset_bounds-criticality-j c =
+pub offset_bounds-setup-j-in-loop-j : goal.offset_bounds-setup-j-in-loop-j
+offset_bounds-setup-j-in-loop-j c =
     let f = room-pass _ c.requires.0 in
     omega arith
 
-pub bounds-criticality-j : goal.bounds-criticality-j
-bounds-criticality-j c =
+pub bounds-setup-j-in-loop-j : goal.bounds-setup-j-in-loop-j
+bounds-setup-j-in-loop-j c =
     let f = room-pass _ c.requires.0 in
     omega arith
 

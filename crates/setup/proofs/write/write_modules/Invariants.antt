@@ -9,7 +9,7 @@ abbrev pub invariant-loop-j : goal.invariant-loop-j
 invariant-loop-j l =
     (l.j ≤ l.n)
     × (length l.out ≡ length l.initial.out)
-    × (l.out ≡ put_run l.initial.out l.front l.j (λ k. module_word k (bit l.marks k) (get_or l.places k 0) (get_or l.criticality k 0)))
+    × (l.out ≡ put_run l.initial.out l.front l.j (λ k. module_word k (bit l.fn.setup.marks k) (get_or l.fn.setup.places k 0) (get_or l.fn.setup.criticality k 0)))
 
 abbrev pub decreases-loop-j : goal.decreases-loop-j
 decreases-loop-j l = l.n - l.j

@@ -1,7 +1,7 @@
 -- The head, the limits and the module words, each at its place, are the bytes of the setup.
 use Rattle.std.proofs.Common.{ap, ◌∙◌, arith}
 use Rattle.words.specs.Word.{put_word}
-use Rattle.words.specs.declared.Verdict.{Verdict}
+use Rattle.words.specs.Verdict.{Verdict}
 use Rattle.setup.proofs.BoundLaws.{room-limits}
 use Rattle.setup.proofs.SetupWords.{room-pass, words-written}
 use Rattle.setup.proofs.write.write_words.Goals as goal

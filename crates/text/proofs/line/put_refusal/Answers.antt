@@ -1,21 +1,31 @@
--- Five texts, one after the other.
+-- Five texts, one after the other: of 8, at most 10, 4, at most 10 bytes, and 1.
+use mathlib.Core.List.{[], ◌∷◌, ◌++◌}
 use native.Mathlib.Omega.{arith}
+use lib.Chars.{codes}
+use Rattle.words.specs.Refusal.{code}
+use Rattle.text.specs.Text.{decimal}
 use Rattle.text.specs.Lines.{refused_line}
-use Rattle.text.proofs.WroteLaws.{wrote_then}
+use Rattle.text.proofs.NumberLaws.{decimal_ten}
+use Rattle.text.proofs.LineLaws.{added_then}
 use Rattle.text.proofs.line.put_refusal.Goals as goal
 
 pub returns : goal.returns
 unfolding refused_line
-returns c =
-    let a = wrote_then c.put_text-a.ensures c.put_number-b.ensures.0 in
-    let b = wrote_then c.put_text-c.ensures c.put_number-d.ensures.0 in (
-      wrote_then (wrote_then a b) c.put_byte.ensures,
+returns g c =
+    let r = c.args.refusal.now in
+    let n = code r.number in
+    let f = c.put_number.ensures.0 in
+    let a = added_then _ (codes "refused ") (decimal n) c.put_text.ensures.0 (rw c.code.ensures at f) in
+    let b = added_then _ (codes " at ") (decimal r.index) c.put_text-2.ensures.0 c.put_number-2.ensures.0 in (
+      added_then _ _ (10 ∷ []) (added_then _ (codes "refused " ++ decimal n) (codes " at " ++ decimal r.index) a b) c.put_text-3.ensures.0,
       omega (
         arith,
-        c.put_text-a.ensures.next,
-        c.put_number-b.ensures.1,
-        c.put_text-c.ensures.next,
-        c.put_number-d.ensures.1,
-        c.put_byte.ensures.next,
+        decimal_ten c.code.result (omega arith),
+        decimal_ten r.index (omega arith),
+        c.put_text.ensures.1,
+        c.put_number.ensures.1,
+        c.put_text-2.ensures.1,
+        c.put_number-2.ensures.1,
+        c.put_text-3.ensures.1,
       ),
     )

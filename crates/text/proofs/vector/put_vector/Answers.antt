@@ -1,31 +1,15 @@
-use mathlib.Core.Path.{◌≡◌, refl}
+use mathlib.Core.Path.{sym}
+use mathlib.Core.List.{append-nil}
 use native.Mathlib.Omega.{arith}
-use native.Mathlib.Nat.{add-zero}
-use native.Mathlib.Numerals.{add-one}
 use Rattle.text.specs.Text.{vector}
-use Rattle.text.proofs.WroteLaws.{wrote_none, wrote-step, wrote-length}
+use Rattle.text.proofs.NumberLaws.{vector_step}
 use Rattle.text.proofs.vector.put_vector.Goals as goal
 
 pub loop-j-init : goal.loop-j-init
 unfolding vector
-loop-j-init c = (omega arith, rw add-zero (wrote_none _ _ (omega arith)))
-
-pub bounds-out-at : goal.bounds-out-at
-bounds-out-at c =
-    let e = wrote-length c.loop-j.invariant.1 in
-    omega arith
+loop-j-init g c = (omega arith, sym (append-nil _), omega arith)
 
 pub loop-j-preserved : goal.loop-j-preserved
-unfolding vector
-loop-j-preserved c =
+loop-j-preserved g c =
     let l = c.loop-j in
-    let e = wrote-length l.invariant.1 in
-    (omega arith, wrote-step l.invariant.1 _ (omega arith) (rw (add-one, c.digit.ensures)) (omega arith))
-
-pub shape_of-out : goal.shape_of-out
-shape_of-out c = wrote-length c.loop-j.invariant.1
-
-pub returns : goal.returns
-returns c =
-    let e : c.loop-j.j ≡ c.args.n = omega arith in
-    (rw e at c.loop-j.invariant.1, refl)
+    (omega arith, vector_step _ c.args.v l.j l.invariant.1 c.digit.ensures c.push.ensures.items, omega (arith, l.invariant.2, c.push.ensures.len))

@@ -1,11 +1,11 @@
--- After j turns the first j bits are written.
-use Prim.Native.Nat.{◌+◌, ◌-◌, ◌≤◌}
+-- After j turns the first j bits are added.
+use Prim.Native.Nat.{◌+◌, ◌≤◌}
+use mathlib.Core.Path.{◌≡◌}
+use mathlib.Core.List.{◌++◌}
+use lib.ListN.{length}
 use Rattle.text.specs.Text.{vector}
-use Rattle.text.specs.Wrote.{Wrote}
 use Rattle.text.proofs.vector.put_vector.Given as goal
 
 abbrev pub invariant-loop-j : goal.invariant-loop-j
-invariant-loop-j l = (l.j ≤ l.n) × Wrote l.initial.out l.at (vector l.j l.v) l.out (l.at + l.j)
-
-abbrev pub decreases-loop-j : goal.decreases-loop-j
-decreases-loop-j l = l.n - l.j
+invariant-loop-j g l =
+    (l.j ≤ l.n) × (l.out.items ≡ l.initial.out.items ++ vector l.j l.v) × (length l.out.items ≡ length l.initial.out.items + l.j)

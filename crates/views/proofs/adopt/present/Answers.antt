@@ -1,23 +1,6 @@
-use mathlib.Core.Path.{refl}
-use native.Mathlib.Omega.{arith}
-use Rattle.words.specs.Count.{count}
-use Rattle.words.proofs.CountLaws.{count-step}
-use Rattle.views.proofs.MajorityLaws.{count-end}
+use Rattle.std.proofs.Common.{rules, tests, get_or}
+use Rattle.views.specs.Adoption.{is_there}
 use Rattle.views.proofs.adopt.present.Goals as goal
 
-pub loop-l-init : goal.loop-l-init
-unfolding count
-loop-l-init c = (omega arith, refl, omega arith)
-
-pub overflow_add-there : goal.overflow_add-there
-overflow_add-there c = omega (arith, c.loop-l.invariant.2, c.flag-there.ensures.1)
-
-pub loop-l-preserved : goal.loop-l-preserved
-loop-l-preserved c =
-    let i = c.loop-l.invariant in
-    (omega arith, count-step _ _ i.1 refl c.flag-there.ensures.0, omega (arith, i.2, c.flag-there.ensures.1))
-
 pub returns : goal.returns
-returns c =
-    let i = c.loop-l.invariant in
-    (count-end _ (omega arith) i.1, omega (arith, i.2))
+returns c = (c.senders.ensures.1 (λ l. is_there (get_or c.args.views.now l 0)) (λ l b h p. search (rules, tests)), c.senders.ensures.0)

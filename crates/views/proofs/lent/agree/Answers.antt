@@ -1,7 +1,6 @@
 -- The views are read, the view words of the read beside them and aligned, and the views after the step are written.
-use native.Mathlib.Omega.{arith}
+use Rattle.std.proofs.Common.{arith}
 use Rattle.words.proofs.ArrayLaws.{array-none}
-use Rattle.views.proofs.ViewWordLaws.{filled-by}
 use Rattle.views.proofs.ViewWords.{agreed-by}
 use Rattle.views.proofs.lent.agree.Goals as goal
 
@@ -10,16 +9,11 @@ load_view_words-requires c =
     (c.requires.0, c.requires.1, omega (arith, c.requires.2), array-none _)
 
 pub read_views-requires : goal.read_views-requires
-read_views-requires c =
-    (c.requires.0, c.requires.3, array-none _)
-
-pub align_views-requires : goal.align_views-requires
-align_views-requires c =
-    (c.requires.0, filled-by _ _ c.requires.0 c.load_view_words.ensures)
+read_views-requires c = (c.requires.0, c.requires.3, array-none _)
 
 pub returns : goal.returns
 returns c =
     let a = c.args in
-    agreed-by a.out.now a.s.now a.read.now a.n a.at a.split a.controller a.local a.latest a.to c.load_view_words.ensures
-    c.read_views.ensures c.align_views.ensures c.adoption-found.ensures.0 c.adoption-found.ensures.1 c.word_at-was.ensures c.word_at-last.ensures
-    c.pick-adopted.ensures c.save_view_words.ensures
+    agreed-by c.align_views.new.views a.out.now a.s.now a.read.now a.n a.at a.split a.controller a.local a.latest a.to c.requires.0
+    c.load_view_words.array_long c.load_view_words.ensures c.read_views.ensures c.align_views.ensures c.adopted_at.ensures.0
+    c.adopted_at.ensures.1 c.after-adopted.ensures.0 c.after-adopted.ensures.1 c.save_view_words.ensures

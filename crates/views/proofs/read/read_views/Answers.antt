@@ -1,4 +1,4 @@
-use native.Mathlib.Omega.{arith}
+use Rattle.std.proofs.Common.{arith}
 use Rattle.words.specs.Array.{array}
 use Rattle.words.proofs.ArrayLaws.{array-step, array-end}
 use Rattle.views.specs.ViewWord.{views_read}
@@ -7,13 +7,12 @@ use Rattle.views.proofs.read.read_views.Goals as goal
 
 pub loop-j-init : goal.loop-j-init
 unfolding array
-loop-j-init c = (omega arith, c.requires.2)
+loop-j-init c = c.requires.2
 
 pub loop-j-preserved : goal.loop-j-preserved
 loop-j-preserved c =
-    let e = entry-by _ c.bit_at.ensures c.word_at-w.ensures c.view_heard.ensures c.pick.ensures in
-    (omega arith, array-step _ _ c.loop-j.invariant.1 e)
+    array-step _ _ c.loop-j.invariant (entry-by _ c.bit_at.ensures c.word_at-w.ensures c.view_heard.ensures c.pick.ensures)
 
 pub returns : goal.returns
 unfolding views_read
-returns c = array-end _ (omega arith) c.loop-j.invariant.1
+returns c = array-end _ (omega arith) c.loop-j.invariant

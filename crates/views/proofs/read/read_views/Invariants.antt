@@ -1,6 +1,5 @@
--- After j turns the first j view words are read.
-use Prim.Native.Nat.{◌+◌, ◌-◌, ◌≤◌}
-use mathlib.Core.Path.{◌≡◌}
+-- The first j view words are read.
+use Rattle.std.proofs.Common.{◌≡◌, ◌+◌}
 use Rattle.words.specs.Word.{word_at}
 use Rattle.words.specs.Bits.{bit}
 use Rattle.words.specs.Array.{array}
@@ -8,8 +7,4 @@ use Rattle.views.specs.ViewWord.{view_entry}
 use Rattle.views.proofs.read.read_views.Given as goal
 
 abbrev pub invariant-loop-j : goal.invariant-loop-j
-invariant-loop-j l =
-    (l.j ≤ l.n) × (l.this ≡ array l.j (λ k. view_entry l.n (bit l.controller k) (word_at l.read (l.n + k))))
-
-abbrev pub decreases-loop-j : goal.decreases-loop-j
-decreases-loop-j l = l.n - l.j
+invariant-loop-j l = l.this ≡ array l.j (λ k. view_entry l.n (bit l.controller k) (word_at l.read (l.n + k)))
