@@ -31,8 +31,12 @@ NO_FILE = re.compile(r"my\.\w+|NNN-name\.bin|XLaws\.antt|\.\w+|(.*/)?[A-Z]+(/.*)
 # ---- what names files ----
 
 
+# They say what stood at the commits that they name.
+PAST = ("docs/PORT.md", "docs/DESIGN-PASS.md")
+
+
 def pages():
-    return ["README.md", "harness/README.md", *found("docs/**/*.md")]
+    return [page for page in ["README.md", "harness/README.md", *found("docs/**/*.md")] if page not in PAST]
 
 
 def sources():
