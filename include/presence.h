@@ -32,11 +32,11 @@
  * Nothing is kept between calls: the result of a call and the bytes it writes
  * follow from its arguments alone.  The functions use no heap, no static
  * variables and no C library calls.  With counts and with fading (see SETUP),
- * with head bit 5 and without, an accepted presence_step takes 888 bytes of
- * stack (measured, for N = 2 and 16) and a refused one 1,016,
- * presence_page_step 1,096 and 1,224, presence_page_open 520, presence_open
- * 312, presence_change 232, presence_save 184; no other call takes more than
- * 200.
+ * with head bit 5 and without, an accepted presence_step takes at most 928
+ * bytes of stack (measured, for N = 2 and 16) and a refused one 1,144,
+ * presence_page_step 1,056 and 1,224, presence_page_open 424, presence_change
+ * 328, presence_open 312, presence_save 264, presence_outgoing and
+ * presence_outgoing_view 232; no other call takes more than 56.
  *
  * Instructions of an accepted presence_step and presence_page_step (page), the
  * most that were counted (with an older kit) in quiet and loud rounds and in

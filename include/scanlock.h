@@ -29,8 +29,8 @@
  * A scan lock is its image, a block of bytes that the caller keeps.  Nothing
  * is kept between calls: the result of a call and the bytes it writes follow
  * from its arguments alone.  The functions use no heap, no static variables
- * and no C library calls.  A call takes at most 736 bytes of stack
- * (measured with an older kit).
+ * and no C library calls.  A call takes at most 568 bytes of stack
+ * (measured).
  *
  * They are re-entrant: calls may run at the same time, in interrupts too, but
  * an image that a call is writing must not be read or written, by another call
