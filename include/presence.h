@@ -39,30 +39,31 @@
  * presence_outgoing_view 232; no other call takes more than 56.
  *
  * Instructions of an accepted presence_step and presence_page_step (page), the
- * most that were counted (with an older kit) in quiet and loud rounds and in
- * rounds in which modules outside the view count or return, with every l at N
- * and with others.
- * They do not grow steadily with N: with counts 3 modules take more than 4, 5
- * to 7 more than 8, 11 more than 12, 13 to 15 more than 16; with fading 6 and 7
- * more than 8, 11 more than 12, 14 and 15 more than 16.
+ * most that were counted in quiet and loud rounds and in rounds in which
+ * modules outside the view count or return, with every l at N and with others.
+ * They do not grow steadily with N: with counts 3 modules take more than 4 and
+ * 8, 5 to 7 more than 8, 10 and 11 more than 12, 13 to 15 more than 16; with
+ * fading 6 and 7 more than 8, 14 and 15 more than 16.
  *
  * With counts:
  *
  *    N   step   page        N   step   page        N   step   page
- *    2  1,139  1,347        7  2,025  2,284       12  2,151  2,406
- *    3  1,338  1,569        8  1,523  1,750       13  2,525  2,799
- *    4  1,240  1,434        9  1,931  2,178       14  2,732  3,029
- *    5  1,617  1,830       10  2,131  2,401       15  2,931  3,251
- *    6  1,826  2,062       11  2,330  2,623       16  2,390  2,677
+ *    2  1,151  1,323        7  2,012  2,245       12  1,891  2,097
+ *    3  1,357  1,555        8  1,337  1,517       13  2,288  2,521
+ *    4  1,213  1,367        9  1,768  1,975       14  2,503  2,762
+ *    5  1,589  1,770       10  1,976  2,209       15  2,709  2,994
+ *    6  1,806  2,013       11  2,182  2,441       16  2,028  2,259
  *
  * With fading:
  *
  *    N   step   page        N   step   page        N   step   page
- *    2  1,168  1,372        7  2,333  2,589       12  2,786  3,039
- *    3  1,435  1,660        8  1,964  2,189       13  3,152  3,427
- *    4  1,455  1,647        9  2,340  2,588       14  3,402  3,698
- *    5  1,821  2,035       10  2,566  2,835       15  3,662  3,979
- *    6  2,073  2,308       11  2,833  3,123       16  3,254  3,539
+ *    2  1,103  1,276        7  2,258  2,492       12  2,786  2,993
+ *    3  1,357  1,556        8  1,937  2,118       13  3,132  3,366
+ *    4  1,427  1,582        9  2,291  2,499       14  3,368  3,628
+ *    5  1,773  1,955       10  2,501  2,735       15  3,615  3,901
+ *    6  2,011  2,219       11  2,755  3,015       16  3,256  3,488
+ *
+ * The figures of the next two paragraphs were counted with an older kit.
  *
  * With counts and a change of limits pending (see NEW LIMITS WITHOUT A STOP),
  * at N = 2, 4, 8 and 16: a step takes 1,251, 1,416, 1,771 and 2,804, with a
