@@ -63,11 +63,12 @@ impl Run {
         put_lines(out, n, b.round, b.kept, b.health, view);
     }
 
-    // Plays 64 rounds, or as many as are left, and adds their lines to the output. (64 times 832 bytes is 53,248.)
+    // Plays 64 rounds, or as many as are left, and puts their lines in the place of what the output held. (64 times 832 bytes is 53,248.)
     pub fn fill<const N: usize>(self, s: &[u8], out: &mut ArrayVec<u8, N>) -> Run
-        requires { Sound self.backplane × (array_vec_len out.old + 53248 ≤ N) }
-        ensures { (result ≡ later s.now self 64) × (out.new.items ≡ out.old.items ++ next_lines s.now self 64) }
+        requires { Sound self.backplane × (53248 ≤ N) }
+        ensures { (result ≡ later s.now self 64) × (out.new.items ≡ next_lines s.now self 64) }
     {
+        out.clear();
         let mut run = self;
         for _ in 0..64u32 {
             run = run.next(s);

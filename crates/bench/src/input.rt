@@ -11,7 +11,7 @@ use crate::written::Written;
 
 // Room for what is read, and how many bytes of it were read: two fields, since a read fills lent bytes and answers how many, and the contract of `read`
 // promises something of both.
-#[derive(Drop)]
+#[derive(Clone, Copy)]
 pub struct Input {
     bytes: [u8; 65537],
     got: usize,

@@ -28,7 +28,6 @@ fn write_rounds(run: Run, script: &[u8]) -> Written
     let mut now = run;
     let mut written = Written::nothing();
     while !now.over() {
-        out.clear();
         now = now.fill(script, &mut out);
         written = written.with_part(script, &out);
     }
@@ -41,7 +40,7 @@ fn write_refusal(script: &[u8], refusal: &Refusal) -> Written
     ensures { result.parts ≡ parts_of script.now }
 {
     let mut out: ArrayVec<u8, 33> = ArrayVec::new();
-    put_refusal(&mut out, refusal);
+    put_refusal(&mut out, refusal.number.code(), refusal.index);
     Written::nothing().with_part(script, &out)
 }
 

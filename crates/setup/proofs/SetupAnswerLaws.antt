@@ -5,6 +5,7 @@ use Rattle.words.specs.Verdict.{accepted, is_accepted, single, and_then, outcome
 use Rattle.words.specs.Verdict.{Verdict}
 use Rattle.words.proofs.Truth.{cond-true, cond-false}
 use Rattle.words.proofs.VerdictLaws.{and-then-next, and-then-assoc, and-then-stops, and-then-goes, single-ok, tests-join}
+use Rattle.words.proofs.SearchLaws.{two-after}
 use Rattle.words.specs.Refusal.{refusal_told, told}
 use Rattle.words.specs.declared.Refusal.{Refusal}
 use Rattle.words.proofs.RefusalLaws.{told-ok, told-none, told-err, told-on, then-stops, then-goes, first-stops, first-goes, first-last}
@@ -52,6 +53,15 @@ module _ {fading : Bool} {front : ℕ} (s : List ℕ) (form : fading ≡ fades_i
 
   modules-by : {v : Verdict} (n number : ℕ) → v ≡ outcome (module_tests (word_at s) front n number) → v ≡ outcome (module_tests (word_at s) (front_in (word_at s)) n number)
   modules-by n number h = h ∙ ap (λ (k : ℕ). outcome (module_tests (word_at s) k n number)) (at ∙ ap front_words form)
+
+  -- the answers one after the other, each given the one before it
+  pub words-by : {v₀ v₁ v₂ : Verdict} (n : ℕ) → v₀ ≡ first_refusal (limit_tests fading (word_at s))
+      → v₁ ≡ and_then v₀ (outcome (module_tests (word_at s) front n 5)) → v₂ ≡ and_then v₁ (outcome (module_tests (word_at s) front n 6)) → v₂ ≡ check_words s n
+  unfolding check_words
+  words-by {v₀} {v₁} n a b c =
+      let f : front ≡ front_in (word_at s) = at ∙ ap front_words form in
+      two-after (limit_tests (fades_in (word_at s)) (word_at s)) _ _ (limits-by a)
+      (b ∙ ap (λ (k : ℕ). and_then v₀ (outcome (module_tests (word_at s) k n 5))) f) (c ∙ ap (λ (k : ℕ). and_then v₁ (outcome (module_tests (word_at s) k n 6))) f)
 
   words-split : (n : ℕ)
       → check_words s n

@@ -1,7 +1,6 @@
 // The lines of a round, and the line of a refusal.
 ghost use Rattle.std.specs.Prelude.{◌≡◌, ◌∷◌, ◌++◌, ◌+◌, ◌*◌, ◌≤◌, ◌<◌, length, get_or};
 ghost use Rattle.arrayvec.specs.ArrayVec.{array_vec_len};
-ghost use Rattle.words.specs.Refusal.{code};
 ghost use Rattle.text.specs.Text.{decimal, vector};
 ghost use Rattle.text.specs.Lines.{limit_text, line_with, lines_of, refused_line};
 
@@ -10,7 +9,6 @@ use crate::number::put_number;
 use crate::vector::put_vector;
 use arrayvec::ArrayVec;
 use itoa::Buffer;
-use words::Refusal;
 
 // Adds a space and the number of module i + 1.
 fn put_module<const N: usize>(out: &mut ArrayVec<u8, N>, i: usize)
@@ -86,14 +84,14 @@ pub fn put_lines<const N: usize>(
 
 // Adds the line of a refusal.
 #[tactic(auto, using(crate::proofs::NumberLaws::decimal_ten))]
-pub fn put_refusal<const N: usize>(out: &mut ArrayVec<u8, N>, refusal: &Refusal)
+pub fn put_refusal<const N: usize>(out: &mut ArrayVec<u8, N>, number: u32, index: u32)
     requires { array_vec_len out.old + 33 ≤ N }
-    ensures { (out.new.items ≡ out.old.items ++ refused_line (code refusal.now.number) refusal.now.index)
+    ensures { (out.new.items ≡ out.old.items ++ refused_line number index)
         × (array_vec_len out.new ≤ array_vec_len out.old + 33) }
 {
     put_text(out, b"refused ");
-    put_number(out, refusal.number.code());
+    put_number(out, number);
     put_text(out, b" at ");
-    put_number(out, refusal.index);
+    put_number(out, index);
     put_text(out, b"\n");
 }

@@ -1,5 +1,5 @@
 -- The line of the refusal is all of the text.
-use mathlib.Core.Path.{◌≡◌, sym, ap, ◌∙◌}
+use mathlib.Core.Path.{◌≡◌, sym, ap, ap₂, ◌∙◌}
 use mathlib.Core.Bool.{false}
 use mathlib.Core.List.{List, ◌++◌}
 use Prim.Native.Nat.{ℕ, ◌+◌}
@@ -28,7 +28,8 @@ with_part-requires c =
     let h = c.requires in
     let z = c.nothing.ensures.0 in
     let line = λ (v : Verdict). refused_line v.number v.index in
-    let w = c.deref.ensures.0 ∙ c.put_refusal.ensures.0 ∙ ap (λ (x : List ℕ). x ++ line (refusal_told c.args.refusal.now)) c.new-out.ensures in (
+    let said = ap₂ (λ (x : List ℕ) (k : ℕ). x ++ refused_line k c.args.refusal.now.index) c.new-out.ensures c.code.ensures in
+    let w = c.deref.ensures.0 ∙ c.put_refusal.ensures.0 ∙ said in (
       omega (arith, z),
       w ∙ ap line h ∙ sym (ap (part_of s) z ∙ part-refused _ (refuses s _ h)),
     )

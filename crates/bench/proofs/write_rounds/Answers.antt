@@ -2,15 +2,13 @@ use Rattle.std.proofs.Common.{rules}
 use Prim.Native.Nat.{ℕ, ◌*◌, ◌≤◌, ◌<◌}
 use mathlib.Core.Path.{◌≡◌, sym, ap, ◌∙◌, subst}
 use mathlib.Core.Bool.{Bool, true, false}
-use mathlib.Core.List.{List, ◌++◌}
+use mathlib.Core.List.{List}
 use native.Mathlib.Omega.{arith}
-use lib.ListN.{length}
 use borrow.Author.Tests.{ltb-true, ltb-false}
 use Rattle.script.specs.Check.{check_script}
 use Rattle.script.specs.Rounds.{rounds_of}
 use Rattle.backplane.specs.Play.{Sound}
 use Rattle.backplane.specs.Run.{later, run_at}
-use Rattle.backplane.specs.Output.{next_lines}
 use Rattle.backplane.specs.declared.Run.{Run}
 use Rattle.backplane.proofs.OutputLaws.{over-is, part-wrote, part-next, parts-end, run_sound, rounds-most}
 use Rattle.bench.proofs.write_rounds.Goals as goal
@@ -32,9 +30,7 @@ loop-out-init c =
     (c.requires.1 ∙ ap (λ (k : ℕ). run_at c.args.script.now (k * 64)) (sym z), omega (arith, z))
 
 pub fill-now-requires : goal.fill-now-requires
-fill-now-requires c =
-    let n = ap length c.clear.ensures in
-    (search rules, (sound-at _ c.requires.0 _ c.loop-out.invariant.0, omega (arith, n)))
+fill-now-requires c = (search rules, (sound-at _ c.requires.0 _ c.loop-out.invariant.0, omega arith))
 
 pub with_part-written-requires : goal.with_part-written-requires
 with_part-written-requires c =
@@ -42,7 +38,7 @@ with_part-written-requires c =
     let s = c.args.script.now in
     let e = c.requires.0 in
     let h = playing s e (l.written.parts * 64) l.invariant.0 c.over.ensures c.loop-out-test.true in
-    let w = c.deref.ensures.0 ∙ c.fill-now.ensures.1 ∙ ap (λ (x : List ℕ). x ++ next_lines s l.now 64) c.clear.ensures in
+    let w = c.deref.ensures.0 ∙ c.fill-now.ensures.1 in
     (omega (arith, h, rounds-most s e), part-wrote _ e l.written.parts l.invariant.0 w)
 
 pub loop-out-smaller : goal.loop-out-smaller

@@ -1,7 +1,8 @@
 use Rattle.std.proofs.Common.{rules}
 use Prim.Native.Nat.{ℕ, ◌+◌}
+use lib.ListN.{length}
 use mathlib.Core.Path.{◌≡◌, refl, sym, ap, ◌∙◌, subst}
-use mathlib.Core.List.{List, append-nil}
+use mathlib.Core.List.{List, []}
 use native.Mathlib.Omega.{arith}
 use Rattle.backplane.specs.Play.{Sound}
 use Rattle.backplane.specs.Run.{next_of, later}
@@ -19,7 +20,7 @@ turn s r₀ m e f = f ∙ ap (next_of s) e ∙ later_more s r₀ m
 
 pub loop-init : goal.loop-init
 unfolding later next_lines
-loop-init g c = (refl, omega arith, sym (append-nil _), omega arith)
+loop-init g c = (refl, omega arith, c.clear.ensures, omega (arith, ap length c.clear.ensures))
 
 pub next-run-requires : goal.next-run-requires
 next-run-requires g c =
@@ -37,7 +38,7 @@ loop-preserved g c =
     let l = c.loop in
     let q = turn _ _ _ l.invariant.0 c.next-run.ensures in
     let p = c.put_round.ensures in
-    (q, omega arith, added-more _ _ _ _ q l.invariant.2 p.0, omega (arith, p.1, l.invariant.3))
+    (q, omega arith, added-more [] _ _ _ q l.invariant.2 p.0, omega (arith, p.1, l.invariant.3))
 
 pub returns : goal.returns
 returns g c =

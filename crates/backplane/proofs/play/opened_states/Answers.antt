@@ -1,4 +1,4 @@
-use Rattle.std.proofs.Common.{◌≡◌, ap, ◌∙◌, arith, replicate}
+use Rattle.std.proofs.Common.{◌≡◌, ap, arith, replicate}
 use Rattle.words.specs.Table.{updated}
 use Rattle.words.proofs.TableLaws.{updated-step}
 use Rattle.presence.specs.declared.State.{State}

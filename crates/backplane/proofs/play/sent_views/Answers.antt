@@ -1,5 +1,5 @@
 -- Entry j is made of the state of module j + 1, which is there.
-use Rattle.std.proofs.Common.{◌≡◌, ℕ, ◌%◌, ◌^◌, ap, arith, rules, tests}
+use Rattle.std.proofs.Common.{◌≡◌, ◌%◌, ◌^◌, ap, arith, rules, tests}
 use lib.ListN.{get_or}
 use Rattle.words.proofs.TableLaws.{get_or-there}
 use Rattle.views.specs.ViewWord.{view_word}

@@ -1,5 +1,5 @@
 -- After i turns the modules below i have made their steps, and the others are as they were.
-use Rattle.std.proofs.Common.{◌≡◌, ◌≤◌}
+use Rattle.std.proofs.Common.{◌≡◌}
 use Rattle.words.specs.Array.{array}
 use Rattle.words.specs.Table.{updated}
 use Rattle.backplane.specs.Play.{state_at, step_in}

@@ -1,7 +1,7 @@
 -- The read is written into a buffer of its own, and the module makes its step on it.
 use Prim.Native.Nat.{◌*◌, ℕ}
 use mathlib.Core.Path.{refl, sym, ap, ap₂, ◌∙◌}
-use mathlib.Core.List.{List, ◌++◌}
+use mathlib.Core.List.{◌++◌}
 use native.Mathlib.Omega.{arith}
 use lib.ListN.{replicate, drop}
 use lib.Seq.{length-take-le}
