@@ -31,12 +31,21 @@ NO_FILE = re.compile(r"my\.\w+|NNN-name\.bin|XLaws\.antt|\.\w+|(.*/)?[A-Z]+(/.*)
 # ---- what names files ----
 
 
-# They say what stood at the commits that they name.
-PAST = ("docs/PORT.md", "docs/DESIGN-PASS.md")
+# It has what stood before it beside what stands now.
+PAST = ("docs/DESIGN-PASS.md",)
 
 
 def pages():
     return [page for page in ["README.md", "harness/README.md", *found("docs/**/*.md")] if page not in PAST]
+
+
+# What the table of docs/PORT.md names, of the day of the port, and what is gone since.
+GONE = {
+    "docs/PORT.md": (
+        "rules/proofs/Reception/cause/Answers.antt", "views/proofs/adopt/common_word/Answers.antt", "image/proofs/check/wrong_half/Answers.antt",
+        "calls/proofs/calls/presence_open/Answers.antt", "bus/proofs/arrivals/bits_to/Answers.antt", "bench/proofs/written/Written/with_part/Answers.antt",
+        "scanlock/proofs/events/is_axis/Answers.antt", "scanlock/proofs/Locks/admits/Answers.antt"),
+}
 
 
 def sources():
@@ -155,8 +164,12 @@ class References(unittest.TestCase):
     def test_every_file_that_is_named_is_there(self):
         looked_at = list(references())
         self.assertGreater(len(looked_at), 150)
-        missing = [f"{reference.file}:{reference.line}: {reference.path}" for reference, at in looked_at if at is None]
+        missing = [f"{reference.file}:{reference.line}: {reference.path}" for reference, at in looked_at if at is None and reference.path not in GONE.get(reference.file, ())]
         self.assertEqual(missing, [], "\nnamed, but not there:\n" + "\n".join(missing))
+
+    def test_what_is_said_to_be_gone_is_named_and_gone(self):
+        nowhere = {(reference.file, reference.path) for reference, at in references() if at is None}
+        self.assertEqual({(file, path) for file, paths in GONE.items() for path in paths} - nowhere, set())
 
     def test_where_it_looks(self):
         cases = [("README.md", "tools/runscript", [], "tools/runscript"),

@@ -36,27 +36,36 @@ def sources(crate):
     return {name[:-3]: text(folder, name) for name in sorted(os.listdir(folder)) if name.endswith(".rt")}
 
 
-Function = namedtuple("Function", "struct name public exported requires first last")
+# `trait` is the name that the prover gives an impl of a trait
+Function = namedtuple("Function", "struct trait name public exported requires first last")
+
+
+def impl_name(trait, struct):
+    """How the prover names an impl of a trait: the type, then the trait with its arguments, each with a capital and () as Unit, as in AnswerFromResultU32Refusal."""
+    return struct + "".join("Unit" if word == "()" else word[0].upper() + word[1:] for word in re.findall(r"\w+|\(\)", trait))
 
 
 def functions(source):
     """Each function of a file, in turn; `requires` says whether it has a precondition, `first` and `last` are its lines."""
-    lines, struct, found = source.splitlines(), None, []
+    lines, struct, trait, found = source.splitlines(), None, None, []
     for number, line in enumerate(lines):
-        opened = re.match(r"impl (\w+)", line)
-        struct = opened[1] if opened else None if line.startswith("}") else struct
+        opened = re.match(r"impl(?:<.*?>)? (?:(\S.*) for )?(\w+)", line)
+        if opened:
+            struct, trait = opened[2], impl_name(opened[1], opened[2]) if opened[1] else None
+        elif line.startswith("}"):
+            struct = trait = None
         head = re.match(r'(\s*)(pub )?(?:pub\(crate\) )?(extern "C" )?fn (\w+)', line)
         if head:
             last = next(k for k in range(number, len(lines)) if lines[k] == head[1] + "}")
             body = next((k for k in range(number, last) if lines[k].rstrip().endswith("{")), last)
             requires = any(re.match(r"\s*requires\b", lines[k]) for k in range(number, body + 1))
-            found.append(Function(struct, head[4], bool(head[2]), bool(head[3]), requires, number, last))
+            found.append(Function(struct, trait, head[4], bool(head[2]), bool(head[3]), requires, number, last))
     return found
 
 
 def reachable(crate):
     """The functions that can be called from outside their crate, by name: C's calls, public ones of the crate's first file, of public files or
-    passed on by `pub use`, and public ones of public structs."""
+    passed on by `pub use`, and public ones of public structs; those of a trait's impl are as public as its struct."""
     files = sources(crate)
     open_files = ["lib", *re.findall(r"^pub mod (\w+)", files["lib"], re.M)]
     passed_on = [tuple(path.split("::")) for path in imports(files["lib"], "pub use ") if path.count("::") == 1]
@@ -64,7 +73,9 @@ def reachable(crate):
     for module, source in files.items():
         for f in functions(source):
             open_here = f.struct in open_structs if f.struct else module in open_files or (module, f.name) in passed_on
-            if f.exported or f.public and open_here:
+            if f.trait and open_here:
+                yield name_of(crate, module, f), f
+            elif f.exported or f.public and open_here:
                 yield f"{f.struct or module}::{f.name}".removeprefix("lib::"), f
 
 
@@ -111,7 +122,7 @@ def function_at(crate, file, old):
         return None
     source = text(CRATES, crate, file)
     at = source[: source.index(old)].count("\n")
-    return next((name_of(crate, file[4:-3], f.struct, f.name) for f in functions(source) if f.first <= at <= f.last), None)
+    return next((name_of(crate, file[4:-3], f) for f in functions(source) if f.first <= at <= f.last), None)
 
 
 def slips(crate, content):
@@ -122,14 +133,14 @@ def slips(crate, content):
         yield inside, slip.law
 
 
-def name_of(crate, module, struct, name):
+def name_of(crate, module, f):
     """How the prover names a function: one of the crate's first file by its name alone; a struct belongs to the file that declares it, which for
-    most is the crate's first."""
-    if not struct:
-        return name if module in ("lib", "main") else f"{module}::{name}"
-    declared = re.search(rf"^(pub )?(struct|enum) {struct}\b", text(CRATES, crate, "src", module + ".rt"), re.M)
+    most is the crate's first, and a trait's impl to the file in which it stands."""
+    if not f.struct:
+        return f.name if module in ("lib", "main") else f"{module}::{f.name}"
+    declared = f.trait or re.search(rf"^(pub )?(struct|enum) {f.struct}\b", text(CRATES, crate, "src", module + ".rt"), re.M)
     inside = declared and module not in ("lib", "main")
-    return f"{module}::{struct}::{name}" if inside else f"{struct}::{name}"
+    return f"{module}::{f.trait or f.struct}::{f.name}" if inside else f"{f.trait or f.struct}::{f.name}"
 
 
 def laws(crate):
@@ -150,7 +161,7 @@ class WrongPrograms(unittest.TestCase):
 
     def rows(self, page, title):
         part = page[page.index(title + "\n") + len(title):].split("\n## ")[0]
-        found = re.findall(r"^\| (\w+) \| (\w+(?:::\w+)?) \| (\w+), (\w+) \|$", part, re.M)
+        found = re.findall(r"^\| (\w+) \| (\w+(?:::\w+){0,2}) \| (\w+), (\w+) \|$", part, re.M)
         return {(crate, name): {first, second} for crate, name, first, second in found}
 
     def tried(self, crate, edit):
@@ -224,11 +235,17 @@ class WrongPrograms(unittest.TestCase):
             for law in filter(None, (law for _, law in slips(crate, content))):
                 with self.subTest(f"{crate} {edit} {law}"):
                     if "::" in law:
-                        self.assertIn(law, [name_of(crate, module, f.struct, f.name) for module, source in sources(crate).items() for f in functions(source)])
+                        self.assertIn(law, [name_of(crate, module, f) for module, source in sources(crate).items() for f in functions(source)])
                     else:
                         file, _, name = law.rpartition(".")
                         there = [one for one in laws(crate).get(name, []) if file in ("", one)]
                         self.assertEqual(len(there), 1, "no such law, or one in each of several files")
+
+    def test_no_two_functions_of_a_crate_have_the_same_name(self):
+        for crate in sorted(os.listdir(CRATES)):
+            with self.subTest(crate):
+                found = Counter(name_of(crate, module, f) for module, source in sources(crate).items() for f in functions(source))
+                self.assertEqual([name for name, times in found.items() if times > 1], [], "a slip in one would be taken for a slip in the other")
 
     def test_no_two_slips_of_an_edit_are_for_the_same_function_or_law(self):
         for crate, edit, content in every_edit():
