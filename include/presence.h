@@ -63,19 +63,17 @@
  *    5  1,773  1,955       10  2,501  2,735       15  3,615  3,901
  *    6  2,011  2,219       11  2,755  3,015       16  3,256  3,488
  *
- * The figures of the next two paragraphs were counted with an older kit.
- *
  * With counts and a change of limits pending (see NEW LIMITS WITHOUT A STOP),
- * at N = 2, 4, 8 and 16: a step takes 1,251, 1,416, 1,771 and 2,804, with a
- * page 1,462, 1,615, 2,000 and 3,093; the step that applies the change 1,316,
- * 1,464, 1,880 and 3,005, with a page 1,583, 1,756, 2,203 and 3,448.
+ * at N = 2, 4, 8 and 16: a step takes 1,263, 1,392, 1,584 and 2,441, with a
+ * page 1,435, 1,546, 1,764 and 2,672; the step that applies the change 1,321,
+ * 1,409, 1,638 and 2,546, with a page 1,558, 1,668, 1,893 and 2,895.
  *
  * With head bit 5 (see STANDS WITH A TORN CABLE), at N = 2, 4, 8 and 16, where
  * more than half of all view words are the same: with counts a step takes
- * 1,461, 1,617, 1,834 and 2,870, with fading 1,485, 1,832, 2,275 and 3,734.
- * Where no two are the same, which takes most: with counts 1,505, 1,819, 2,151
- * and 3,677, with a page 1,727, 2,028, 2,390 and 3,976; with fading 1,530,
- * 2,034, 2,592 and 4,541, with a page 1,748, 2,241, 2,829 and 4,838.
+ * 1,484, 1,591, 1,601 and 2,405, with fading 1,433, 1,798, 2,189 and 3,609.
+ * Where no two are the same, which takes most: with counts 1,534, 1,808, 1,950
+ * and 3,252, with a page 1,716, 1,972, 2,140 and 3,493; with fading 1,482,
+ * 2,014, 2,534 and 4,448, with a page 1,665, 2,179, 2,725 and 4,690.
  *
  *
  * CALLS AT THE SAME TIME
