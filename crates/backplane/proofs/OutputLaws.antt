@@ -1,6 +1,6 @@
 -- The parts in which the bench writes make up the whole, a part is over when the script is, and the bench reads enough.
 use Prim.Native.Nat.{ℕ, zero, suc, ◌+◌, ◌-◌, ◌*◌, ◌/◌, ◌≤◌, ◌<◌}
-use mathlib.Core.Path.{◌≡◌, refl, sym, ap, ap₂, ◌∙◌}
+use mathlib.Core.Path.{◌≡◌, refl, sym, ap, ap₂, ◌∙◌, subst}
 use mathlib.Core.Bool.{true, false}
 use mathlib.Core.Logic.{⊎_elim}
 use mathlib.Core.List.{List, [], ◌++◌, append-nil, append_assoc}
@@ -19,7 +19,8 @@ use Rattle.script.specs.Rounds.{rounds_of}
 use Rattle.script.specs.declared.Cursor.{Cursor}
 use Rattle.script.proofs.CastLaws.{plays-all}
 use Rattle.text.specs.Lines.{refused_line}
-use Rattle.text.proofs.LineLaws.{added_then}
+use Rattle.text.specs.Wrote.{Wrote}
+use Rattle.text.proofs.WroteLaws.{wrote_none, wrote-front, wrote_then}
 use Rattle.backplane.specs.Play.{Sound}
 use Rattle.backplane.specs.Run.{begun, next_of, later, run_at, printed}
 use Rattle.backplane.specs.Output.{lines_to, output_of, round_lines, next_lines, part_of, parts_of, parts_to, PartsWhole, read_most, ReadEnough}
@@ -52,20 +53,20 @@ pub later_more : (s : List ℕ) (r : Run) (m : ℕ) → next_of s (later s r m) 
 unfolding later
 later_more s r m = ap (later s r) (sym (add-one m))
 
--- ---- the lines of a round, behind those before it
+-- ---- the lines of a round, written after those before it
 
-pub added-over : (o : List ℕ) (r : Run) → r.cursor.over ≡ true → o ≡ o ++ round_lines r
+pub wrote-over : {o : List ℕ} {p : ℕ} (r : Run) → p ≤ length o → r.cursor.over ≡ true → Wrote o p (round_lines r) o p
 unfolding round_lines
-added-over o r t = sym (ap (λ (x : List ℕ). o ++ x) (cond-true [] (printed r.backplane) t) ∙ append-nil o)
+wrote-over {o} {p} r h t = subst (λ (x : List ℕ). Wrote o p x o p) (sym (cond-true [] (printed r.backplane) t)) (wrote_none o p h)
 
-pub added-round : (o : List ℕ) {b : List ℕ} (r : Run) → r.cursor.over ≡ false → b ≡ o ++ printed r.backplane → b ≡ o ++ round_lines r
+pub wrote-round : {o b : List ℕ} {p q : ℕ} (r : Run) → r.cursor.over ≡ false → Wrote o p (printed r.backplane) b q → Wrote o p (round_lines r) b q
 unfolding round_lines
-added-round o r f e = e ∙ ap (λ (x : List ℕ). o ++ x) (sym (cond-false [] (printed r.backplane) f))
+wrote-round {o} {b} {p} {q} r f = subst (λ (x : List ℕ). Wrote o p x b q) (sym (cond-false [] (printed r.backplane) f))
 
-pub added-more : (o : List ℕ) {a b : List ℕ} (s : List ℕ) (r : Run) (m : ℕ) {r' : Run} → r' ≡ later s r (m + 1)
-    → a ≡ o ++ next_lines s r m → b ≡ a ++ round_lines r' → b ≡ o ++ next_lines s r (m + 1)
-added-more o s r m {r'} e w v =
-    added_then o _ _ w v ∙ ap (λ (x : List ℕ). o ++ x) (ap (λ (x : Run). next_lines s r m ++ round_lines x) e ∙ sym (lines_more s r m))
+pub wrote-more : {o a b : List ℕ} {p q : ℕ} (s : List ℕ) (r : Run) (m : ℕ) {r' : Run} → r' ≡ later s r (m + 1)
+    → Wrote o 0 (next_lines s r m) a p → Wrote a p (round_lines r') b q → Wrote o 0 (next_lines s r (m + 1)) b q
+wrote-more {o} {a} {b} {p} {q} s r m {r'} e w v =
+    subst (λ (x : List ℕ). Wrote o 0 x b q) (ap (λ (x : Run). next_lines s r m ++ round_lines x) e ∙ sym (lines_more s r m)) (wrote_then w v)
 
 -- ---- the parts
 
@@ -139,8 +140,8 @@ module _ (s : List ℕ) (e : (check_script s).number ≡ 0) where
   parts-end k l m = let q : k ≡ rounds / 64 + 1 = omega arith in q ∙ sym parts_are
 
   -- what a turn writes, and the run after it
-  pub part-wrote : (k : ℕ) {b : List ℕ} {r : Run} → r ≡ run_at s (k * 64) → b ≡ next_lines s r 64 → b ≡ part_of s k
-  part-wrote k f w = w ∙ ap (λ (x : Run). next_lines s x 64) f ∙ sym (part-is k)
+  pub part-wrote : (k : ℕ) {o b : List ℕ} {q : ℕ} {r : Run} → r ≡ run_at s (k * 64) → Wrote o 0 (next_lines s r 64) b q → take q b ≡ part_of s k
+  part-wrote k f w = wrote-front w ∙ ap (λ (x : Run). next_lines s x 64) f ∙ sym (part-is k)
 
   pub part-next : (k : ℕ) {r r' : Run} → r ≡ run_at s (k * 64) → r' ≡ later s r 64 → r' ≡ run_at s ((k + 1) * 64)
   part-next k f g =

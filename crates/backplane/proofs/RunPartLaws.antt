@@ -1,6 +1,6 @@
 -- A run put together from its cursor and its backplane, and its lines.
 use Prim.Native.Nat.{ℕ, ◌≤◌}
-use mathlib.Core.Path.{◌≡◌, refl, sym, ap, ap₂, ◌∙◌}
+use mathlib.Core.Path.{◌≡◌, refl, sym, ap, ap₂, ◌∙◌, subst}
 use mathlib.Core.Bool.{true, false, cond}
 use Rattle.std.proofs.Common.{Result, Ok, Err}
 use mathlib.Core.List.{List}
@@ -18,6 +18,7 @@ use Rattle.script.specs.Check.{check_script}
 use Rattle.script.specs.Cursor.{advanced}
 use Rattle.script.specs.declared.Cursor.{Cursor}
 use Rattle.text.specs.Lines.{lines_of}
+use Rattle.text.specs.Wrote.{Wrote}
 use Rattle.text.proofs.LineLaws.{lines-ext}
 use Rattle.backplane.specs.Play.{state_at, played}
 use Rattle.backplane.specs.Run.{Started, begun, idle, start_of, start_told, goes_on, next_of, printed}
@@ -102,3 +103,10 @@ unfolding printed
 printed-as b h e =
     lines-ext b.setup.n b.round b.kept _ _ _ b.setup.n
     (λ i hi. ap (λ (x : List ℕ). get_or x i 0) e ∙ array_at b.setup.n _ i hi h)
+
+-- the same of lines that were written at a place
+pub wrote-printed : {old new : List ℕ} {at r : ℕ} (b : Backplane) {view : List ℕ} → b.setup.n ≤ 16
+    → view ≡ array b.setup.n (λ i. shown_view (state_at b.states i))
+    → Wrote old at (lines_of b.setup.n b.round b.kept (λ i. get_or b.health i 0) (λ i. get_or view i 0) b.setup.n) new r
+    → Wrote old at (printed b) new r
+wrote-printed {old} {new} {at} {r} b h e = subst (λ (t : List ℕ). Wrote old at t new r) (printed-as b h e)

@@ -33,3 +33,10 @@ pub struct Run {
     cursor: Cursor,
     backplane: Backplane,
 }
+
+// The run after the rounds whose lines were written, and the place after the lines.
+#[derive(Clone, Copy)]
+pub struct Filled {
+    pub run: Run,
+    pub end: usize,
+}

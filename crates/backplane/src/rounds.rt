@@ -1,14 +1,13 @@
-// A run script, played round by round, with the lines of many rounds put into one text to be written at once.
-ghost use Rattle.std.specs.Prelude.{◌≡◌, ◌+◌, ◌≤◌, ◌<◌, ◌++◌};
-ghost use Rattle.arrayvec.specs.ArrayVec.{array_vec_len};
+// A run script, played round by round, with the lines of many rounds put into a buffer to be written at once.
+ghost use Rattle.std.specs.Prelude.{◌≡◌, ◌+◌, ◌≤◌, ◌<◌, length};
 ghost use Rattle.words.specs.Array.{array};
 ghost use Rattle.presence.specs.Shown.{shown_view};
+ghost use Rattle.text.specs.Wrote.{Wrote};
 ghost use Rattle.backplane.specs.Play.{state_at, Sound};
 ghost use Rattle.backplane.specs.Run.{next_of, later, printed};
 ghost use Rattle.backplane.specs.Output.{round_lines, next_lines};
 
-use crate::Run;
-use arrayvec::ArrayVec;
+use crate::{Filled, Run};
 use presence::State;
 use script::MOST_ROUNDS;
 use text::line::put_lines;
@@ -22,14 +21,15 @@ fn views(n: usize, states: &[State; 16]) -> [u32; 16]
     from_fn(n, |i| states[i].shown())
 }
 
-// Adds the lines of the round that a run has come to, if the script is not over.
-fn put_round<const N: usize>(run: Run, out: &mut ArrayVec<u8, N>)
-    requires { (run.backplane.setup.n ≤ 16) × (array_vec_len out.old + 832 ≤ N) }
-    ensures { (out.new.items ≡ out.old.items ++ round_lines run) × (array_vec_len out.new ≤ array_vec_len out.old + 832) }
+// Writes the lines of the round that a run has come to, if the script is not over.
+fn put_round(run: Run, out: &mut [u8], at: usize) -> usize
+    requires { (run.backplane.setup.n ≤ 16) × (at + 832 ≤ length out.old) }
+    ensures { Wrote out.old at (round_lines run) out.new result × (result ≤ at + 832) }
 {
-    if !run.over() {
-        run.put_lines(out);
+    if run.over() {
+        return at;
     }
+    run.put_lines(out, at)
 }
 
 impl Run {
@@ -52,28 +52,29 @@ impl Run {
         Run { cursor, backplane }
     }
 
-    // Adds the lines of the round.
-    fn put_lines<const N: usize>(self, out: &mut ArrayVec<u8, N>)
-        requires { (self.backplane.setup.n ≤ 16) × (array_vec_len out.old + 832 ≤ N) }
-        ensures { (out.new.items ≡ out.old.items ++ printed self.backplane) × (array_vec_len out.new ≤ array_vec_len out.old + 832) }
+    // Writes the lines of the round at a place of the output, and answers the place after them.
+    fn put_lines(self, out: &mut [u8], at: usize) -> usize
+        requires { (self.backplane.setup.n ≤ 16) × (at + 832 ≤ length out.old) }
+        ensures { Wrote out.old at (printed self.backplane) out.new result × (result ≤ at + 832) }
     {
         let b = self.backplane;
         let n = b.setup.n;
         let view = views(n, &b.states);
-        put_lines(out, n, b.round, b.kept, b.health, view);
+        put_lines(out, at, n, b.round, b.kept, b.health, view)
     }
 
-    // Plays 64 rounds, or as many as are left, and puts their lines in the place of what the output held. (64 times 832 bytes is 53,248.)
-    pub fn fill<const N: usize>(self, s: &[u8], out: &mut ArrayVec<u8, N>) -> Run
-        requires { Sound self.backplane × (53248 ≤ N) }
-        ensures { (result ≡ later s.now self 64) × (out.new.items ≡ next_lines s.now self 64) }
+    // Plays 64 rounds, or as many as are left, and writes their lines to the front of the output. (64 times 832 bytes is 53,248.)
+    pub fn fill(self, s: &[u8], out: &mut [u8]) -> Filled
+        requires { Sound self.backplane × (53248 ≤ length out.old) }
+        ensures { (result.run ≡ later s.now self 64)
+            × Wrote out.old 0 (next_lines s.now self 64) out.new result.end }
     {
-        out.clear();
         let mut run = self;
+        let mut at = 0;
         for _ in 0..64u32 {
             run = run.next(s);
-            put_round(run, out);
+            at = put_round(run, out, at);
         }
-        run
+        Filled { run, end: at }
     }
 }

@@ -12,7 +12,6 @@ ghost use Rattle.script.specs.Check.{check_script};
 ghost use Rattle.backplane.specs.Run.{begun};
 ghost use Rattle.backplane.specs.Output.{parts_of};
 
-use arrayvec::ArrayVec;
 use backplane::Run;
 use input::Input;
 use text::line::put_refusal;
@@ -24,12 +23,13 @@ fn write_rounds(run: Run, script: &[u8]) -> Written
     requires { ((check_script script.now).number ≡ 0) × (run ≡ begun script.now) }
     ensures { result.parts ≡ parts_of script.now }
 {
-    let mut out: ArrayVec<u8, 53248> = ArrayVec::new();
+    let mut out = [0u8; 53248];
     let mut now = run;
     let mut written = Written::nothing();
     while !now.over() {
-        now = now.fill(script, &mut out);
-        written = written.with_part(script, &out);
+        let filled = now.fill(script, &mut out);
+        written = written.with_part(script, &out[..filled.end]);
+        now = filled.run;
     }
     written
 }
@@ -39,9 +39,9 @@ fn write_refusal(script: &[u8], refusal: &Refusal) -> Written
     requires { refusal_told refusal.now ≡ check_script script.now }
     ensures { result.parts ≡ parts_of script.now }
 {
-    let mut out: ArrayVec<u8, 33> = ArrayVec::new();
-    put_refusal(&mut out, refusal.number.code(), refusal.index);
-    Written::nothing().with_part(script, &out)
+    let mut out = [0u8; 33];
+    let end = put_refusal(&mut out, 0, refusal.number.code(), refusal.index);
+    Written::nothing().with_part(script, &out[..end])
 }
 
 // Plays the script, or says by what number and at which word it is refused.

@@ -3,9 +3,11 @@ ghost use Rattle.std.specs.Prelude.{◌≡◌, ◌∷◌, ◌++◌, ◌+◌, ◌
 ghost use Rattle.arrayvec.specs.ArrayVec.{array_vec_len};
 ghost use Rattle.text.specs.Text.{decimal, vector};
 ghost use Rattle.text.specs.Lines.{limit_text, line_with, lines_of, refused_line};
+ghost use Rattle.text.specs.Wrote.{Wrote};
 
 use crate::byte::put_text;
 use crate::number::put_number;
+use crate::place::write_at;
 use crate::vector::put_vector;
 use arrayvec::ArrayVec;
 use itoa::Buffer;
@@ -63,7 +65,7 @@ fn put_line<const N: usize>(
 }
 
 // Adds the lines of all modules of a round; its number is the same text in each.
-pub fn put_lines<const N: usize>(
+fn add_lines<const N: usize>(
     out: &mut ArrayVec<u8, N>,
     n: usize,
     round: u32,
@@ -82,9 +84,28 @@ pub fn put_lines<const N: usize>(
     }
 }
 
+// Writes the lines of all modules of a round at a place of lent bytes, and answers the place after them.
+pub fn put_lines(
+    out: &mut [u8],
+    at: usize,
+    n: usize,
+    round: u32,
+    kept: bool,
+    health: [u32; 16],
+    view: [u32; 16],
+) -> usize
+    requires { (n ≤ 16) × (at + n * 52 ≤ length out.old) }
+    ensures { Wrote out.old at (lines_of n round kept (λ i. get_or health i 0) (λ i. get_or view i 0) n) out.new result
+        × (result ≤ at + n * 52) }
+{
+    let mut lines: ArrayVec<u8, 832> = ArrayVec::new();
+    add_lines(&mut lines, n, round, kept, health, view);
+    write_at(out, at, &lines)
+}
+
 // Adds the line of a refusal.
 #[tactic(auto, using(crate::proofs::NumberLaws::decimal_ten))]
-pub fn put_refusal<const N: usize>(out: &mut ArrayVec<u8, N>, number: u32, index: u32)
+fn add_refusal<const N: usize>(out: &mut ArrayVec<u8, N>, number: u32, index: u32)
     requires { array_vec_len out.old + 33 ≤ N }
     ensures { (out.new.items ≡ out.old.items ++ refused_line number index)
         × (array_vec_len out.new ≤ array_vec_len out.old + 33) }
@@ -94,4 +115,14 @@ pub fn put_refusal<const N: usize>(out: &mut ArrayVec<u8, N>, number: u32, index
     put_text(out, b" at ");
     put_number(out, index);
     put_text(out, b"\n");
+}
+
+// Writes the line of a refusal at a place of lent bytes, and answers the place after it.
+pub fn put_refusal(out: &mut [u8], at: usize, number: u32, index: u32) -> usize
+    requires { at + 33 ≤ length out.old }
+    ensures { Wrote out.old at (refused_line number index) out.new result × (result ≤ at + 33) }
+{
+    let mut line: ArrayVec<u8, 33> = ArrayVec::new();
+    add_refusal(&mut line, number, index);
+    write_at(out, at, &line)
 }

@@ -1,7 +1,7 @@
--- The line of the refusal is all of the text.
-use mathlib.Core.Path.{◌≡◌, sym, ap, ap₂, ◌∙◌}
+-- The line of the refusal stands at the front of the buffer.
+use mathlib.Core.Path.{◌≡◌, sym, ap, ◌∙◌}
 use mathlib.Core.Bool.{false}
-use mathlib.Core.List.{List, ◌++◌}
+use mathlib.Core.List.{List}
 use Prim.Native.Nat.{ℕ, ◌+◌}
 use native.Mathlib.Omega.{arith}
 use borrow.Author.Tests.{ne_eqb}
@@ -10,6 +10,7 @@ use Rattle.words.specs.Refusal.{code, refusal_told}
 use Rattle.words.specs.declared.Refusal.{Refusal}
 use Rattle.words.proofs.RefusalLaws.{code-positive}
 use Rattle.text.specs.Lines.{refused_line}
+use Rattle.text.proofs.WroteLaws.{wrote-front}
 use Rattle.script.specs.Check.{check_script}
 use Rattle.backplane.specs.Output.{part_of}
 use Rattle.backplane.proofs.OutputLaws.{part-refused, parts-one}
@@ -28,10 +29,9 @@ with_part-requires c =
     let h = c.requires in
     let z = c.nothing.ensures.0 in
     let line = λ (v : Verdict). refused_line v.number v.index in
-    let said = ap₂ (λ (x : List ℕ) (k : ℕ). x ++ refused_line k c.args.refusal.now.index) c.new-out.ensures c.code.ensures in
-    let w = c.deref.ensures.0 ∙ c.put_refusal.ensures.0 ∙ said in (
+    let said = ap (λ (k : ℕ). refused_line k c.args.refusal.now.index) c.code.ensures in (
       omega (arith, z),
-      w ∙ ap line h ∙ sym (ap (part_of s) z ∙ part-refused _ (refuses s _ h)),
+      wrote-front c.put_refusal-end.ensures.0 ∙ said ∙ ap line h ∙ sym (ap (part_of s) z ∙ part-refused _ (refuses s _ h)),
     )
 
 pub returns : goal.returns

@@ -1,6 +1,5 @@
-use Rattle.std.proofs.Common.{rules}
 use Prim.Native.Nat.{ℕ, ◌*◌, ◌≤◌, ◌<◌}
-use mathlib.Core.Path.{◌≡◌, sym, ap, ◌∙◌, subst}
+use mathlib.Core.Path.{◌≡◌, refl, sym, ap, ◌∙◌, subst}
 use mathlib.Core.Bool.{Bool, true, false}
 use mathlib.Core.List.{List}
 use native.Mathlib.Omega.{arith}
@@ -11,6 +10,7 @@ use Rattle.backplane.specs.Play.{Sound}
 use Rattle.backplane.specs.Run.{later, run_at}
 use Rattle.backplane.specs.declared.Run.{Run}
 use Rattle.backplane.proofs.OutputLaws.{over-is, part-wrote, part-next, parts-end, run_sound, rounds-most}
+use Rattle.text.proofs.WroteLaws.{wrote-length}
 use Rattle.bench.proofs.write_rounds.Goals as goal
 
 sound-at : (s : List ℕ) (e : (check_script s).number ≡ 0) (k : ℕ) {r : Run} → r ≡ run_at s k → Sound r.backplane
@@ -27,10 +27,12 @@ pub loop-out-init : goal.loop-out-init
 unfolding later
 loop-out-init c =
     let z = c.nothing-written.ensures.0 in
-    (c.requires.1 ∙ ap (λ (k : ℕ). run_at c.args.script.now (k * 64)) (sym z), omega (arith, z))
+    (c.requires.1 ∙ ap (λ (k : ℕ). run_at c.args.script.now (k * 64)) (sym z), omega (arith, z), refl)
 
-pub fill-now-requires : goal.fill-now-requires
-fill-now-requires c = (search rules, (sound-at _ c.requires.0 _ c.loop-out.invariant.0, omega arith))
+pub fill-filled-requires : goal.fill-filled-requires
+fill-filled-requires c =
+    let l = c.loop-out in
+    (sound-at _ c.requires.0 _ l.invariant.0, omega (arith, l.invariant.2))
 
 pub with_part-written-requires : goal.with_part-written-requires
 with_part-written-requires c =
@@ -38,8 +40,7 @@ with_part-written-requires c =
     let s = c.args.script.now in
     let e = c.requires.0 in
     let h = playing s e (l.written.parts * 64) l.invariant.0 c.over.ensures c.loop-out-test.true in
-    let w = c.deref.ensures.0 ∙ c.fill-now.ensures.1 in
-    (omega (arith, h, rounds-most s e), part-wrote _ e l.written.parts l.invariant.0 w)
+    (omega (arith, h, rounds-most s e), part-wrote _ e l.written.parts l.invariant.0 c.fill-filled.ensures.1)
 
 pub loop-out-smaller : goal.loop-out-smaller
 loop-out-smaller c =
@@ -54,8 +55,8 @@ loop-out-preserved c =
     let e = c.requires.0 in
     let k = c.with_part-written.ensures.0 in
     let h = playing s e (l.written.parts * 64) l.invariant.0 c.over.ensures c.loop-out-test.true in
-    let r = part-next _ e l.written.parts l.invariant.0 c.fill-now.ensures.0 in
-    (r ∙ ap (λ (x : ℕ). run_at s (x * 64)) (sym k), omega (arith, h, k))
+    let r = part-next _ e l.written.parts l.invariant.0 c.fill-filled.ensures.0 in
+    (r ∙ ap (λ (x : ℕ). run_at s (x * 64)) (sym k), omega (arith, h, k), wrote-length c.fill-filled.ensures.1 ∙ l.invariant.2)
 
 pub returns : goal.returns
 returns c =

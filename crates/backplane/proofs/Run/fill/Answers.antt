@@ -1,14 +1,13 @@
-use Rattle.std.proofs.Common.{rules}
 use Prim.Native.Nat.{ℕ, ◌+◌}
-use lib.ListN.{length}
 use mathlib.Core.Path.{◌≡◌, refl, sym, ap, ◌∙◌, subst}
-use mathlib.Core.List.{List, []}
+use mathlib.Core.List.{List}
 use native.Mathlib.Omega.{arith}
+use Rattle.text.proofs.WroteLaws.{wrote_none, wrote-length}
 use Rattle.backplane.specs.Play.{Sound}
 use Rattle.backplane.specs.Run.{next_of, later}
 use Rattle.backplane.specs.Output.{next_lines}
 use Rattle.backplane.specs.declared.Run.{Run}
-use Rattle.backplane.proofs.OutputLaws.{later-sound, later_more, added-more}
+use Rattle.backplane.proofs.OutputLaws.{later-sound, later_more, wrote-more}
 use Rattle.backplane.proofs.Run.fill.Goals as goal
 
 -- the states are within the limits after every turn
@@ -20,28 +19,28 @@ turn s r₀ m e f = f ∙ ap (next_of s) e ∙ later_more s r₀ m
 
 pub loop-init : goal.loop-init
 unfolding later next_lines
-loop-init g c = (refl, omega arith, c.clear.ensures, omega (arith, ap length c.clear.ensures))
+loop-init c = (refl, omega arith, omega arith, wrote_none _ _ (omega arith))
 
 pub next-run-requires : goal.next-run-requires
-next-run-requires g c =
+next-run-requires c =
     let l = c.loop in
     sound-at _ _ _ l.invariant.0 c.requires.0
 
-pub put_round-requires : goal.put_round-requires
-put_round-requires g c =
+pub put_round-at-requires : goal.put_round-at-requires
+put_round-at-requires c =
     let l = c.loop in
     let q = turn _ _ _ l.invariant.0 c.next-run.ensures in
-    (search rules, ((sound-at _ _ _ q c.requires.0).few, omega (arith, l.invariant.3, c.requires.1)))
+    ((sound-at _ _ _ q c.requires.0).few, omega (arith, wrote-length l.invariant.3))
 
 pub loop-preserved : goal.loop-preserved
-loop-preserved g c =
+loop-preserved c =
     let l = c.loop in
     let q = turn _ _ _ l.invariant.0 c.next-run.ensures in
-    let p = c.put_round.ensures in
-    (q, omega arith, added-more [] _ _ _ q l.invariant.2 p.0, omega (arith, p.1, l.invariant.3))
+    let p = c.put_round-at.ensures in
+    (q, omega arith, omega (arith, p.1), wrote-more _ _ _ q l.invariant.3 p.0)
 
 pub returns : goal.returns
-returns g c =
+returns c =
     let l = c.loop in
     let e : l.counter ≡ 64 = omega arith in
-    (rw e at l.invariant.0, rw e at l.invariant.2)
+    (rw e at l.invariant.0, rw e at l.invariant.3)

@@ -6,7 +6,7 @@ use Rattle.text.specs.Text.{decimal}
 use Rattle.text.specs.Lines.{refused_line}
 use Rattle.text.proofs.NumberLaws.{decimal_ten}
 use Rattle.text.proofs.LineLaws.{added_then}
-use Rattle.text.proofs.line.put_refusal.Goals as goal
+use Rattle.text.proofs.line.add_refusal.Goals as goal
 
 pub returns : goal.returns
 unfolding refused_line

@@ -5,7 +5,7 @@ use lib.ListN.{get_or}
 use Rattle.text.specs.Lines.{lines_of}
 use Rattle.text.proofs.NumberLaws.{decimal-printed}
 use Rattle.text.proofs.LineLaws.{lines_step}
-use Rattle.text.proofs.line.put_lines.Goals as goal
+use Rattle.text.proofs.line.add_lines.Goals as goal
 
 pub loop-i-init : goal.loop-i-init
 unfolding lines_of

@@ -4,7 +4,7 @@ use mathlib.Core.Path.{◌≡◌}
 use mathlib.Core.List.{◌++◌}
 use lib.ListN.{get_or, length}
 use Rattle.text.specs.Lines.{lines_of}
-use Rattle.text.proofs.line.put_lines.Given as goal
+use Rattle.text.proofs.line.add_lines.Given as goal
 
 abbrev pub invariant-loop-i : goal.invariant-loop-i
 invariant-loop-i g l =
