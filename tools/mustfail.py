@@ -82,7 +82,7 @@ def function_refused(log, name):
     besides. One whose goals the prover closes alone has no such file, or none for that goal; if it is wrong, the list says which goal `search` did
     not prove. Where it did not try, since it waits for the proof of what is called, the list says `no proof: it calls ..` alone."""
     said = listed(log).get(name, "proved")
-    if said == "proved":
+    if said.startswith("proved"):  # a closure is `proved where its callers give what it asks`
         return False
     if "did not prove" in said or "it calls `" not in said:
         return True

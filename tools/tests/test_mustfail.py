@@ -30,6 +30,7 @@ LOG = """\
 ./proofs/alone/Proof.antt:14:13: error: `returns`: `search`: no proof of `Post` was found
 note: src/part.rt:23:1: it is not proved that what the function ensures holds when it returns (`returns`)
 fn some::part::right: proved
+fn some::part::fn::low::each+Fn::call: proved where its callers give what it asks
 fn some::part::low: not proved
 fn some::part::high: not proved; it calls `some::part::low`, which is not proved
 fn some::Card::both: not proved; it calls `some::part::low`, which is not proved
@@ -83,6 +84,7 @@ class Functions(unittest.TestCase):
 
     def test_one_that_is_proved_or_not_there_is_not(self):
         self.assertFalse(self.refused("part::right"))
+        self.assertFalse(self.refused("part::fn::low::each+Fn::call"))
         self.assertFalse(self.refused("part::nothing"))
 
     def test_an_error_of_another_function_does_not_count(self):

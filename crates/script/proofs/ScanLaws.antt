@@ -1,6 +1,7 @@
 -- One word of the scan after another: refused, or taken and the scan goes on behind it.
 use Rattle.std.proofs.Common.{◌≡◌, refl, ap, ap₂, ◌∙◌, sym, Bool, true, false, cond, not, ◌&&◌, ◌||◌, ⊎_elim, Result, Ok, Err, List, length, ℕ, suc, ◌+◌, ◌-◌, ◌/◌, ◌≤◌, ◌<◌, arith, eqb, leb, ltb, eqb-true, eq-eqb, leb-true}
 use Rattle.std.proofs.lemmas.Bool.{eqb-false, lt-leb}
+use borrow.Author.Tests.{not-false}
 use Rattle.words.specs.Word.{word_at}
 use Rattle.words.specs.Bits.{bit}
 use Rattle.words.specs.Verdict.{Verdict, verdict, between, single, and_then, outcome}
@@ -61,6 +62,15 @@ module _ {loss lie ok : Bool} (n cast w : ℕ) (l : loss ≡ eqb (kind_of w) 7) 
     pub event-right : loss || inside ≡ true → 0 ≡ event_refusal n cast w
     unfolding event_refusal
     event-right g = sym (cond-true _ 12 (sym same_test ∙ f) ∙ cond-true 0 13 (sym same_sender ∙ g))
+
+-- both in one answer r
+module _ {ok : Bool} (n cast w : ℕ) (e : ok ≡ event_ok n w) where
+  pub event-answer : {sender r : ℕ} {inside : Bool} → not (between 7 8 (kind_of w) && ok) ≡ false → sender ≡ sender_in w → inside ≡ bit cast (sender - 1)
+      → r ≡ cond (eqb (kind_of w) 7 || inside) 0 13 → r ≡ event_refusal n cast w
+  unfolding event_refusal
+  event-answer f h i q =
+      q ∙ ap (λ (b : Bool). cond (eqb (kind_of w) 7 || b) 0 13) (i ∙ ap (λ (x : ℕ). bit cast (x - 1)) h)
+      ∙ sym (cond-true _ 12 (sym (ap (λ (b : Bool). between 7 8 (kind_of w) && b) e) ∙ not-false _ f))
 
 -- ---- the rounds so far
 
